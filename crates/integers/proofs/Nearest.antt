@@ -1,0 +1,19 @@
+-- Rounding. Assumes nothing.
+use mathlib.Core.Path.{_≡_}
+use Prim.Native.Nat.{ℕ, suc, _+_, _*_, _/_, _%_, _≤_, _<_}
+use native.Mathlib.Omega.{arith, by-contra}
+use native.Mathlib.Nat.{div-add-mod', mod-lt, mul-le-mul-left, le-antisymm}
+use Rattle.integers.specs.Nearest.{nearest, Nearest}
+
+pub nearest-is : (n d : ℕ) → 0 < d → Nearest n d (nearest n d)
+nearest-is n d h =
+    let e : nearest n d * (2 * d) + (2 * n + d) % (2 * d) ≡ 2 * n + d = div-add-mod' (2 * n + d) (2 * d) in
+    let l : (2 * n + d) % (2 * d) < 2 * d = mod-lt (2 * n + d) (omega arith) in
+    record { above = omega arith; below = omega arith }
+
+-- one number is nearest
+nearest-le : (n d q r : ℕ) → Nearest n d q → Nearest n d r → q ≤ r
+nearest-le n d q r a b = by-contra q r (λ k. let t : d * suc r ≤ d * q = mul-le-mul-left d k in omega (arith, a .above, b .below))
+
+pub nearest-only : (n d q : ℕ) → 0 < d → Nearest n d q → nearest n d ≡ q
+nearest-only n d q h a = le-antisymm (nearest-le n d _ q (nearest-is n d h) a) (nearest-le n d q _ a (nearest-is n d h))

@@ -1,0 +1,69 @@
+-- Sums over a range. Assumes nothing.
+use mathlib.Core.Path.{_≡_, refl, sym, ap, ap₂, _∙_}
+use Prim.Native.Nat.{ℕ, zero, suc, _+_, _*_, _≤_, _<_}
+use native.Mathlib.Decide.{decLt}
+use native.Mathlib.Omega.{arith}
+use lib.IntN.{ℤ, pos, negℤ, natAbs, _+ℤ_, _*ℤ_}
+use Rattle.integers.specs.Sum.{sumℕ, sumℤ}
+use Rattle.integers.proofs.Linear.{split, toℕ, abs-add}
+
+-- ---- of natural numbers
+pub sumℕ-same : (n : ℕ) (f g : ℕ → ℕ) → ((k : ℕ) → k < n → f k ≡ g k) → sumℕ n f ≡ sumℕ n g
+sumℕ-same zero f g h = refl
+sumℕ-same (suc n) f g h = ap₂ _+_ (sumℕ-same n f g (λ k l. h k (omega arith))) (h n (omega arith))
+
+pub sumℕ-add : (n : ℕ) (f g : ℕ → ℕ) → sumℕ n (λ k. f k + g k) ≡ sumℕ n f + sumℕ n g
+sumℕ-add zero f g = refl
+sumℕ-add (suc n) f g = rw (sumℕ-add n f g) (omega arith)
+
+pub sumℕ-first : (n : ℕ) (f : ℕ → ℕ) → sumℕ (suc n) f ≡ f 0 + sumℕ n (λ k. f (suc k))
+sumℕ-first zero f = omega arith
+sumℕ-first (suc n) f = rw (sumℕ-first n f) (omega arith)
+
+pub sumℕ-zero : (n : ℕ) (f : ℕ → ℕ) → ((k : ℕ) → k < n → f k ≡ 0) → sumℕ n f ≡ 0
+sumℕ-zero zero f h = refl
+sumℕ-zero (suc n) f h = rw (sumℕ-zero n f (λ k l. h k (omega arith)), h n (omega arith))
+
+-- a term, and each beginning, is at most the whole
+pub sumℕ-begin : (n m : ℕ) (f : ℕ → ℕ) → m ≤ n → sumℕ m f ≤ sumℕ n f
+sumℕ-begin zero zero f h = omega arith
+sumℕ-begin zero (suc m) f h = absurd (omega arith)
+sumℕ-begin (suc n) m f h = by (sumℕ-begin n m f) (decLt n m)
+  where
+    by : (m ≤ n → sumℕ m f ≤ sumℕ n f) → Dec (n < m) → sumℕ m f ≤ sumℕ (suc n) f
+    by ih (yes l) = let e : m ≡ suc n = omega arith in rw e (omega arith)
+    by ih (no l) = omega (arith, ih (omega arith))
+
+pub sumℕ-term : (n k : ℕ) (f : ℕ → ℕ) → k < n → f k ≤ sumℕ n f
+sumℕ-term n k f h = omega (arith, sumℕ-begin n (suc k) f h)
+
+pub sumℕ-bound : (n u : ℕ) (f : ℕ → ℕ) → ((k : ℕ) → k < n → f k ≤ u) → sumℕ n f ≤ n * u
+sumℕ-bound zero u f h = omega arith
+sumℕ-bound (suc n) u f h = omega (arith, sumℕ-bound n u f (λ k l. h k (omega arith)), h n (omega arith))
+
+-- ---- of integers
+pub sumℤ-same : (n : ℕ) (f g : ℕ → ℤ) → ((k : ℕ) → k < n → f k ≡ g k) → sumℤ n f ≡ sumℤ n g
+sumℤ-same zero f g h = refl
+sumℤ-same (suc n) f g h = ap₂ _+ℤ_ (sumℤ-same n f g (λ k l. h k (omega arith))) (h n (omega arith))
+
+pub sumℤ-neg : (n : ℕ) (f : ℕ → ℤ) → sumℤ n (λ k. negℤ (f k)) ≡ negℤ (sumℤ n f)
+sumℤ-neg zero f = refl
+sumℤ-neg (suc n) f = rw (sumℤ-neg n f, split (sumℤ n f), split (f n)) (simp toℕ (omega arith))
+
+pub sumℤ-add : (n : ℕ) (f g : ℕ → ℤ) → sumℤ n (λ k. f k +ℤ g k) ≡ sumℤ n f +ℤ sumℤ n g
+sumℤ-add zero f g = refl
+sumℤ-add (suc n) f g = rw (sumℤ-add n f g, split (sumℤ n f), split (sumℤ n g), split (f n), split (g n)) (simp toℕ (omega arith))
+
+pub sumℤ-scale : (n : ℕ) (c : ℤ) (f : ℕ → ℤ) → sumℤ n (λ k. c *ℤ f k) ≡ c *ℤ sumℤ n f
+sumℤ-scale zero c f = rw (split c) (simp toℕ (omega arith))
+sumℤ-scale (suc n) c f = rw (sumℤ-scale n c f, split (sumℤ n f), split (f n), split c) (simp toℕ (omega arith))
+
+pub sumℤ-pos : (n : ℕ) (f : ℕ → ℕ) → sumℤ n (λ k. pos (f k)) ≡ pos (sumℕ n f)
+sumℤ-pos zero f = refl
+sumℤ-pos (suc n) f = rw (sumℤ-pos n f)
+
+-- term by term, within a bound of its own
+pub sumℤ-bound : (n : ℕ) (f : ℕ → ℤ) (u : ℕ → ℕ) → ((k : ℕ) → k < n → natAbs (f k) ≤ u k) → natAbs (sumℤ n f) ≤ sumℕ n u
+sumℤ-bound zero f u h = omega arith
+sumℤ-bound (suc n) f u h =
+    omega (arith, abs-add (sumℤ n f) (f n), sumℤ-bound n f u (λ k l. h k (omega arith)), h n (omega arith))

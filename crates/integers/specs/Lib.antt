@@ -1,0 +1,3 @@
+pub mod Parts
+pub mod Sum
+pub mod Nearest

@@ -1,0 +1,1 @@
+// Arithmetic of whole numbers: definitions in specs/, laws in proofs/. No functions.

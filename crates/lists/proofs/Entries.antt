@@ -1,0 +1,73 @@
+-- Tests of a list's entries, and the first index that passes. Assumes nothing.
+use mathlib.Core.Path.{_≡_, refl, sym, ap, subst}
+use mathlib.Core.Bool.{Bool, true, false, cond, _&&_}
+use mathlib.Core.List.{List, [], _∷_}
+use Prim.Native.Nat.{ℕ, zero, suc, _≤_, _<_}
+use native.Mathlib.Omega.{arith}
+use lib.Dec.{T}
+use lib.ListN.{length, getD, drop}
+use lib.Seq.{drop-cons}
+use Rattle.lists.specs.Entries.{every, first}
+
+-- ---- every
+module _ {A : Type 0} (f : A → Bool) where
+  pub every-next : (l : List A) (i : ℕ) (d : A) → i < length l → f (getD l i d) ≡ true → every f (drop i l) ≡ every f (drop (suc i) l)
+  every-next l i d h e = rw (drop-cons l i d h, e)
+
+  pub every-stop : (l : List A) (i : ℕ) (d : A) → i < length l → f (getD l i d) ≡ false → every f (drop i l) ≡ false
+  every-stop l i d h e = rw (drop-cons l i d h, e)
+
+  pub every-end : (l : List A) (i : ℕ) → length l ≤ i → every f (drop i l) ≡ true
+  every-end [] zero h = refl
+  every-end [] (suc i) h = refl
+  every-end (x ∷ l) zero h = absurd (omega arith)
+  every-end (x ∷ l) (suc i) h = every-end l i (omega arith)
+
+  -- what passed holds of each entry
+  pub every-at : (l : List A) (i : ℕ) (d : A) → every f l ≡ true → i < length l → f (getD l i d) ≡ true
+  every-at [] i d e h = absurd (omega arith)
+  every-at (x ∷ l) i d e h = by (f x) refl e i h (every-at l)
+    where
+      by : (t : Bool) → f x ≡ t → (t && every f l) ≡ true → (i : ℕ) → i < suc (length l) → ((i : ℕ) (d : A) → every f l ≡ true → i < length l → f (getD l i d) ≡ true)
+          → f (getD (x ∷ l) i d) ≡ true
+      by true p e zero h ih = p
+      by true p e (suc i) h ih = ih i d e (omega arith)
+      by false p e i h ih = absurd (subst T (sym e) tt)
+
+-- ---- first
+pub first-at : (n : ℕ) (f : ℕ → Bool) (i : ℕ) → i < n → ((j : ℕ) → j < i → f j ≡ false) → f i ≡ true → first n f ≡ i
+first-at zero f i l h e = absurd (omega arith)
+first-at (suc n) f zero l h e = rw e
+first-at (suc n) f (suc i) l h e = rw (h 0 (omega arith)) (ap suc (first-at n (λ i. f (suc i)) i (omega arith) (λ j k. h (suc j) (omega arith)) e))
+
+pub first-none : (n : ℕ) (f : ℕ → Bool) → ((j : ℕ) → j < n → f j ≡ false) → first n f ≡ n
+first-none zero f h = refl
+first-none (suc n) f h = rw (h 0 (omega arith)) (ap suc (first-none n (λ i. f (suc i)) (λ j k. h (suc j) (omega arith))))
+
+pub first-same : (n : ℕ) (f g : ℕ → Bool) → ((i : ℕ) → i < n → f i ≡ g i) → first n f ≡ first n g
+first-same zero f g h = refl
+first-same (suc n) f g h = rw (h 0 (omega arith), first-same n (λ i. f (suc i)) (λ i. g (suc i)) (λ i l. h (suc i) (omega arith)))
+
+-- before the first index none passes
+pub first-before : (n : ℕ) (f : ℕ → Bool) (i : ℕ) → i < first n f → f i ≡ false
+first-before zero f i h = absurd (omega arith)
+first-before (suc n) f zero h = by (f 0) h
+  where
+    by : (t : Bool) → 0 < cond t 0 (suc (first n (λ i. f (suc i)))) → t ≡ false
+    by true h = absurd (omega arith)
+    by false h = refl
+first-before (suc n) f (suc i) h = first-before n (λ i. f (suc i)) i (by (f 0) h)
+  where
+    by : (t : Bool) → suc i < cond t 0 (suc (first n (λ i. f (suc i)))) → i < first n (λ i. f (suc i))
+    by true h = absurd (omega arith)
+    by false h = omega arith
+
+-- the first index, where there is one, passes
+pub first-passes : (n : ℕ) (f : ℕ → Bool) → first n f < n → f (first n f) ≡ true
+first-passes zero f h = absurd (omega arith)
+first-passes (suc n) f h = by (f 0) refl h (first-passes n (λ i. f (suc i)))
+  where
+    by : (t : Bool) → f 0 ≡ t → cond t 0 (suc (first n (λ i. f (suc i)))) < suc n → (first n (λ i. f (suc i)) < n → f (suc (first n (λ i. f (suc i)))) ≡ true)
+        → f (cond t 0 (suc (first n (λ i. f (suc i))))) ≡ true
+    by true e h r = e
+    by false e h r = r (omega arith)

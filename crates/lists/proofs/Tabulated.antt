@@ -1,0 +1,83 @@
+-- Lists given by their entries. Assumes nothing.
+use mathlib.Core.Path.{_≡_, refl, sym, ap, ap₂, _∙_}
+use mathlib.Core.Logic.{_≢_}
+use mathlib.Core.List.{List, [], _∷_, _++_}
+use Prim.Native.Nat.{ℕ, zero, suc, _+_, _-_, _≤_, _<_}
+use native.Mathlib.Omega.{arith}
+use lib.ListN.{length, getD, drop, set, length-append, length-drop, drop-of-length-le, List·getD-append, List·getD-eq-default}
+use lib.Seq.{drop-at, set-append-left, getD-append-add, getD-drop}
+use Rattle.lists.specs.Tabulated.{tab, over, written}
+
+module _ {ℓ} {A : Type ℓ} where
+  -- ---- tab
+  pub length-tab : (n : ℕ) (f : ℕ → A) → length (tab n f) ≡ n
+  length-tab zero f = refl
+  length-tab (suc n) f = ap suc (length-tab n (λ k. f (suc k)))
+
+  pub getD-tab : (n : ℕ) (f : ℕ → A) (i : ℕ) (d : A) → i < n → getD (tab n f) i d ≡ f i
+  getD-tab zero f i d h = absurd (omega arith)
+  getD-tab (suc n) f zero d h = refl
+  getD-tab (suc n) f (suc i) d h = getD-tab n (λ k. f (suc k)) i d (omega arith)
+
+  pub tab-same : (n : ℕ) (f g : ℕ → A) → ((i : ℕ) → i < n → f i ≡ g i) → tab n f ≡ tab n g
+  tab-same zero f g h = refl
+  tab-same (suc n) f g h = ap₂ _∷_ (h 0 (omega arith)) (tab-same n (λ k. f (suc k)) (λ k. g (suc k)) (λ i l. h (suc i) (omega arith)))
+
+  -- a list is given by its entries
+  pub tab-getD : (l : List A) (d : A) → tab (length l) (λ i. getD l i d) ≡ l
+  tab-getD [] d = refl
+  tab-getD (x ∷ l) d = ap (_∷_ x) (tab-getD l d)
+
+  tab-set : (n : ℕ) (f g : ℕ → A) (v : ℕ) (x : A) → v < n → g v ≡ x → ((u : ℕ) → u < n → u ≢ v → g u ≡ f u) → set (tab n f) v x ≡ tab n g
+  tab-set zero f g v x h e k = absurd (omega arith)
+  tab-set (suc n) f g zero x h e k =
+      ap₂ _∷_ (sym e) (tab-same n (λ i. f (suc i)) (λ i. g (suc i)) (λ i l. sym (k (suc i) (omega arith) (λ p. omega arith))))
+  tab-set (suc n) f g (suc v) x h e k =
+      ap₂ _∷_ (sym (k 0 (omega arith) (λ p. omega arith)))
+      (tab-set n (λ i. f (suc i)) (λ i. g (suc i)) v x (omega arith) e (λ u l p. k (suc u) (omega arith) (λ q. p (omega arith))))
+
+  -- ---- over
+  pub length-over : (n : ℕ) (f : ℕ → A) (old : List A) → n ≤ length old → length (over n f old) ≡ length old
+  length-over n f old h = simp (length-append, length-tab, length-drop) (omega arith)
+
+  pub over-in : (n : ℕ) (f : ℕ → A) (old : List A) (i : ℕ) (d : A) → i < n → getD (over n f old) i d ≡ f i
+  over-in n f old i d h = List·getD-append (tab n f) (drop n old) d i (simp length-tab h) ∙ getD-tab n f i d h
+
+  pub over-out : (n : ℕ) (f : ℕ → A) (old : List A) (i : ℕ) (d : A) → n ≤ i → getD (over n f old) i d ≡ getD old i d
+  over-out n f old i d h =
+      ap (λ (j : ℕ). getD (over n f old) j d) (omega (arith, length-tab n f))
+      ∙ getD-append-add (tab n f) (drop n old) (i - n) d
+      ∙ getD-drop n old (i - n) d
+      ∙ ap (λ (j : ℕ). getD old j d) (omega arith)
+
+  -- one store at the end of what is filled
+  pub over-next : (n : ℕ) (f : ℕ → A) (old : List A) (x : A) → n < length old → f n ≡ x → set (over n f old) n x ≡ over (suc n) f old
+  over-next n f [] x h e = absurd (omega arith)
+  over-next zero f (y ∷ old) x h e = rw e
+  over-next (suc n) f (y ∷ old) x h e = ap (_∷_ (f 0)) (over-next n (λ k. f (suc k)) old x (omega arith) e)
+
+  -- one store among what is filled changes one entry of the function
+  pub over-set : (n : ℕ) (f g : ℕ → A) (old : List A) (v : ℕ) (x : A) → v < n → g v ≡ x → ((u : ℕ) → u < n → u ≢ v → g u ≡ f u)
+      → set (over n f old) v x ≡ over n g old
+  over-set n f g old v x h e k =
+      set-append-left (tab n f) (drop n old) v x (simp length-tab h) ∙ ap (λ (l : List A). l ++ drop n old) (tab-set n f g v x h e k)
+
+  pub over-same : (n : ℕ) (f g : ℕ → A) (old : List A) → ((i : ℕ) → i < n → f i ≡ g i) → over n f old ≡ over n g old
+  over-same n f g old h = ap (λ (l : List A). l ++ drop n old) (tab-same n f g h)
+
+  -- what stood in the entries that are filled is of no account
+  pub over-over : (n : ℕ) (f g : ℕ → A) (old : List A) → over n f (over n g old) ≡ over n f old
+  over-over n f g old = ap (λ (l : List A). tab n f ++ l) (drop-at (tab n g) (drop n old) n (length-tab n g))
+
+  -- ---- written
+  pub over-tab : (n : ℕ) (f : ℕ → A) (old : List A) → over n f old ≡ written (tab n f) old
+  over-tab n f old = rw (length-tab n f)
+
+  pub over-all : (l old : List A) (d : A) → over (length l) (λ i. getD l i d) old ≡ written l old
+  over-all l old d = ap (λ (k : List A). k ++ drop (length l) old) (tab-getD l d)
+
+  pub length-written : (l old : List A) → length l ≤ length old → length (written l old) ≡ length old
+  length-written l old h = simp (length-append, length-drop) (omega arith)
+
+  pub written-in : (l old : List A) (i : ℕ) (d : A) → i < length l → getD (written l old) i d ≡ getD l i d
+  written-in l old i d h = List·getD-append l (drop (length l) old) d i h

@@ -1,0 +1,160 @@
+-- Document 01, 'Causes and codes': for each call of the library, from its inputs and the lent lists as they were, its number and values
+-- and the lists as they are afterwards. The order of the causes is the order of the list that `firstOf` is given. Definitions only.
+use mathlib.Core.Bool.{Bool, true, false, not, _||_}
+use mathlib.Core.List.{List, [], _∷_, map}
+use Prim.Native.Nat.{ℕ, suc, _*_}
+use lib.Dec.{ltb, eqb}
+use lib.Ieee.{Float}
+use lib.IntN.{ℤ, pos, negsuc}
+use lib.ListN.{length}
+use Rattle.lists.specs.Tabulated.{written}
+use Rattle.lists.specs.Entries.{some}
+use Rattle.quotient.specs.Quotient.{quotient}
+use Rattle.model.specs.declared.Settings.{Settings}
+use Rattle.model.specs.declared.Channel as declared
+use Rattle.model.specs.Causes.{_if_, firstOf, short, outside, accepted}
+use Rattle.model.specs.Code.{Code, triples, variables}
+use Rattle.model.specs.Records.{codeOf, judge}
+use Rattle.model.specs.Splitting.{System, systemOf}
+use Rattle.model.specs.Iteration.{State, countsOf}
+use Rattle.model.specs.Run.{mostIterations, Ended, run}
+use Rattle.model.specs.Words.{Outcome, wordOf, tested, outcome}
+use Rattle.model.specs.Points.{pointOf}
+use Rattle.model.specs.Reflection.{reflect}
+use Rattle.model.specs.Channel.{finite, inRange, costOf}
+
+-- ---- causes 11 to 15
+-- 11, of a run: "cost weight W (1 to 65,535), ratio A (0 to 1,023 …), iterations K (1 to 1,000), tolerance X (any 32-bit unsigned)"
+abbrev pub wild : Settings → Bool
+wild o = outside 1 65535 (o .weight) || (ltb 1023 (o .ratio) || outside 1 mostIterations (o .limit))
+
+-- 12: "list lengths that must agree do not"
+abbrev pub unequal : {A : Type 0} → List A → ℕ → Bool
+unequal l n = not (eqb (length l) n)
+
+-- 13: "a cost of −32,768"
+abbrev pub forbidden : ℤ → Bool
+forbidden (pos n) = false
+forbidden (negsuc n) = eqb (suc n) 32768
+
+-- 15: "a word entry neither 0 nor 1"
+abbrev pub notBinary : ℕ → Bool
+notBinary b = ltb 1 b
+
+-- ---- "The reader hands back n, m and the number of triples."
+pub record Reading : Type 0 where
+  pub number : ℕ
+  pub bits : ℕ
+  pub checks : ℕ
+  pub triples : ℕ
+
+unfoldable pub reader : List ℕ → Reading
+reader b = record {
+  number = judge b;
+  bits = accepted (judge b) (codeOf b .bits) 0;
+  checks = accepted (judge b) (length (codeOf b .checks)) 0;
+  triples = accepted (judge b) (triples (codeOf b)) 0;
+}
+
+-- ---- the splitting
+pub record Split : Type 0 where
+  pub number : ℕ
+  pub triples : List ℕ
+  pub counts : List ℕ
+
+unfoldable pub splitter : List ℕ → List ℕ → List ℕ → Split
+splitter b ts cs =
+    let k = codeOf b in
+    let c = firstOf (judge b ∷ 10 if (short (3 * triples k) ts || short (variables k) cs) ∷ []) in
+    record {
+      number = c;
+      triples = accepted c (written (systemOf k .members) ts) ts;
+      counts = accepted c (written (countsOf (systemOf k)) cs) cs;
+    }
+
+-- ---- the codeword test, and the extension
+unfoldable pub codewordTest : List ℕ → List ℕ → Outcome
+codewordTest b w =
+    let k = codeOf b in
+    let c = firstOf (judge b ∷ 12 if unequal w (k .bits) ∷ 15 if some notBinary w ∷ []) in
+    accepted c (tested k w) (record { number = c; place = 0 })
+
+pub record Extended : Type 0 where
+  pub outcome : Outcome
+  pub point : List ℕ
+
+unfoldable pub extension : List ℕ → List ℕ → List ℕ → Extended
+extension b w p =
+    let k = codeOf b in
+    let c = firstOf (judge b ∷ 12 if unequal w (k .bits) ∷ 15 if some notBinary w ∷ 10 if short (variables k) p ∷ []) in
+    let out = accepted c (tested k w) (record { number = c; place = 0 }) in
+    record { outcome = out; point = accepted (out .number) (written (pointOf k w) p) p }
+
+-- ---- the decoder
+-- "The decoder also fills lent lists: triples, triple counts per variable, S of the last iteration, c, s", and the word
+pub record Lists : Type 0 where
+  pub triples : List ℕ
+  pub counts : List ℕ
+  pub sums : List ℤ
+  pub values : List ℤ
+  pub rows : List ℤ
+  pub word : List ℕ
+
+pub record Answer : Type 0 where
+  pub number : ℕ
+  pub place : ℕ
+  pub k : ℕ
+  pub settled : ℕ
+
+pub record Decoded : Type 0 where
+  pub answer : Answer
+  pub lists : Lists
+
+-- 10: 3T, V, V, V, 4T and n entries
+abbrev pub noRoom : Code → Lists → Bool
+noRoom k l =
+    short (3 * triples k) (l .triples) || (short (variables k) (l .counts) || (short (variables k) (l .sums)
+    || (short (variables k) (l .values) || (short (4 * triples k) (l .rows) || short (k .bits) (l .word)))))
+
+unfoldable pub decoderCause : List ℕ → Settings → List ℤ → Lists → ℕ
+decoderCause b o costs l =
+    let k = codeOf b in
+    firstOf (judge b ∷ 11 if wild o ∷ 12 if unequal costs (k .bits) ∷ 13 if some forbidden costs ∷ 10 if noRoom k l ∷ [])
+
+-- what a run that ended with e leaves: "All three carry k and whether settled", and the word is written with the number 0
+unfoldable pub decodedBy : Code → Ended → Lists → Decoded
+decodedBy k e l =
+    let out = outcome k (e .last .values) in
+    record {
+      answer = record { number = out .number; place = out .place; k = e .k; settled = e .settled };
+      lists = record {
+        triples = written (systemOf k .members) (l .triples);
+        counts = written (countsOf (systemOf k)) (l .counts);
+        sums = written (e .last .sums) (l .sums);
+        values = written (e .last .values) (l .values);
+        rows = written (e .last .rows) (l .rows);
+        word = accepted (out .number) (written (wordOf k (e .last .values)) (l .word)) (l .word);
+      };
+    }
+
+unfoldable pub decoder : List ℕ → Settings → List ℤ → Lists → Decoded
+decoder b o costs l =
+    let c = decoderCause b o costs l in
+    accepted c
+    (decodedBy (codeOf b) (run quotient (systemOf (codeOf b)) o costs) l)
+    (record { answer = record { number = c; place = 0; k = 0; settled = 0 }; lists = l })
+
+-- ---- the channel front and the reflector, whose result is one list of costs
+pub record Costs : Type 0 where
+  pub number : ℕ
+  pub costs : List ℤ
+
+unfoldable pub channelFront : declared.Channel → List Float → List ℤ → Costs
+channelFront setting samples old =
+    let c = firstOf (11 if not (inRange setting) ∷ 14 if some (λ x. not (finite x)) samples ∷ 10 if short (length samples) old ∷ []) in
+    record { number = c; costs = accepted c (written (map (costOf setting) samples) old) old }
+
+unfoldable pub reflector : List ℤ → List ℕ → List ℤ → Costs
+reflector costs w old =
+    let c = firstOf (12 if unequal w (length costs) ∷ 13 if some forbidden costs ∷ 15 if some notBinary w ∷ 10 if short (length costs) old ∷ []) in
+    record { number = c; costs = accepted c (written (reflect w costs) old) old }

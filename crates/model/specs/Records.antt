@@ -1,0 +1,92 @@
+-- Document 01, 'Code records'. Definitions only.
+-- What bytes say (`codeOf`, total: past the end it reads zeros) stands apart from the judgement (`judge`, 0 for an accepted code).
+use mathlib.Core.Bool.{Bool, not}
+use mathlib.Core.List.{List, [], _∷_}
+use Prim.Native.Nat.{ℕ, zero, suc, _+_, _*_}
+use lib.Dec.{leb, ltb, eqb}
+use lib.ListN.{length, getD, drop}
+use Rattle.lists.specs.Tabulated.{tab}
+use Rattle.lists.specs.Entries.{every, some}
+use Rattle.model.specs.Causes.{_if_, firstOf, short, outside}
+use Rattle.model.specs.Code.{Code, triples}
+
+-- ---- what bytes say
+
+-- "Two-byte numbers have the high byte first": the one that s begins with
+unfoldable pub twoBytes : List ℕ → ℕ
+twoBytes s = 256 * getD s 0 0 + getD s 1 0
+
+-- the first d of them
+unfoldable pub numbers : ℕ → List ℕ → List ℕ
+numbers zero s = []
+numbers (suc d) s = twoBytes s ∷ numbers d (drop 2 s)
+
+-- "Header: mark 0x4C48, bits n, checks m": n and m
+abbrev pub bitCount : List ℕ → ℕ
+bitCount s = twoBytes (drop 2 s)
+
+abbrev pub checkCount : List ℕ → ℕ
+checkCount s = twoBytes (drop 4 s)
+
+-- "check records: mark 0x4C43, a one-byte degree d, then d bit indices of two bytes": of the record that s begins with
+abbrev pub degree : List ℕ → ℕ
+degree s = getD s 2 0
+
+abbrev pub indices : List ℕ → List ℕ
+indices s = numbers (degree s) (drop 3 s)
+
+-- what follows that record
+abbrev pub afterCheck : List ℕ → List ℕ
+afterCheck s = drop (3 + 2 * degree s) s
+
+-- the first m check records, and what follows them
+unfoldable pub checksIn : ℕ → List ℕ → List (List ℕ)
+checksIn zero s = []
+checksIn (suc m) s = indices s ∷ checksIn m (afterCheck s)
+
+unfoldable pub afterChecks : ℕ → List ℕ → List ℕ
+afterChecks zero s = s
+afterChecks (suc m) s = afterChecks m (afterCheck s)
+
+unfoldable pub codeOf : List ℕ → Code
+codeOf s = record { bits = bitCount s; checks = checksIn (checkCount s) (drop 6 s) }
+
+-- ---- the judgement: "records from left to right, in each the mark, then its fields; a mark or field that is cut gives 1, a whole one is
+-- judged before the next is read, 5 before 6. Then 9, 7, 8"
+
+unfoldable pub judgeHeader : List ℕ → ℕ
+judgeHeader s =
+    firstOf (
+    1 if short 2 s ∷ 2 if not (eqb (twoBytes s) 0x4C48) ∷
+    1 if short 4 s ∷ 3 if outside 3 4096 (bitCount s) ∷
+    1 if short 6 s ∷ 3 if outside 1 2048 (checkCount s) ∷ [])
+
+-- d indices of a code of n bits; low is 0 at first, then one above the index before
+unfoldable pub judgeIndices : ℕ → ℕ → ℕ → List ℕ → ℕ
+judgeIndices n zero low s = 0
+judgeIndices n (suc d) low s =
+    firstOf (1 if short 2 s ∷ 5 if leb n (twoBytes s) ∷ 6 if ltb (twoBytes s) low ∷ judgeIndices n d (suc (twoBytes s)) (drop 2 s) ∷ [])
+
+unfoldable pub judgeCheck : ℕ → List ℕ → ℕ
+judgeCheck n s =
+    firstOf (
+    1 if short 2 s ∷ 2 if not (eqb (twoBytes s) 0x4C43) ∷
+    1 if short 3 s ∷ 4 if outside 3 32 (degree s) ∷
+    judgeIndices n (degree s) 0 (drop 3 s) ∷ [])
+
+unfoldable pub judgeChecks : ℕ → ℕ → List ℕ → ℕ
+judgeChecks n zero s = 0
+judgeChecks n (suc m) s = firstOf (judgeCheck n s ∷ judgeChecks n m (afterCheck s) ∷ [])
+
+-- "Each bit lies in some check."
+unfoldable pub covered : Code → Bool
+covered k = every (λ b. some (some (eqb b)) (k .checks)) (tab (k .bits) (λ b. b))
+
+unfoldable pub judge : List ℕ → ℕ
+judge s =
+    firstOf (
+    judgeHeader s ∷
+    judgeChecks (bitCount s) (checkCount s) (drop 6 s) ∷
+    9 if ltb 0 (length (afterChecks (checkCount s) (drop 6 s))) ∷
+    7 if ltb 8192 (triples (codeOf s)) ∷
+    8 if not (covered (codeOf s)) ∷ [])

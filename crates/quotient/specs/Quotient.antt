@@ -1,0 +1,25 @@
+-- Document 01, 'One iteration': "rounded to nearest, halves away from zero, then limited to −U..U".
+-- `quotient` is shut: no crate above can open it. What they have of it are the laws below, in `Laws`.
+use Prim.Native.Nat.{ℕ, suc, _+_, _-_, _*_, _/_, _≤_, _<_, min}
+use lib.IntN.{ℤ, pos, negsuc, negℤ, natAbs}
+use Rattle.integers.specs.Nearest.{nearest}
+pub mod Laws
+
+-- 01: "Let U = 16,384."
+abbrev pub unit : ℕ
+unit = 16384
+
+-- of magnitudes: nearest, halves up, at most U
+limited : ℕ → ℕ → ℕ
+limited n d = min (nearest n d) unit
+
+-- n / d for a d above 0
+pub quotient : ℤ → ℤ → ℤ
+quotient (pos n) d = pos (limited n (natAbs d))
+quotient (negsuc n) d = negℤ (pos (limited (suc n) (natAbs d)))
+
+-- q is n / d, all three being magnitudes: within the limit; at most half above n / d; and, below the limit, less than half below it
+pub record Rounded (n d q : ℕ) : Type 0 where
+  pub range : q ≤ unit
+  pub above : 2 * (d * q) ≤ 2 * n + d
+  pub below : q < unit → 2 * n < 2 * (d * q) + d
