@@ -1,5 +1,6 @@
 -- Document 01, 'Causes and codes': for each call of the library, from its inputs and the lent lists as they were, its number and values
--- and the lists as they are afterwards. The order of the causes is the order of the list that `firstOf` is given. Definitions only.
+-- and the lists as they are afterwards. The order of the causes is the order of the list that `firstOf` is given. `..Told` gives the number and the values of
+-- every case of an answer. Definitions only.
 use mathlib.Core.Bool.{Bool, true, false, not, _||_}
 use mathlib.Core.List.{List, [], _∷_, map}
 use Prim.Native.Nat.{ℕ, suc, _*_}
@@ -12,6 +13,10 @@ use Rattle.lists.specs.Entries.{some}
 use Rattle.quotient.specs.Quotient.{quotient}
 use Rattle.model.specs.declared.Settings.{Settings}
 use Rattle.model.specs.declared.Channel as declared
+use Rattle.model.specs.declared.Reading.{Reading}
+use Rattle.model.specs.declared.Verdict.{Verdict}
+use Rattle.model.specs.declared.Ending.{Ending}
+use Rattle.model.specs.declared.Decoding.{Decoding}
 use Rattle.model.specs.Causes.{_if_, firstOf, short, outside, accepted}
 use Rattle.model.specs.Code.{Code, triples, variables}
 use Rattle.model.specs.Records.{codeOf, judge}
@@ -42,13 +47,17 @@ abbrev pub notBinary : ℕ → Bool
 notBinary b = ltb 1 b
 
 -- ---- "The reader hands back n, m and the number of triples."
-pub record Reading : Type 0 where
+pub record ReaderAnswer : Type 0 where
   pub number : ℕ
   pub bits : ℕ
   pub checks : ℕ
   pub triples : ℕ
 
-unfoldable pub reader : List ℕ → Reading
+abbrev pub readingTold : Reading → ReaderAnswer
+readingTold (Reading.Code n m t) = record { number = 0; bits = n; checks = m; triples = t }
+readingTold (Reading.Refused c) = record { number = c; bits = 0; checks = 0; triples = 0 }
+
+unfoldable pub reader : List ℕ → ReaderAnswer
 reader b = record {
   number = judge b;
   bits = accepted (judge b) (codeOf b .bits) 0;
@@ -73,6 +82,11 @@ splitter b ts cs =
     }
 
 -- ---- the codeword test, and the extension
+abbrev pub verdictTold : Verdict → Outcome
+verdictTold Verdict.Codeword = record { number = 0; place = 0 }
+verdictTold (Verdict.Odd j) = record { number = 17; place = j }
+verdictTold (Verdict.Refused c) = record { number = c; place = 0 }
+
 unfoldable pub codewordTest : List ℕ → List ℕ → Outcome
 codewordTest b w =
     let k = codeOf b in
@@ -105,6 +119,12 @@ pub record Answer : Type 0 where
   pub place : ℕ
   pub k : ℕ
   pub settled : ℕ
+
+abbrev pub decodingTold : Decoding → Answer
+decodingTold (Decoding.Word e) = record { number = 0; place = 0; k = e .k; settled = e .settled }
+decodingTold (Decoding.Undecided v e) = record { number = 16; place = v; k = e .k; settled = e .settled }
+decodingTold (Decoding.Odd j e) = record { number = 17; place = j; k = e .k; settled = e .settled }
+decodingTold (Decoding.Refused c) = record { number = c; place = 0; k = 0; settled = 0 }
 
 pub record Decoded : Type 0 where
   pub answer : Answer

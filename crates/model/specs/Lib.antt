@@ -11,3 +11,4 @@ pub mod Points
 pub mod Reflection
 pub mod Channel
 pub mod Calls
+pub mod Table

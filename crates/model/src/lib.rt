@@ -1,4 +1,5 @@
-// The types that callers hand over. What they mean, and every definition that a contract cites, stands in specs/. No functions.
+// What callers hand over and what they are told. The meaning of each, and every definition that a contract cites, stands in specs/.
+// No functions.
 
 // The settings of a run: cost weight W, ratio A, iterations K and tolerance X of document 01.
 pub struct Settings {
@@ -19,4 +20,35 @@ pub enum Channel {
     Gaussian(f32),
     Hard(f32),
     Erasing(Erasure),
+}
+
+// The reader's answer.
+pub enum Reading {
+    Code {
+        bits: usize,
+        checks: usize,
+        triples: usize,
+    },
+    Refused(u32),
+}
+
+// The answer of the codeword test and of the extension; Odd has the first check with an odd sum.
+pub enum Verdict {
+    Codeword,
+    Odd(usize),
+    Refused(u32),
+}
+
+// How a run ended: after k iterations, settled or not.
+pub struct Ending {
+    pub k: u32,
+    pub settled: u32,
+}
+
+// The decoder's answer; Undecided has the lowest bit with the value 0, Odd the first check with an odd sum.
+pub enum Decoding {
+    Word(Ending),
+    Undecided(usize, Ending),
+    Odd(usize, Ending),
+    Refused(u32),
 }

@@ -10,9 +10,8 @@ use Rattle.integers.proofs.Linear.{abs-neg}
 use Rattle.quotient.specs.Quotient.{unit, limited, quotient, Rounded}
 
 -- ---- magnitudes
-limited-rounded : (n d : ℕ) → 0 < d → Rounded n d (limited n d)
-unfolding limited
-limited-rounded n d h =
+pub rounded-by : (n d : ℕ) → 0 < d → Rounded n d (min (nearest n d) unit)
+rounded-by n d h =
     let q = nearest n d in
     let a = nearest-is n d h in
     let m : d * min q unit ≤ d * q = mul-le-mul-left d (omega arith) in
@@ -21,6 +20,10 @@ limited-rounded n d h =
       above = omega (arith, a .above);
       below = λ k. let e : d * min q unit ≡ d * q = ap (λ (x : ℕ). d * x) (omega arith) in omega (arith, a .below);
     }
+
+limited-rounded : (n d : ℕ) → 0 < d → Rounded n d (limited n d)
+unfolding limited
+limited-rounded n d h = rounded-by n d h
 
 rounded-le : (n d q r : ℕ) → Rounded n d q → Rounded n d r → q ≤ r
 rounded-le n d q r a b =
