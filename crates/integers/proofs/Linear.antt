@@ -217,6 +217,10 @@ abs-add a b = omega (arith, about a, about b, about-sum a b, about (a +ℤ b))
 pub abs-sub : (a b : ℤ) → natAbs (a -ℤ b) ≤ natAbs a + natAbs b
 abs-sub a b = omega (arith, abs-add a (negℤ b), abs-neg b)
 
+-- of a difference of natural numbers
+pub abs-difference : (a b n : ℕ) → a ≤ n + b → b ≤ n + a → natAbs (pos a -ℤ pos b) ≤ n
+abs-difference a b n h k = simp toℕ (omega arith)
+
 -- ---- the ring. `ring` multiplies out and sorts, `linear` then takes each product for an unknown
 -- (a numeral is a part of its product: write x +ℤ x for pos 2 *ℤ x)
 pub *ℤ-assoc : (a b c : ℤ) → (a *ℤ b) *ℤ c ≡ a *ℤ (b *ℤ c)

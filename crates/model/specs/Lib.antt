@@ -11,4 +11,5 @@ pub mod Points
 pub mod Reflection
 pub mod Channel
 pub mod Calls
+pub mod Bounds
 pub mod Table
