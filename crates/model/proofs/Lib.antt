@@ -1,3 +1,6 @@
+pub mod Causes
+pub mod Accepted
+pub mod Sound
 pub mod Rows
 pub mod Runs
 pub mod Queue
