@@ -7,7 +7,6 @@ use native.Mathlib.Omega.{arith}
 use native.Mathlib.Nat.{mul-le-mul, mul-le-mul-left, le-trans, le-of-eq}
 use lib.Dec.{eqb}
 use lib.IntN.{ℤ, pos, negsuc, negℤ, natAbs, _+ℤ_, _-ℤ_, _*ℤ_}
-use lib.ListN.{replicate}
 use lib.Signed.{_≤ℤ_, _<ℤ_}
 use Rattle.integers.specs.Parts.{up, dn}
 use Rattle.integers.specs.Sum.{sumℕ, sumℤ}
@@ -21,7 +20,7 @@ use Rattle.model.specs.Splitting.{System, member}
 use Rattle.model.specs.Iteration.{at, row, sign, rowSum, sumAt, slack, multiplier, share, _when_, sumOf, occurrences, numerator, divisor, renewed, State, sumsOf, valueOf, valuesOf, rowsOf, iterate}
 use Rattle.model.specs.Run.{squareOfChange, changes, start, after}
 use Rattle.model.specs.Bounds.{RowsWithin, Ready, Bounds}
-use Rattle.model.proofs.Rows.{sign-one, at-tab, row-renewed}
+use Rattle.model.proofs.Rows.{sign-one, at-tab, none, row-renewed}
 
 -- ---- the four sums, and a row's renewal
 term : (r p : ℕ) (c : ℤ) → r < 4 → p < 3 → natAbs c ≤ unit → natAbs (sign r p *ℤ c) ≤ unit
@@ -30,8 +29,14 @@ term r p c h l k = rw (abs-mul (sign r p) c, sign-one r p h l) (omega arith)
 pub rowSum-bound : (r : ℕ) (a b c : ℤ) → r < 4 → natAbs a ≤ unit → natAbs b ≤ unit → natAbs c ≤ unit → natAbs (rowSum r a b c) ≤ 49152
 unfolding rowSum
 rowSum-bound r a b c h x y z =
-    omega (arith, abs-add (sign r 0 *ℤ a +ℤ sign r 1 *ℤ b) (sign r 2 *ℤ c), abs-add (sign r 0 *ℤ a) (sign r 1 *ℤ b),
-    term r 0 a h (omega arith) x, term r 1 b h (omega arith) y, term r 2 c h (omega arith) z)
+    omega (
+      arith,
+      abs-add (sign r 0 *ℤ a +ℤ sign r 1 *ℤ b) (sign r 2 *ℤ c),
+      abs-add (sign r 0 *ℤ a) (sign r 1 *ℤ b),
+      term r 0 a h (omega arith) x,
+      term r 1 b h (omega arith) y,
+      term r 2 c h (omega arith) z,
+    )
 
 module _ (s sum : ℤ) (small : natAbs sum ≤ 49152) where
   parts : up (renewed s sum) + (dn sum + unit) ≡ (multiplier s + up sum) + dn (renewed s sum)
@@ -156,11 +161,6 @@ module _ (g : System) (o : Settings) (costs : List ℤ) (n : ℕ) (a : State) (r
 pub start-within : (g : System) → RowsWithin 0 (start g .rows)
 unfolding start
 start-within g = record { multipliers = λ i. rw (none (4 * g .triples) i) (omega arith); slacks = λ i. rw (none (4 * g .triples) i) (omega arith) }
-  where
-    none : (n i : ℕ) → at (replicate n (pos 0)) i ≡ pos 0
-    none zero i = refl
-    none (suc n) zero = refl
-    none (suc n) (suc i) = none n i
 
 pub rows-after : (g : System) (o : Settings) (costs : List ℤ) → Ready g o costs → (n : ℕ) → RowsWithin n (after quotient g o costs n (start g) .rows)
 unfolding after

@@ -5,4 +5,5 @@ pub mod Rows
 pub mod Runs
 pub mod Queue
 pub mod Bounds
+pub mod Reflection
 pub mod Worked

@@ -43,5 +43,8 @@ members-total f (suc n) (x ∷ []) h = absurd (omega arith)
 members-total f (suc n) (x ∷ y ∷ []) h = absurd (omega arith)
 members-total f (suc n) (x ∷ y ∷ z ∷ ts) h =
     sumℕ-first n (λ t. sumℕ 3 (λ p. f (member (x ∷ y ∷ z ∷ ts) t p)))
-    ∙ rw (sumℕ-same n (λ t. sumℕ 3 (λ p. f (member (x ∷ y ∷ z ∷ ts) (suc t) p))) (λ t. sumℕ 3 (λ p. f (member ts t p)))
-        (λ t l. sumℕ-same 3 _ _ (λ p k. ap f (member-next x y z ts t p))), members-total f n ts (omega arith)) (omega arith)
+    ∙ rw (
+      sumℕ-same n (λ t. sumℕ 3 (λ p. f (member (x ∷ y ∷ z ∷ ts) (suc t) p))) (λ t. sumℕ 3 (λ p. f (member ts t p)))
+          (λ t l. sumℕ-same 3 _ _ (λ p k. ap f (member-next x y z ts t p))),
+      members-total f n ts (omega arith),
+    ) (omega arith)

@@ -5,7 +5,7 @@ use Prim.Native.Nat.{ℕ, zero, suc, _+_, _*_, _/_, _%_, _≤_, _<_}
 use native.Mathlib.Decide.{decLt}
 use native.Mathlib.Omega.{arith}
 use lib.IntN.{ℤ, pos, natAbs}
-use lib.ListN.{length, List·getD-eq-default}
+use lib.ListN.{length, replicate, List·getD-eq-default}
 use Rattle.lists.specs.Tabulated.{tab}
 use Rattle.lists.proofs.Tabulated.{length-tab, getD-tab}
 use Rattle.model.specs.Splitting.{System}
@@ -38,6 +38,11 @@ at-tab P n f i h z = by (decLt i n)
     by : Dec (i < n) → P (at (tab n f) i)
     by (yes l) = rw (getD-tab n f i (pos 0) l) (h l)
     by (no l) = let e : at (tab n f) i ≡ pos 0 = List·getD-eq-default (tab n f) (pos 0) (omega (arith, length-tab n f)) in rw e z
+
+pub none : (n i : ℕ) → at (replicate n (pos 0)) i ≡ pos 0
+none zero i = refl
+none (suc n) zero = refl
+none (suc n) (suc i) = none n i
 
 -- row r of triple t, renewed
 pub row-renewed : (g : System) (s c : List ℤ) (t r : ℕ) → t < g .triples → r < 4 → row (rowsOf g s c) t r ≡ renewed (row s t r) (sumAt (g .members) c t r)
