@@ -4,6 +4,7 @@ pub mod Sound
 pub mod Rows
 pub mod Runs
 pub mod Queue
+pub mod TripleRule
 pub mod Bounds
 pub mod Reflection
 pub mod Worked

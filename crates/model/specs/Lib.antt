@@ -7,6 +7,7 @@ pub mod Sound
 pub mod Splitting
 pub mod Iteration
 pub mod Run
+pub mod TripleRule
 pub mod Words
 pub mod Points
 pub mod Reflection
