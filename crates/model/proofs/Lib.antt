@@ -7,4 +7,5 @@ pub mod Queue
 pub mod TripleRule
 pub mod Bounds
 pub mod Reflection
+pub mod Points
 pub mod Worked

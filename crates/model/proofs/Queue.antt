@@ -3,7 +3,7 @@ use mathlib.Core.Path.{_≡_, refl, sym, ap, ap₂, _∙_}
 use mathlib.Core.List.{List, [], _∷_, _++_}
 use Prim.Native.Nat.{ℕ, zero, suc, _+_, _-_, _*_, _≤_, _<_}
 use native.Mathlib.Omega.{arith}
-use lib.ListN.{length, getD, take, drop, take-append-drop}
+use lib.ListN.{length, getD, take, drop, length-append, take-append-drop}
 use Rattle.integers.specs.Sum.{sumℕ}
 use Rattle.integers.proofs.Sums.{sumℕ-same, sumℕ-first, sumℕ-split}
 use Rattle.lists.specs.Entries.{total}
@@ -30,6 +30,18 @@ module _ (f : ℕ → ℕ) where
       let later : sumℕ (total turns cs) (λ j. f (a + turns c + j)) ≡ sumℕ (total turns cs) (λ j. f (a + (turns c + j))) = sumℕ-same (total turns cs) _ _ (λ j l. ap f (omega arith)) in
       total-append f (queue (turns c) c a) (triplesFrom cs (a + turns c))
       ∙ rw (queue-total (turns c) c a, triples-total cs (a + turns c)) (omega (arith, later, sumℕ-split (turns c) (total turns cs) (λ j. f (a + j))))
+
+-- ---- induction over the turns: the last three; and a turn, which takes x and y and puts a at the back
+pub by-turns : (P : ℕ → List ℕ → ℕ → Type 0) → ((x y z a : ℕ) → P 0 (x ∷ y ∷ z ∷ []) a) → ((m x y : ℕ) (q : List ℕ) (a : ℕ) → P m (q ++ (a ∷ [])) (suc a) → P (suc m) (x ∷ y ∷ q) a)
+    → (m : ℕ) (q : List ℕ) (a : ℕ) → length q ≡ 3 + m → P m q a
+by-turns P last turn zero [] a h = absurd (omega arith)
+by-turns P last turn zero (x ∷ []) a h = absurd (omega arith)
+by-turns P last turn zero (x ∷ y ∷ []) a h = absurd (omega arith)
+by-turns P last turn zero (x ∷ y ∷ z ∷ []) a h = last x y z a
+by-turns P last turn zero (x ∷ y ∷ z ∷ u ∷ q) a h = absurd (omega arith)
+by-turns P last turn (suc m) [] a h = absurd (omega arith)
+by-turns P last turn (suc m) (x ∷ []) a h = absurd (omega arith)
+by-turns P last turn (suc m) (x ∷ y ∷ q) a h = turn m x y q a (by-turns P last turn m (q ++ (a ∷ [])) (suc a) (length-append q (a ∷ []) ∙ omega arith))
 
 -- ---- the entries of a list of triples, by triple and position
 pub member-next : (x y z : ℕ) (ts : List ℕ) (t p : ℕ) → member (x ∷ y ∷ z ∷ ts) (suc t) p ≡ member ts t p

@@ -43,7 +43,7 @@ turned-tab b (suc n) f g zero e = e
 turned-tab b (suc n) f g (suc v) e = turned-tab b n (λ k. f (suc k)) (λ k. g (suc k)) v e
 
 -- ---- the entries of an even triple, and where its rows go
-two : (P : ℕ → Type 0) → P 0 → P 1 → (b : ℕ) → b < 2 → P b
+pub two : (P : ℕ → Type 0) → P 0 → P 1 → (b : ℕ) → b < 2 → P b
 two P x y zero h = x
 two P x y (suc zero) h = y
 two P x y (suc (suc b)) h = absurd (omega arith)

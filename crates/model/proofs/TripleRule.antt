@@ -22,7 +22,7 @@ use Rattle.model.specs.Sound.{Rising, SoundCheck, SoundChecks, Sound}
 use Rattle.model.specs.Splitting.{queue, triplesFrom, systemOf, member}
 use Rattle.model.specs.Iteration.{occurrences}
 use Rattle.model.specs.TripleRule.{items, TripleRule}
-use Rattle.model.proofs.Queue.{queue-total, triples-total, member-next, members-total}
+use Rattle.model.proofs.Queue.{queue-total, triples-total, by-turns, member-next, members-total}
 use Rattle.model.proofs.Sound.{rising-below, rising-apart}
 
 -- ---- how often v stands
@@ -102,25 +102,27 @@ At m q a t =
 
 queue-at : (m : ℕ) (q : List ℕ) (a : ℕ) → length q ≡ 3 + m → (t : ℕ) → t ≤ m → At m q a t
 unfolding queue
-queue-at zero q a h zero l =
-    (sym (List·getD-append q [] 0 0 (omega arith)), sym (List·getD-append q [] 0 1 (omega arith)), sym (List·getD-append q [] 0 2 (omega arith)))
-queue-at zero q a h (suc t) l = absurd (omega arith)
-queue-at (suc m) [] a h t l = absurd (omega arith)
-queue-at (suc m) (x ∷ []) a h t l = absurd (omega arith)
-queue-at (suc m) (x ∷ y ∷ q) a h zero l = let z : a + 0 ≡ a = omega arith in (refl, refl, rw (lt-ltb 0 (suc m) (omega arith), z))
-queue-at (suc m) (x ∷ y ∷ q) a h (suc t) l =
-    let R = queue m (q ++ (a ∷ [])) (suc a) in
-    let its = (x ∷ y ∷ q) ++ tab (suc m) (λ j. a + j) in
-    let n : (p : ℕ) → member (x ∷ y ∷ a ∷ R) (suc t) p ≡ member R t p = member-next x y a R t in
-    let ih = queue-at m (q ++ (a ∷ [])) (suc a) (length-append q (a ∷ []) ∙ omega arith) t (omega arith) in
-    let shift : (i k : ℕ) → k ≡ 2 + i → getD ((q ++ (a ∷ [])) ++ tab m (λ j. suc a + j)) i 0 ≡ getD its k 0
-    = λ i k e. ap (λ (r : List ℕ). getD r i 0) (sym (items-turn m (x ∷ y ∷ q) a (omega arith))) ∙ getD-drop 2 its i 0 ∙ ap (λ (j : ℕ). getD its j 0) (sym e) in
-    let s : suc a + t ≡ a + suc t = omega arith in
-    (
-      n 0 ∙ ih .0 ∙ shift (2 * t) (2 * suc t) (omega arith),
-      n 1 ∙ ih .1 ∙ shift (2 * t + 1) (2 * suc t + 1) (omega arith),
-      n 2 ∙ ih .2 ∙ rw (shift (2 * t + 2) (2 * suc t + 2) (omega arith), s, leb·suc-suc (suc t) m),
-    )
+queue-at = by-turns (λ m q a. (t : ℕ) → t ≤ m → At m q a t) last turn
+  where
+    last : (x y z a t : ℕ) → t ≤ 0 → At 0 (x ∷ y ∷ z ∷ []) a t
+    last x y z a zero l = (refl, refl, refl)
+    last x y z a (suc t) l = absurd (omega arith)
+
+    turn : (m x y : ℕ) (q : List ℕ) (a : ℕ) → ((t : ℕ) → t ≤ m → At m (q ++ (a ∷ [])) (suc a) t) → (t : ℕ) → t ≤ suc m → At (suc m) (x ∷ y ∷ q) a t
+    turn m x y q a ih zero l = let z : a + 0 ≡ a = omega arith in (refl, refl, rw (lt-ltb 0 (suc m) (omega arith), z))
+    turn m x y q a ih (suc t) l =
+        let R = queue m (q ++ (a ∷ [])) (suc a) in
+        let its = (x ∷ y ∷ q) ++ tab (suc m) (λ j. a + j) in
+        let i = ih t (omega arith) in
+        let n : (p : ℕ) → member (x ∷ y ∷ a ∷ R) (suc t) p ≡ member R t p = member-next x y a R t in
+        let shift : (i k : ℕ) → k ≡ 2 + i → getD ((q ++ (a ∷ [])) ++ tab m (λ j. suc a + j)) i 0 ≡ getD its k 0
+        = λ i k e. ap (λ (r : List ℕ). getD r i 0) (sym (items-turn m (x ∷ y ∷ q) a (omega arith))) ∙ getD-drop 2 its i 0 ∙ ap (λ (j : ℕ). getD its j 0) (sym e) in
+        let s : suc a + t ≡ a + suc t = omega arith in
+        (
+          n 0 ∙ i .0 ∙ shift (2 * t) (2 * suc t) (omega arith),
+          n 1 ∙ i .1 ∙ shift (2 * t + 1) (2 * suc t + 1) (omega arith),
+          n 2 ∙ i .2 ∙ rw (shift (2 * t + 2) (2 * suc t + 2) (omega arith), s, leb·suc-suc (suc t) m),
+        )
 
 -- what ever waits rises
 rising-range : (m a low : ℕ) → low ≤ a → Rising (a + m) low (tab m (λ j. a + j))

@@ -14,4 +14,5 @@ pub mod Reflection
 pub mod Channel
 pub mod Calls
 pub mod Bounds
+pub mod Claims
 pub mod Table
