@@ -8,4 +8,5 @@ pub mod TripleRule
 pub mod Bounds
 pub mod Reflection
 pub mod Points
+pub mod Demand3
 pub mod Worked

@@ -221,8 +221,70 @@ module _ (n : ℕ) (some-bit : 0 < n) where
   checks-grow [] a l s p h = (omega arith, λ r e o t k. absurd (omega arith))
   checks-grow (c ∷ cs) a l s p h =
       let g = grow (triplesFrom cs (a + turns c)) (turns c) c a (omega (arith, s .0 .least)) (below a c l (s .0)) p h in
-      let i = checks-grow cs (a + turns c) (omega arith) (s .1) (g .grown) (g .long) in
-      (
+      let i = checks-grow cs (a + turns c) (omega arith) (s .1) (g .grown) (g .long) in (
         ap length (g .is) ∙ i .0 ∙ omega arith,
         λ r e o t k. g .even r (e ∙ g .is) (o 0 (omega arith)) (total tripleCount cs) (i .1 r (e ∙ g .is) (λ j m. o (suc j) (omega arith))) t (omega arith),
       )
+
+-- a sum over a check sees only its bits
+pub total-bits : (n low : ℕ) (x y : ℕ → ℕ) (c : List ℕ) → ((i : ℕ) → i < n → x i ≡ y i) → Rising n low c → total x c ≡ total y c
+total-bits n low x y [] h r = refl
+total-bits n low x y (i ∷ c) h r = ap₂ _+_ (h i (r .1)) (total-bits n (suc i) x y c h (r .2))
+
+pub totals-bits : (n : ℕ) (x y : ℕ → ℕ) (cs : List (List ℕ)) → ((i : ℕ) → i < n → x i ≡ y i) → SoundChecks n cs → (j : ℕ) → total x (getD cs j []) ≡ total y (getD cs j [])
+totals-bits n x y [] h s j = refl
+totals-bits n x y (c ∷ cs) h s zero = total-bits n 0 x y c h (s .0 .rising)
+totals-bits n x y (c ∷ cs) h s (suc j) = totals-bits n x y cs h (s .1) j
+
+-- ---- the whole
+module _ (k : Code) (s : Sound k) where
+  some-bit : 0 < k .bits
+  some-bit = omega (arith, s .bits-least)
+
+  pub point-begins : (w : List ℕ) → length w ≡ k .bits → (i : ℕ) → i < k .bits → entry (pointOf k w) i ≡ entry w i
+  point-begins w h i l = extend-begins (systemOf k .members) w i (omega arith)
+
+  pub point-even : (w : List ℕ) → Codeword k w → Even (entry (pointOf k w)) (systemOf k .members) (systemOf k .triples)
+  unfolding systemOf
+  point-even w c =
+      checks-grow (k .bits) some-bit (k .checks) (k .bits) (omega arith) (s .checks) w (c .word .long) .1 (pointOf k w) refl
+      (λ j h. rw (totals-bits (k .bits) (entry (pointOf k w)) (entry w) (k .checks) (point-begins w (c .word .long)) (s .checks) j) (c .even j h))
+
+  pub point-binary : (w : List ℕ) → Codeword k w → (i : ℕ) → entry (pointOf k w) i < 2
+  point-binary w c = extend-binary (systemOf k .members) w (c .word .binary)
+
+  point : (w : List ℕ) → Codeword k w → Point (systemOf k) (pointOf k w)
+  unfolding systemOf
+  point w c = record {
+    point = record {
+      long = checks-grow (k .bits) some-bit (k .checks) (k .bits) (omega arith) (s .checks) w (c .word .long) .0;
+      binary = point-binary w c;
+    };
+    meets = λ t r h l. even-meets _ _ _ (point-binary w c _) (point-binary w c _) (point-binary w c _) (point-even w c t h) r l;
+  }
+
+  begins : (w : List ℕ) → Codeword k w → take (k .bits) (pointOf k w) ≡ w
+  unfolding systemOf
+  begins w c =
+      let n : length w ≡ k .bits = c .word .long in
+      let long : length (take (k .bits) (pointOf k w)) ≡ length w = length-take-le (k .bits) (pointOf k w) (omega (arith, point w c .point .long)) ∙ sym n in
+      ext-getD 0 (take (k .bits) (pointOf k w)) w long (λ i l. getD-take (k .bits) (pointOf k w) i 0 (omega arith) ∙ point-begins w n i (omega arith))
+
+  evened : (p : List ℕ) → Point (systemOf k) p → Even (entry p) (systemOf k .members) (systemOf k .triples)
+  evened p q t h = meets-even _ _ _ (q .point .binary _) (q .point .binary _) (q .point .binary _) (λ r l. q .meets t r h l)
+
+  codeword : (w p : List ℕ) → Bits (k .bits) w → Point (systemOf k) p → take (k .bits) p ≡ w → Codeword k w
+  unfolding systemOf
+  codeword w p b q e = record {
+    word = b;
+    even = λ j h. rw (totals-bits (k .bits) (entry w) (entry p) (k .checks) (λ i l. subst (λ (u : List ℕ). entry u i ≡ entry p i) e (getD-take (k .bits) p i 0 l)) (s .checks) j)
+        (checks-even (k .bits) some-bit (entry p) (k .checks) (k .bits) (s .checks) (evened p q) j h);
+  }
+
+  pub points : Points k
+  unfolding systemOf
+  points = record {
+    exactly = λ w b. (λ c. (pointOf k w, point w c, begins w c), λ q. codeword w (q .0) b (q .1) (q .2));
+    only = λ w p q e. sym (subst (λ (u : List ℕ). extend (systemOf k .members) u ≡ p) e
+        (checks-follow (k .bits) some-bit p (q .point .binary) (k .checks) (k .bits) (omega arith) (s .checks) (q .point .long) (evened p q)));
+  }

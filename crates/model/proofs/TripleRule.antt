@@ -39,8 +39,7 @@ is-other v u h = rw (ne-eqb u v h)
 is-range : (v m a : ℕ) → (v < a → sumℕ m (λ j. is v (a + j)) ≡ 0) × (a + m ≤ v → sumℕ m (λ j. is v (a + j)) ≡ 0) × (a ≤ v → v < a + m → sumℕ m (λ j. is v (a + j)) ≡ 1)
 is-range v zero a = (λ h. refl, λ h. refl, λ h l. absurd (omega arith))
 is-range v (suc m) a =
-    let ih = is-range v m a in
-    (
+    let ih = is-range v m a in (
       λ h. rw (ih .0 h, is-other v (a + m) (λ e. omega arith)),
       λ h. rw (ih .1 (omega arith), is-other v (a + m) (λ e. omega arith)),
       λ h l. by (decLt v (a + m)) (ih .1) (ih .2 h) l,
@@ -54,8 +53,7 @@ is-range v (suc m) a =
 is-rising : (v n low : ℕ) (l : List ℕ) → Rising n low l → (total (is v) l ≤ 1) × (v < low → total (is v) l ≡ 0) × (n ≤ v → total (is v) l ≡ 0)
 is-rising v n low [] r = (omega arith, λ h. refl, λ h. refl)
 is-rising v n low (x ∷ l) r =
-    let ih = is-rising v n (suc x) l (r .2) in
-    (
+    let ih = is-rising v n (suc x) l (r .2) in (
       by (decLt v (suc x)) (ih .0) (ih .1),
       λ h. rw (is-other v x (λ e. omega (arith, r .0)), ih .1 (omega (arith, r .0))),
       λ h. rw (is-other v x (λ e. omega (arith, r .1)), ih .2 h),
@@ -117,8 +115,7 @@ queue-at = by-turns (λ m q a. (t : ℕ) → t ≤ m → At m q a t) last turn
         let n : (p : ℕ) → member (x ∷ y ∷ a ∷ R) (suc t) p ≡ member R t p = member-next x y a R t in
         let shift : (i k : ℕ) → k ≡ 2 + i → getD ((q ++ (a ∷ [])) ++ tab m (λ j. suc a + j)) i 0 ≡ getD its k 0
         = λ i k e. ap (λ (r : List ℕ). getD r i 0) (sym (items-turn m (x ∷ y ∷ q) a (omega arith))) ∙ getD-drop 2 its i 0 ∙ ap (λ (j : ℕ). getD its j 0) (sym e) in
-        let s : suc a + t ≡ a + suc t = omega arith in
-        (
+        let s : suc a + t ≡ a + suc t = omega arith in (
           n 0 ∙ i .0 ∙ shift (2 * t) (2 * suc t) (omega arith),
           n 1 ∙ i .1 ∙ shift (2 * t + 1) (2 * suc t + 1) (omega arith),
           n 2 ∙ i .2 ∙ rw (shift (2 * t + 2) (2 * suc t + 2) (omega arith), s, leb·suc-suc (suc t) m),
@@ -128,8 +125,7 @@ queue-at = by-turns (λ m q a. (t : ℕ) → t ≤ m → At m q a t) last turn
 rising-range : (m a low : ℕ) → low ≤ a → Rising (a + m) low (tab m (λ j. a + j))
 rising-range zero a low h = tt
 rising-range (suc m) a low h =
-    let e : a + suc m ≡ suc a + m = omega arith in
-    (
+    let e : a + suc m ≡ suc a + m = omega arith in (
       omega arith,
       omega arith,
       rw (e, tab-same m (λ j. a + suc j) (λ j. suc a + j) (λ j l. omega arith)) (rising-range m (suc a) (suc (a + 0)) (omega arith)),
@@ -163,8 +159,14 @@ module _ (n a : ℕ) (c : List ℕ) (sound : SoundCheck n c) (above : n ≤ a) w
   bit-once : (i : ℕ) → i < length c → occurrences (queue (turns c) c a) (tripleCount c) (getD c i 0) ≡ 1
   bit-once i h =
       let v = getD c i 0 in
-      omega (arith, occurs-here v, is-rising v n 0 c (sound .rising) .0, total-entry (is v) c i h, is-same v,
-      is-range v (turns c) a .0 (omega (arith, rising-below n 0 c (sound .rising) i h)))
+      omega (
+        arith,
+        occurs-here v,
+        is-rising v n 0 c (sound .rising) .0,
+        total-entry (is v) c i h,
+        is-same v,
+        is-range v (turns c) a .0 (omega (arith, rising-below n 0 c (sound .rising) i h)),
+      )
 
   auxiliary-twice : (j : ℕ) → j < turns c → occurrences (queue (turns c) c a) (tripleCount c) (a + j) ≡ 2
   auxiliary-twice j h =
