@@ -5,10 +5,10 @@ use mathlib.Core.Logic.{_↔_}
 use mathlib.Core.Bool.{Bool, true, false, not, cond}
 use Prim.Native.Nat.{ℕ, zero, suc, _+_, _*_, _-_, _<_, _≤_, min}
 use native.Mathlib.Omega.{arith}
-use lib.Dec.{T, leb, ltb, ltb→lt, nltb→le, lt→ltb, leb→le, le→leb}
+use lib.Dec.{T, ltb, ltb→lt, nltb→le, lt→ltb, leb→le, le→leb}
 use lib.IntN.{ℤ, pos, negsuc, negℤ, subℕ, natAbs, _+ℤ_, _-ℤ_, _*ℤ_, +ℤ-assoc, +ℤ-comm, *ℤ-comm, negℤ-+ℤ, negℤ-negℤ}
-use lib.Signed.{mag, ltZ, leZ, ltZ-no, _≤ℤ_, _<ℤ_}
-use borrow.Author.Tests.{leb-false, lt-ltb, le-ltb}
+use lib.Signed.{mag, ltZ, ltZ-no, _≤ℤ_, _<ℤ_}
+use borrow.Author.Tests.{lt-ltb, le-ltb}
 use Rattle.integers.specs.Parts.{up, dn}
 
 -- a − b, shut, so that `simp` meets it as it is written

@@ -1,34 +1,33 @@
 -- Demand 3, for every accepted code. Assumes nothing.
-use mathlib.Core.Path.{_≡_, refl, sym, ap, ap₂, _∙_, subst}
+use mathlib.Core.Path.{_≡_, refl, sym, ap, _∙_}
 use mathlib.Core.Bool.{Bool, true, false, cond}
 use mathlib.Core.List.{List, [], _∷_}
 use Prim.Native.Nat.{ℕ, zero, suc, _+_, _%_, _≤_, _<_}
 use native.Mathlib.Decide.{decLt}
 use native.Mathlib.Omega.{arith}
 use lib.Dec.{ltb, eqb}
-use lib.IntN.{ℤ, pos, negsuc, negℤ, natAbs}
+use lib.IntN.{ℤ, pos, negsuc, natAbs}
 use lib.ListN.{length, getD, List·getD-eq-default}
 use lib.Signed.{ltZ}
-use borrow.Author.Tests.{ltb-true, ltb-false, lt-ltb, eq-eqb, eqb-false}
+use borrow.Author.Tests.{ltb-false, lt-ltb, eqb-false}
 use Rattle.integers.proofs.Linear.{abs-neg}
 use Rattle.lists.specs.Tabulated.{tab}
-use Rattle.lists.specs.Entries.{total, first}
+use Rattle.lists.specs.Entries.{total}
 use Rattle.lists.proofs.Tabulated.{length-tab, getD-tab, tab-same}
 use Rattle.lists.proofs.Entries.{first-same, first-before}
 use Rattle.quotient.specs.Quotient.{quotient}
 use Rattle.quotient.specs.Quotient.Laws.{quotient-odd}
-use Rattle.model.specs.declared.Settings.{Settings}
 use Rattle.model.specs.Causes.{_if_}
 use Rattle.model.specs.Code.{Code}
 use Rattle.model.specs.Records.{codeOf, judge}
 use Rattle.model.specs.Sound.{Sound}
 use Rattle.model.specs.Splitting.{systemOf}
-use Rattle.model.specs.Iteration.{at, State}
+use Rattle.model.specs.Iteration.{at}
 use Rattle.model.specs.Run.{runFrom}
-use Rattle.model.specs.Words.{entry, bitOf, wordOf, firstUndecided, odd, firstOdd, Outcome, found, tested, outcome}
-use Rattle.model.specs.Points.{Bits, Codeword, pointOf}
-use Rattle.model.specs.Reflection.{turned, reflect, sumOfWords, Reflected}
-use Rattle.model.specs.Claims.{Points, ReflectedRun, Reflection, Demand3}
+use Rattle.model.specs.Words.{entry, bitOf, wordOf, firstUndecided, odd, firstOdd, tested, outcome}
+use Rattle.model.specs.Points.{Codeword, pointOf}
+use Rattle.model.specs.Reflection.{turned, reflect, sumOfWords}
+use Rattle.model.specs.Claims.{Reflection, Demand3}
 use Rattle.model.proofs.Accepted.{accepted}
 use Rattle.model.proofs.Points.{totals-bits, point-begins, point-even, point-binary, points}
 use Rattle.model.proofs.Reflection.{turned-zero, opposite, begun, each, ends}

@@ -1,31 +1,28 @@
 -- Codewords and points. Assumes nothing.
 use mathlib.Core.Path.{_≡_, refl, sym, ap, ap₂, _∙_, subst}
-use mathlib.Core.Logic.{_↔_}
 use mathlib.Core.Bool.{Bool, true, false, cond}
-use mathlib.Core.List.{List, [], _∷_, _++_, append-assoc}
-use Prim.Native.Nat.{ℕ, zero, suc, _+_, _*_, _%_, _≤_, _<_}
-use native.Mathlib.Decide.{decLt}
-use native.Mathlib.Nat.{add-zero, add-suc}
+use mathlib.Core.List.{List, [], _∷_, _++_}
+use Prim.Native.Nat.{ℕ, zero, suc, _+_, _%_, _≤_, _<_}
+use native.Mathlib.Nat.{add-zero}
 use native.Mathlib.Omega.{arith}
 use lib.Dec.{T, eqb, lit<}
-use lib.IntN.{ℤ, pos}
-use lib.ListN.{length, getD, take, drop, length-append, length-drop, List·getD-append, List·getD-eq-default}
-use lib.Seq.{take-suc, take-all, length-take-le, getD-take, getD-drop, getD-append-seam, take-at, ext-getD}
+use lib.IntN.{pos}
+use lib.ListN.{length, getD, take, length-append, List·getD-append}
+use lib.Seq.{take-suc, take-all, length-take-le, getD-take, getD-append-seam, ext-getD}
 use lib.Signed.{leZ, _≤ℤ_}
 use borrow.Author.Tests.{eq-eqb, ne-eqb}
 use Rattle.lists.specs.Entries.{total}
 use Rattle.lists.proofs.Entries.{total-append}
 use Rattle.quotient.specs.Quotient.{unit}
-use Rattle.model.specs.Code.{Code, turns, tripleCount, triples, variables}
+use Rattle.model.specs.Code.{Code, turns, tripleCount, triples}
 use Rattle.model.specs.Sound.{Rising, SoundCheck, SoundChecks, Sound}
-use Rattle.model.specs.Splitting.{queue, triplesFrom, System, systemOf, member}
+use Rattle.model.specs.Splitting.{queue, triplesFrom, systemOf, member}
 use Rattle.model.specs.Iteration.{sign, rowSum}
 use Rattle.model.specs.Words.{entry}
 use Rattle.model.specs.Points.{Bits, Codeword, centred, Point, extend, pointOf}
 use Rattle.model.specs.Claims.{Points}
-use Rattle.model.proofs.Rows.{four}
 use Rattle.model.proofs.Queue.{by-turns, member-next}
-use Rattle.model.proofs.Reflection.{two, even-cases}
+use Rattle.model.proofs.Rows.{four, eight, even-cases}
 
 -- ---- a triple meets the system where the sum of its entries is even, and only there
 abbrev Meets : ℕ → ℕ → ℕ → Type 0
@@ -43,15 +40,10 @@ even-meets = even-cases Meets (by 0 0 0 tt tt tt tt) (by 0 1 1 tt tt tt tt) (by 
 
 meets-even : (a b c : ℕ) → a < 2 → b < 2 → c < 2 → Meets a b c → (a + b + c) % 2 ≡ 0
 unfolding rowSum sign
-meets-even a b c ha hb hc =
-    two (λ a. Meets a b c → (a + b + c) % 2 ≡ 0)
-    (two (λ b. Meets 0 b c → (0 + b + c) % 2 ≡ 0)
-    (two (λ c. Meets 0 0 c → (0 + 0 + c) % 2 ≡ 0) (λ m. refl) (λ m. absurd (m 2 (lit< tt) .le)) c hc)
-    (two (λ c. Meets 0 1 c → (0 + 1 + c) % 2 ≡ 0) (λ m. absurd (m 1 (lit< tt) .le)) (λ m. refl) c hc) b hb)
-    (two (λ b. Meets 1 b c → (1 + b + c) % 2 ≡ 0)
-    (two (λ c. Meets 1 0 c → (1 + 0 + c) % 2 ≡ 0) (λ m. absurd (m 0 (lit< tt) .le)) (λ m. refl) c hc)
-    (two (λ c. Meets 1 1 c → (1 + 1 + c) % 2 ≡ 0) (λ m. refl) (λ m. absurd (m 3 (lit< tt) .le)) c hc) b hb)
-    a ha
+meets-even =
+    eight (λ a b c. Meets a b c → (a + b + c) % 2 ≡ 0)
+    (λ m. refl) (λ m. absurd (m 2 (lit< tt) .le)) (λ m. absurd (m 1 (lit< tt) .le)) (λ m. refl)
+    (λ m. absurd (m 0 (lit< tt) .le)) (λ m. refl) (λ m. refl) (λ m. absurd (m 3 (lit< tt) .le))
 
 -- ---- the first n triples of a list are even
 abbrev pub Even : (ℕ → ℕ) → List ℕ → ℕ → Type 0
@@ -66,15 +58,18 @@ module _ (x : ℕ → ℕ) (a b c : ℕ) (ts : List ℕ) where
   even-tail n e t l = rw (member-next a b c ts t 0, member-next a b c ts t 1, member-next a b c ts t 2) at (e (suc t) (omega arith))
 
 -- ---- one check
--- what waits lies below the next auxiliary
+-- every entry is below u: what waits lies below the next auxiliary, and a point has entries below 2
 abbrev Below : ℕ → List ℕ → Type 0
-Below a q = (i : ℕ) → getD q i 0 < a
+Below u q = (i : ℕ) → getD q i 0 < u
 
-below-snoc : (a : ℕ) (q : List ℕ) → Below a q → Below (suc a) (q ++ (a ∷ []))
-below-snoc a [] h zero = omega arith
-below-snoc a [] h (suc i) = omega arith
-below-snoc a (b ∷ q) h zero = omega (arith, h 0)
-below-snoc a (b ∷ q) h (suc i) = below-snoc a q (λ i. h (suc i)) i
+below-snoc : (u v : ℕ) (q : List ℕ) → v < u → Below u q → Below u (q ++ (v ∷ []))
+below-snoc u v [] h b zero = h
+below-snoc u v [] h b (suc i) = omega arith
+below-snoc u v (x ∷ q) h b zero = b 0
+below-snoc u v (x ∷ q) h b (suc i) = below-snoc u v q h (λ i. b (suc i)) i
+
+below-turn : (a x y : ℕ) (q : List ℕ) → Below a (x ∷ y ∷ q) → Below (suc a) (q ++ (a ∷ []))
+below-turn a x y q b = below-snoc (suc a) a q (omega arith) (λ i. omega (arith, b (suc (suc i))))
 
 below-rising : (n low : ℕ) (c : List ℕ) → 0 < n → Rising n low c → Below n c
 below-rising n low [] l r i = l
@@ -93,36 +88,23 @@ check-even x rest n =
     (omega (arith, e 0 (omega arith), i .0, total-append x q (a ∷ [])), i .1))
 
 -- ---- the point that a word is extended to
+along : (P : List ℕ → Type 0) → ((q : List ℕ) (v : ℕ) → v < 2 → P q → P (q ++ (v ∷ []))) → (ts p : List ℕ) → P p → P (extend ts p)
+unfolding extend
+along P more [] p h = h
+along P more (x ∷ []) p h = h
+along P more (x ∷ y ∷ []) p h = h
+along P more (x ∷ y ∷ z ∷ ts) p h = along P more ts _ (by (eqb z (length p)))
+  where
+    by : (t : Bool) → P (cond t (p ++ ((entry p x + entry p y) % 2 ∷ [])) p)
+    by true = more p ((entry p x + entry p y) % 2) (omega arith) h
+    by false = h
+
+extend-binary : (ts p : List ℕ) → Below 2 p → Below 2 (extend ts p)
+extend-binary = along (Below 2) (λ q v h b. below-snoc 2 v q h b)
+
 extend-begins : (ts p : List ℕ) (i : ℕ) → i < length p → entry (extend ts p) i ≡ entry p i
-unfolding extend
-extend-begins [] p i h = refl
-extend-begins (a ∷ []) p i h = refl
-extend-begins (a ∷ b ∷ []) p i h = refl
-extend-begins (a ∷ b ∷ c ∷ ts) p i h = by (eqb c (length p)) (λ p. extend-begins ts p i)
-  where
-    v : ℕ
-    v = (entry p a + entry p b) % 2
-
-    by : (t : Bool) → ((p : List ℕ) → i < length p → entry (extend ts p) i ≡ entry p i) → entry (extend ts (cond t (p ++ (v ∷ [])) p)) i ≡ entry p i
-    by true ih = ih (p ++ (v ∷ [])) (simp length-append (omega arith)) ∙ List·getD-append p (v ∷ []) 0 i h
-    by false ih = ih p h
-
-extend-binary : (ts p : List ℕ) → ((i : ℕ) → entry p i < 2) → (i : ℕ) → entry (extend ts p) i < 2
-unfolding extend
-extend-binary [] p b i = b i
-extend-binary (x ∷ []) p b i = b i
-extend-binary (x ∷ y ∷ []) p b i = b i
-extend-binary (x ∷ y ∷ z ∷ ts) p b i = extend-binary ts _ (by (eqb z (length p))) i
-  where
-    snoc : (l : List ℕ) (v : ℕ) → ((i : ℕ) → entry l i < 2) → v < 2 → (i : ℕ) → entry (l ++ (v ∷ [])) i < 2
-    snoc [] v b h zero = h
-    snoc [] v b h (suc i) = omega arith
-    snoc (u ∷ l) v b h zero = b 0
-    snoc (u ∷ l) v b h (suc i) = snoc l v (λ i. b (suc i)) h i
-
-    by : (t : Bool) (i : ℕ) → entry (cond t (p ++ ((entry p x + entry p y) % 2 ∷ [])) p) i < 2
-    by true = snoc p ((entry p x + entry p y) % 2) b (omega arith)
-    by false = b
+extend-begins ts p i h =
+    along (λ q. (i < length q) × (entry q i ≡ entry p i)) (λ q v l e. (simp length-append (omega (arith, e .0)), List·getD-append q (v ∷ []) 0 i (e .0) ∙ e .1)) ts p (h, refl) .1
 
 -- a step over a triple whose third is the next auxiliary, and over one whose third is not
 extend-made : (x y a : ℕ) (ts p : List ℕ) → length p ≡ a → extend (x ∷ y ∷ a ∷ ts) p ≡ extend ts (p ++ ((entry p x + entry p y) % 2 ∷ []))
@@ -148,7 +130,7 @@ follows r binary rest n =
     let next : a + suc m ≡ suc a + m = omega arith in
     extend-made x y a ts (take a r) (length-take-le a r (omega arith))
     ∙ rw (new, ← take-suc r a 0 (omega arith), next)
-    (ih (below-snoc a q (λ i. b (suc (suc i)))) (omega arith) (even-tail (entry r) x y a ts (suc m + n) (λ t k. e t (omega arith)))))
+    (ih (below-turn a x y q b) (omega arith) (even-tail (entry r) x y a ts (suc m + n) (λ t k. e t (omega arith)))))
 
 -- the extension over a check: m entries are added, which make its triples even where the check is even
 record Grown (rest : List ℕ) (m : ℕ) (q : List ℕ) (a : ℕ) (p : List ℕ) : Type 0 where
@@ -174,7 +156,7 @@ grow rest =
     turn m x y q a ih b p l =
         let v = (entry p x + entry p y) % 2 in
         let ts = queue m (q ++ (a ∷ [])) (suc a) ++ rest in
-        let i = ih (below-snoc a q (λ i. b (suc (suc i)))) (p ++ (v ∷ [])) (length-append p (v ∷ []) ∙ omega arith) in
+        let i = ih (below-turn a x y q b) (p ++ (v ∷ [])) (length-append p (v ∷ []) ∙ omega arith) in
         let seam : entry (p ++ (v ∷ [])) a ≡ v = subst (λ (i : ℕ). entry (p ++ (v ∷ [])) i ≡ v) l (getD-append-seam p v [] 0) in
         record {
           grown = i .grown;

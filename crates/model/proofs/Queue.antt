@@ -1,14 +1,14 @@
 -- The queue rule, for all degrees together. Assumes nothing.
-use mathlib.Core.Path.{_≡_, refl, sym, ap, ap₂, _∙_}
+use mathlib.Core.Path.{_≡_, refl, sym, ap, _∙_}
 use mathlib.Core.List.{List, [], _∷_, _++_}
-use Prim.Native.Nat.{ℕ, zero, suc, _+_, _-_, _*_, _≤_, _<_}
+use Prim.Native.Nat.{ℕ, zero, suc, _+_, _*_}
 use native.Mathlib.Omega.{arith}
-use lib.ListN.{length, getD, take, drop, length-append, take-append-drop}
+use lib.ListN.{length, take, drop, length-append, take-append-drop}
 use Rattle.integers.specs.Sum.{sumℕ}
 use Rattle.integers.proofs.Sums.{sumℕ-same, sumℕ-first, sumℕ-split}
 use Rattle.lists.specs.Entries.{total}
-use Rattle.lists.proofs.Entries.{total-append, total-one}
-use Rattle.model.specs.Code.{turns, tripleCount}
+use Rattle.lists.proofs.Entries.{total-append}
+use Rattle.model.specs.Code.{turns}
 use Rattle.model.specs.Splitting.{queue, triplesFrom, member}
 
 -- ---- each item of the queue is taken once, and each auxiliary is recorded once more when it is made: every sum over the triples

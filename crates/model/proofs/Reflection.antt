@@ -5,8 +5,8 @@ use mathlib.Core.List.{List, [], _∷_}
 use Prim.Native.Nat.{ℕ, zero, suc, _+_, _*_, _%_, _<_}
 use native.Mathlib.Omega.{arith}
 use lib.Dec.{eqb, lit<}
-use lib.IntN.{ℤ, pos, negℤ, natAbs, _+ℤ_, _-ℤ_, _*ℤ_}
-use lib.ListN.{getD, replicate}
+use lib.IntN.{ℤ, pos, negℤ, natAbs, _+ℤ_, _*ℤ_}
+use lib.ListN.{getD}
 use borrow.Author.Tests.{eqb-true}
 use Rattle.integers.specs.Sum.{sumℕ, sumℤ}
 use Rattle.integers.proofs.Linear.{split, toℕ, neg-*ℤ}
@@ -14,11 +14,11 @@ use Rattle.integers.proofs.Sums.{sumℕ-same, sumℤ-same, sumℤ-neg, sumℤ-p
 use Rattle.lists.specs.Tabulated.{tab}
 use Rattle.model.specs.declared.Settings.{Settings}
 use Rattle.model.specs.Splitting.{System, member}
-use Rattle.model.specs.Iteration.{at, row, sign, rowSum, sumAt, slack, multiplier, share, _when_, sumOf, numerator, divisor, renewed, State, sumsOf, valueOf, valuesOf, rowsOf, iterate}
+use Rattle.model.specs.Iteration.{at, row, sign, rowSum, sumAt, slack, multiplier, share, _when_, sumOf, numerator, renewed, State, sumsOf, valueOf, valuesOf, rowsOf, iterate}
 use Rattle.model.specs.Run.{squareOfChange, changes, settledBy, start, after, Ended, runFrom}
 use Rattle.model.specs.Words.{entry}
 use Rattle.model.specs.Reflection.{turned, Opposite, Reflected}
-use Rattle.model.proofs.Rows.{four, three, none, row-renewed}
+use Rattle.model.proofs.Rows.{four, three, even-cases, none, row-renewed}
 
 -- ---- turning
 pub turned-zero : (b : ℕ) → turned b (pos 0) ≡ pos 0
@@ -42,24 +42,7 @@ turned-tab b zero f g v e = sym (turned-zero b)
 turned-tab b (suc n) f g zero e = e
 turned-tab b (suc n) f g (suc v) e = turned-tab b n (λ k. f (suc k)) (λ k. g (suc k)) v e
 
--- ---- the entries of an even triple, and where its rows go
-pub two : (P : ℕ → Type 0) → P 0 → P 1 → (b : ℕ) → b < 2 → P b
-two P x y zero h = x
-two P x y (suc zero) h = y
-two P x y (suc (suc b)) h = absurd (omega arith)
-
-pub even-cases : (P : ℕ → ℕ → ℕ → Type 0) → P 0 0 0 → P 0 1 1 → P 1 0 1 → P 1 1 0
-    → (a b c : ℕ) → a < 2 → b < 2 → c < 2 → (a + b + c) % 2 ≡ 0 → P a b c
-even-cases P p q r s a b c ha hb hc =
-    two (λ a. (a + b + c) % 2 ≡ 0 → P a b c)
-    (two (λ b. (0 + b + c) % 2 ≡ 0 → P 0 b c)
-    (two (λ c. (0 + 0 + c) % 2 ≡ 0 → P 0 0 c) (λ _. p) (λ e. absurd (omega arith)) c hc)
-    (two (λ c. (0 + 1 + c) % 2 ≡ 0 → P 0 1 c) (λ e. absurd (omega arith)) (λ _. q) c hc) b hb)
-    (two (λ b. (1 + b + c) % 2 ≡ 0 → P 1 b c)
-    (two (λ c. (1 + 0 + c) % 2 ≡ 0 → P 1 0 c) (λ e. absurd (omega arith)) (λ _. r) c hc)
-    (two (λ c. (1 + 1 + c) % 2 ≡ 0 → P 1 1 c) (λ _. s) (λ e. absurd (omega arith)) c hc) b hb)
-    a ha
-
+-- ---- where the rows of an even triple go
 -- row q has the signs of row r, turned at the three positions
 abbrev Turned : ℕ → ℕ → ℕ → ℕ → ℕ → Type 0
 Turned a b c r q = (sign q 0 ≡ turned a (sign r 0)) × (sign q 1 ≡ turned b (sign r 1)) × (sign q 2 ≡ turned c (sign r 2))

@@ -2,20 +2,18 @@
 use mathlib.Core.Path.{_≡_, refl, sym, ap, _∙_, subst}
 use mathlib.Core.Bool.{Bool, true, false, cond, _||_}
 use mathlib.Core.List.{List, [], _∷_, _++_, append-assoc}
-use Prim.Native.Nat.{ℕ, zero, suc, _+_, _-_, _*_, _≤_, _<_}
+use Prim.Native.Nat.{ℕ, zero, suc, _+_, _*_, _≤_, _<_}
 use native.Mathlib.Decide.{decLt}
-use native.Mathlib.Nat.{zero-add}
 use native.Mathlib.Omega.{arith}
 use lib.Dec.{T, ltb, eqb, leb·suc-suc}
-use lib.ListN.{length, getD, take, drop, length-append, length-drop, List·getD-append}
+use lib.ListN.{length, getD, drop, length-append}
 use lib.Seq.{getD-drop, drop-append-le, getD-append-add}
 use borrow.Author.Tests.{eqb-true, eq-eqb, ne-eqb, lt-ltb, le-ltb}
 use Rattle.integers.specs.Sum.{sumℕ}
-use Rattle.integers.proofs.Sums.{sumℕ-same, sumℕ-first}
 use Rattle.lists.specs.Tabulated.{tab}
 use Rattle.lists.specs.Entries.{some, total}
 use Rattle.lists.proofs.Tabulated.{length-tab, tab-same, getD-tab}
-use Rattle.lists.proofs.Entries.{total-append, total-one, total-same}
+use Rattle.lists.proofs.Entries.{total-one, total-same}
 use Rattle.model.specs.Causes.{_if_}
 use Rattle.model.specs.Code.{Code, turns, tripleCount, triples, variables}
 use Rattle.model.specs.Sound.{Rising, SoundCheck, SoundChecks, Sound}

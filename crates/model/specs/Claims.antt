@@ -8,10 +8,10 @@ use lib.ListN.{length, take}
 use Rattle.quotient.specs.Quotient.{quotient}
 use Rattle.model.specs.declared.Settings.{Settings}
 use Rattle.model.specs.Code.{Code}
-use Rattle.model.specs.Splitting.{System, systemOf}
+use Rattle.model.specs.Splitting.{systemOf}
 use Rattle.model.specs.Iteration.{State}
-use Rattle.model.specs.Run.{start, after, Ended, runFrom, run}
-use Rattle.model.specs.Words.{Outcome, wordOf, outcome}
+use Rattle.model.specs.Run.{start, after, runFrom}
+use Rattle.model.specs.Words.{wordOf, outcome}
 use Rattle.model.specs.Points.{Bits, Codeword, Point, pointOf}
 use Rattle.model.specs.Reflection.{reflect, sumOfWords, Opposite, Reflected}
 
