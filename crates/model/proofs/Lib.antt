@@ -7,6 +7,7 @@ pub mod Queue
 pub mod TripleRule
 pub mod Bounds
 pub mod Reflection
+pub mod Paper
 pub mod Points
 pub mod Demand3
 pub mod Worked

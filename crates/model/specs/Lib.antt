@@ -15,4 +15,5 @@ pub mod Channel
 pub mod Calls
 pub mod Bounds
 pub mod Claims
+pub mod Paper
 pub mod Table
