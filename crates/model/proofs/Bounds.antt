@@ -5,7 +5,7 @@ use mathlib.Core.List.{List}
 use Prim.Native.Nat.{ℕ, zero, suc, _+_, _*_, _/_, _%_, _^_, _≤_, _<_}
 use native.Mathlib.Omega.{arith}
 use native.Mathlib.Nat.{mul-le-mul, mul-le-mul-left, le-trans, le-of-eq}
-use lib.Dec.{eqb}
+use lib.Dec.{eqb, ltb}
 use lib.IntN.{ℤ, pos, negℤ, natAbs, _+ℤ_, _-ℤ_, _*ℤ_}
 use lib.Signed.{_≤ℤ_, _<ℤ_}
 use Rattle.integers.specs.Parts.{up, dn}
@@ -15,11 +15,17 @@ use Rattle.integers.proofs.Sums.{sumℕ-same, sumℕ-scale, sumℕ-bound, sum�
 use Rattle.quotient.specs.Quotient.{unit, quotient}
 use Rattle.quotient.specs.Quotient.Laws.{quotient-range}
 use Rattle.model.specs.declared.Settings.{Settings}
-use Rattle.model.specs.Causes.{_if_}
-use Rattle.model.specs.Splitting.{System, member}
+use borrow.Author.Tests.{ltb-false}
+use Rattle.model.specs.Causes.{_if_, outside}
+use Rattle.model.specs.Code.{Code}
+use Rattle.model.specs.Sound.{Sound}
+use Rattle.model.specs.Calls.{wild}
+use Rattle.model.specs.Splitting.{System, systemOf, member}
 use Rattle.model.specs.Iteration.{at, row, sign, rowSum, sumAt, slack, multiplier, share, _when_, sumOf, occurrences, numerator, divisor, renewed, State, sumsOf, valueOf, valuesOf, rowsOf, iterate}
 use Rattle.model.specs.Run.{squareOfChange, changes, start, after}
 use Rattle.model.specs.Bounds.{RowsWithin, Ready, Bounds}
+use Rattle.model.proofs.Causes.{within, or-false}
+use Rattle.model.proofs.TripleRule.{occurs-some, occurs-few}
 use Rattle.model.proofs.Rows.{sign-one, at-tab, none, row-renewed}
 
 -- ---- the four sums, and a row's renewal
@@ -166,3 +172,18 @@ pub rows-after : (g : System) (o : Settings) (costs : List ℤ) → Ready g o co
 unfolding after
 rows-after g o costs ready zero = start-within g
 rows-after g o costs ready (suc n) = bounds g o costs n (after quotient g o costs n (start g)) ready (rows-after g o costs ready n) .rows
+
+-- ---- an accepted code, settings and costs are ready
+pub ready : (k : Code) → Sound k → (o : Settings) → wild o ≡ false → (costs : List ℤ) → ((v : ℕ) → natAbs (at costs v) ≤ 32767) → Ready (systemOf k) o costs
+unfolding systemOf
+ready k s o h costs small =
+    let a = or-false (outside 1 65535 (o .weight)) _ h in
+    let b = or-false (ltb 1023 (o .ratio)) _ (a .1) in
+    record {
+      some = occurs-some k s;
+      few = occurs-few k s;
+      triples = s .triples-most;
+      weight = within 1 65535 (o .weight) (a .0) .1;
+      ratio = ltb-false 1023 (o .ratio) (b .0);
+      cost = small;
+    }
