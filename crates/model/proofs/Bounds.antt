@@ -26,12 +26,9 @@ use Rattle.model.specs.Run.{squareOfChange, changes, start, after}
 use Rattle.model.specs.Bounds.{RowsWithin, Ready, Bounds}
 use Rattle.model.proofs.Causes.{within, or-false}
 use Rattle.model.proofs.TripleRule.{occurs-some, occurs-few}
-use Rattle.model.proofs.Rows.{sign-one, at-tab, none, row-renewed}
+use Rattle.model.proofs.Rows.{signed-abs, at-tab, none, row-renewed}
 
 -- ---- the four sums, and a row's renewal
-term : (r p : ℕ) (c : ℤ) → r < 4 → p < 3 → natAbs c ≤ unit → natAbs (sign r p *ℤ c) ≤ unit
-term r p c h l k = rw (abs-mul (sign r p) c, sign-one r p h l) (omega arith)
-
 pub rowSum-bound : (r : ℕ) (a b c : ℤ) → r < 4 → natAbs a ≤ unit → natAbs b ≤ unit → natAbs c ≤ unit → natAbs (rowSum r a b c) ≤ 49152
 unfolding rowSum
 rowSum-bound r a b c h x y z =
@@ -39,9 +36,9 @@ rowSum-bound r a b c h x y z =
       arith,
       abs-add (sign r 0 *ℤ a +ℤ sign r 1 *ℤ b) (sign r 2 *ℤ c),
       abs-add (sign r 0 *ℤ a) (sign r 1 *ℤ b),
-      term r 0 a h (omega arith) x,
-      term r 1 b h (omega arith) y,
-      term r 2 c h (omega arith) z,
+      signed-abs r 0 a h (omega arith),
+      signed-abs r 1 b h (omega arith),
+      signed-abs r 2 c h (omega arith),
     )
 
 module _ (s sum : ℤ) (small : natAbs sum ≤ 49152) where
@@ -84,7 +81,7 @@ module _ (g : System) (o : Settings) (costs : List ℤ) (n : ℕ) (a : State) (r
   share-bound t p l =
       let size : ℕ → ℕ = λ r. slack (row (a .rows) t r) + multiplier (row (a .rows) t r) in
       let each : (r : ℕ) → r < 4 → natAbs (sign r p *ℤ pos (size r)) ≤ 32768 * (n + 2)
-      = λ r h. rw (abs-mul (sign r p) (pos (size r)), sign-one r p h l) (omega (arith, within .multipliers (4 * t + r), within .slacks (4 * t + r))) in
+      = λ r h. rw (signed-abs r p (pos (size r)) h l) (omega (arith, within .multipliers (4 * t + r), within .slacks (4 * t + r))) in
       le-trans (sumℤ-bound 4 (λ r. sign r p *ℤ pos (size r)) (λ _. 32768 * (n + 2)) each) (omega arith)
 
   when-bound : (t : Bool) (z : ℤ) (u : ℕ) → natAbs z ≤ u → natAbs (z when t) ≤ u * (1 if t)

@@ -5,8 +5,9 @@ use mathlib.Core.List.{List}
 use Prim.Native.Nat.{ℕ, zero, suc, _+_, _*_, _/_, _%_, _<_}
 use native.Mathlib.Decide.{decLt}
 use native.Mathlib.Omega.{arith}
-use lib.IntN.{ℤ, pos, natAbs}
+use lib.IntN.{ℤ, pos, natAbs, _*ℤ_}
 use lib.ListN.{replicate, List·getD-eq-default}
+use Rattle.integers.proofs.Linear.{abs-mul}
 use Rattle.lists.specs.Tabulated.{tab}
 use Rattle.lists.proofs.Tabulated.{length-tab, getD-tab}
 use Rattle.model.specs.Splitting.{System}
@@ -50,6 +51,9 @@ sign-one r p h l =
     (three (λ p. natAbs (sign 2 p) ≡ 1) refl refl refl)
     (three (λ p. natAbs (sign 3 p) ≡ 1) refl refl refl)
     r h p l
+
+pub signed-abs : (r p : ℕ) (x : ℤ) → r < 4 → p < 3 → natAbs (sign r p *ℤ x) ≡ natAbs x
+signed-abs r p x h l = abs-mul (sign r p) x ∙ rw (sign-one r p h l) (omega arith)
 
 -- an entry of a tabulated list is the function's, or 0 past the end
 pub at-tab : (P : ℤ → Type 0) (n : ℕ) (f : ℕ → ℤ) (i : ℕ) → (i < n → P (f i)) → P (pos 0) → P (at (tab n f) i)
