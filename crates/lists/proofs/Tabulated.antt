@@ -1,11 +1,11 @@
 -- Lists given by their entries. Assumes nothing.
 use mathlib.Core.Path.{_≡_, refl, sym, ap, ap₂, _∙_}
 use mathlib.Core.Logic.{_≢_}
-use mathlib.Core.List.{List, [], _∷_, _++_}
-use Prim.Native.Nat.{ℕ, zero, suc, _-_, _≤_, _<_}
+use mathlib.Core.List.{List, [], _∷_, _++_, append-nil}
+use Prim.Native.Nat.{ℕ, zero, suc, _+_, _-_, _≤_, _<_}
 use native.Mathlib.Omega.{arith}
-use lib.ListN.{length, getD, drop, set, length-append, length-drop, List·getD-append}
-use lib.Seq.{drop-at, set-append-left, getD-append-add, getD-drop}
+use lib.ListN.{length, getD, drop, set, length-append, length-drop, drop-of-length-le, List·getD-append}
+use lib.Seq.{sets, drop-at, set-append-left, getD-append-add, getD-drop}
 use Rattle.lists.specs.Tabulated.{tab, over, written}
 
 module _ {ℓ} {A : Type ℓ} where
@@ -28,7 +28,8 @@ module _ {ℓ} {A : Type ℓ} where
   tab-getD [] d = refl
   tab-getD (x ∷ l) d = ap (_∷_ x) (tab-getD l d)
 
-  tab-set : (n : ℕ) (f g : ℕ → A) (v : ℕ) (x : A) → v < n → g v ≡ x → ((u : ℕ) → u < n → u ≢ v → g u ≡ f u) → set (tab n f) v x ≡ tab n g
+  -- one store
+  pub tab-set : (n : ℕ) (f g : ℕ → A) (v : ℕ) (x : A) → v < n → g v ≡ x → ((u : ℕ) → u < n → u ≢ v → g u ≡ f u) → set (tab n f) v x ≡ tab n g
   tab-set zero f g v x h e k = absurd (omega arith)
   tab-set (suc n) f g zero x h e k =
       ap₂ _∷_ (sym e) (tab-same n (λ i. f (suc i)) (λ i. g (suc i)) (λ i l. sym (k (suc i) (omega arith) (λ p. omega arith))))
@@ -56,6 +57,17 @@ module _ {ℓ} {A : Type ℓ} where
   over-next zero f (y ∷ old) x h e = rw e
   over-next (suc n) f (y ∷ old) x h e = ap (_∷_ (f 0)) (over-next n (λ k. f (suc k)) old x (omega arith) e)
 
+  -- k stores there
+  pub over-sets : (k n : ℕ) (f : ℕ → A) (old : List A) → n + k ≤ length old → sets (over n f old) n (tab k (λ i. f (n + i))) ≡ over (n + k) f old
+  over-sets zero n f old h = let z : n + 0 ≡ n = omega arith in rw z
+  over-sets (suc k) n f old h =
+      let z : f n ≡ f (n + 0) = ap f (omega arith) in
+      let m : suc n + k ≡ n + suc k = omega arith in
+      ap (λ (l : List A). sets l (suc n) (tab k (λ i. f (n + suc i)))) (over-next n f old (f (n + 0)) (omega arith) z)
+      ∙ ap (sets (over (suc n) f old) (suc n)) (tab-same k (λ i. f (n + suc i)) (λ i. f (suc n + i)) (λ i l. ap f (omega arith)))
+      ∙ over-sets k (suc n) f old (omega arith)
+      ∙ ap (λ (j : ℕ). over j f old) m
+
   -- one store among what is filled changes one entry of the function
   pub over-set : (n : ℕ) (f g : ℕ → A) (old : List A) (v : ℕ) (x : A) → v < n → g v ≡ x → ((u : ℕ) → u < n → u ≢ v → g u ≡ f u)
       → set (over n f old) v x ≡ over n g old
@@ -68,6 +80,10 @@ module _ {ℓ} {A : Type ℓ} where
   -- what stood in the entries that are filled is of no account
   pub over-over : (n : ℕ) (f g : ℕ → A) (old : List A) → over n f (over n g old) ≡ over n f old
   over-over n f g old = ap (λ (l : List A). tab n f ++ l) (drop-at (tab n g) (drop n old) n (length-tab n g))
+
+  -- all of it
+  pub over-whole : (n : ℕ) (f : ℕ → A) (old : List A) → length old ≤ n → over n f old ≡ tab n f
+  over-whole n f old h = rw (drop-of-length-le old h) (append-nil (tab n f))
 
   -- ---- written
   pub over-tab : (n : ℕ) (f : ℕ → A) (old : List A) → over n f old ≡ written (tab n f) old
