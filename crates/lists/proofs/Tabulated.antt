@@ -1,10 +1,10 @@
 -- Lists given by their entries. Assumes nothing.
 use mathlib.Core.Path.{_≡_, refl, sym, ap, ap₂, _∙_}
 use mathlib.Core.Logic.{_≢_}
-use mathlib.Core.List.{List, [], _∷_, _++_}
+use mathlib.Core.List.{List, [], _∷_, _++_, map}
 use Prim.Native.Nat.{ℕ, zero, suc, _+_, _-_, _≤_, _<_}
 use native.Mathlib.Omega.{arith}
-use lib.ListN.{length, getD, drop, set, length-append, length-drop, drop-of-length-le, List·getD-append, List·getD-eq-default}
+use lib.ListN.{length, getD, drop, set, length-append, length-drop, drop-of-length-le, length-map, List·getD-append, List·getD-eq-default}
 use lib.Seq.{drop-at, set-append-left, getD-append-add, getD-drop}
 use Rattle.lists.specs.Tabulated.{tab, over, written}
 
@@ -81,3 +81,11 @@ module _ {ℓ} {A : Type ℓ} where
 
   pub written-in : (l old : List A) (i : ℕ) (d : A) → i < length l → getD (written l old) i d ≡ getD l i d
   written-in l old i d h = List·getD-append l (drop (length l) old) d i h
+
+-- a function of each entry
+pub tab-map : {A B : Type 0} (g : A → B) (l : List A) (d : A) → tab (length l) (λ i. g (getD l i d)) ≡ map g l
+tab-map g [] d = refl
+tab-map g (x ∷ l) d = ap (_∷_ (g x)) (tab-map g l d)
+
+pub over-map : {A B : Type 0} (g : A → B) (l : List A) (d : A) (old : List B) → over (length l) (λ i. g (getD l i d)) old ≡ written (map g l) old
+over-map g l d old = rw (length-map l g, tab-map g l d)

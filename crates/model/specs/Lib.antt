@@ -12,3 +12,4 @@ pub mod Reflection
 pub mod Channel
 pub mod Calls
 pub mod Table
+pub mod ChannelClaims
