@@ -88,7 +88,7 @@ erasing-product p s m e = rw (above-zero s m e, below-zero s m e) (by s (ltb 0 (
     by false false = zeros (lt (fin false m e) (p .floor))
 
 -- ---- an f32 value, and no NaN
-finite-number : (x : Float) → finite x ≡ true → (isNan x ≡ false) × (isNan (neg x) ≡ false)
+pub finite-number : (x : Float) → finite x ≡ true → (isNan x ≡ false) × (isNan (neg x) ≡ false)
 unfolding isNan neg
 finite-number nan h = (cc, cc)
 finite-number (inf s) h = (cc, cc)

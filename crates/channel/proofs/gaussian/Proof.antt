@@ -1,0 +1,98 @@
+-- `channel::gaussian` meets its contract: after i turns the first i entries are the costs of the first i samples. Assumes nothing.
+use mathlib.Core.Path.{_≡_, refl, sym, ap, _∙_}
+use mathlib.Core.Bool.{true, not}
+use Prim.Native.Nat.{ℕ, _+_, _≤_, _<_, _-_}
+use native.Mathlib.Numerals.{add-one}
+use native.Mathlib.Omega.{arith}
+use borrow.Author.Needs.{needs}
+use borrow.Author.Tests.{not-false}
+use lib.Ieee.{Float, nan}
+use lib.ListN.{length, getD}
+use Rattle.lists.proofs.Entries.{some-at}
+use Rattle.model.specs.declared.Channel.the-variants.{Gaussian}
+use Rattle.model.specs.Channel.{finite, costOf, product}
+use Rattle.model.proofs.Products.{product-number}
+use Rattle.channel.proofs.Filling.{filled, filled-length, filled-next, filled-end}
+use Rattle.channel.proofs.gaussian.Statement.{statement}
+use Rattle.channel.proofs.gaussian.Tie as tie
+
+abbrev Inv-loop : tie.InvT-loop
+Inv-loop scale samples costs₀ i₀ costs i =
+    (i ≤ length samples) × (costs ≡ filled (costOf (Gaussian scale)) samples costs₀ i)
+
+abbrev μ-loop : tie.MeasureT-loop
+μ-loop scale samples costs₀ i₀ costs i = length samples - i
+
+long : (l : tie.At-loop Inv-loop μ-loop) → length (l .loop .costs) ≡ length (l .before .before .args .costs .now)
+long l =
+    let s = l .before .before in
+    rw (l .loop .inv .1)
+    (filled-length (costOf (Gaussian (s .args .scale))) (s .args .samples .now) (s .args .costs .now) (l .loop .i) (s .pre .1 .1) (l .loop .inv .0))
+
+loop-holds : tie.Need-loop-holds Inv-loop μ-loop
+loop-holds c = (omega arith, refl)
+
+mul-cost : tie.Need-mul-cost Inv-loop μ-loop
+mul-cost c = search needs
+
+shared-slice-read-cost : tie.Need-shared-slice-read-cost Inv-loop μ-loop
+shared-slice-read-cost c = search needs
+
+cost-requires : tie.Need-cost-requires Inv-loop μ-loop
+unfolding product
+cost-requires c κs =
+    let s = c .before .before .before .before in
+    let i = c .before .before .loop .i in
+    let x = getD (s .args .samples .now) i nan in
+    let k : finite x ≡ true = not-false (finite x) (some-at (λ x. not (finite x)) (s .args .samples .now) i nan (s .pre .1 .0) (c .before .loop-test .taken)) in
+    rw (product-number (Gaussian (s .args .scale)) x (s .pre .0) k) tt
+
+mul-t11 : tie.Need-mul-t11 Inv-loop μ-loop
+mul-t11 c = search needs
+
+slice-set-from-costs : tie.Need-slice-set-from-costs Inv-loop μ-loop
+slice-set-from-costs c = omega (arith, long (c .before .before .before))
+
+add-i : tie.Need-add-i Inv-loop μ-loop
+add-i c = search needs
+
+loop-less : tie.Need-loop-less Inv-loop μ-loop
+loop-less c = search needs
+
+loop-again : tie.Need-loop-again Inv-loop μ-loop
+loop-again c =
+    let l = c .before .before .before in
+    let s = l .before .before in (
+      omega arith,
+      rw (l .loop .inv .1)
+          (unfold costOf product in filled-next (costOf (Gaussian (s .args .scale))) (s .args .samples .now) (s .args .costs .now) (l .loop .i) (s .pre .1 .1)
+          (c .cost .result) (c .before .before .loop-test .taken) (c .cost .ok) (c .cost .ensures)),
+    )
+
+same-length : tie.Need-same-length Inv-loop μ-loop
+same-length c = long (c .before)
+
+returns : tie.Need-returns Inv-loop μ-loop
+returns c =
+    let l = c .before in
+    let s = l .before .before in
+    l .loop .inv .1
+    ∙ filled-end (costOf (Gaussian (s .args .scale))) (s .args .samples .now) (s .args .costs .now) (l .loop .i) (s .pre .1 .1) (l .loop .inv .0) (c .loop-test .left)
+
+pub gaussian-spec : {M : Type 1} → statement M
+gaussian-spec =
+    tie.close
+    (tie.spec
+    Inv-loop
+    μ-loop
+    loop-holds
+    mul-cost
+    shared-slice-read-cost
+    cost-requires
+    mul-t11
+    slice-set-from-costs
+    add-i
+    loop-less
+    loop-again
+    same-length
+    returns)
