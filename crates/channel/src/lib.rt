@@ -93,7 +93,8 @@ fn some_not_finite(samples: &[f32]) -> bool
     let mut found = false;
     let mut i = 0;
     while i < samples.len() {
-        found = found | !is_finite(samples[i]);
+        let x = samples[i];
+        found = found | !is_finite(x);
         i += 1;
     }
     found

@@ -1,8 +1,9 @@
 -- Tests of a list's entries, and the first index that passes. Assumes nothing.
-use mathlib.Core.Path.{_≡_, refl, sym, ap, subst}
+use mathlib.Core.Path.{_≡_, refl, sym, ap, subst, _∙_}
 use mathlib.Core.Bool.{Bool, true, false, not, cond, _&&_, _||_, or-assoc, or-false}
 use mathlib.Core.List.{List, [], _∷_}
-use Prim.Native.Nat.{ℕ, zero, suc, _≤_, _<_}
+use Prim.Native.Nat.{ℕ, zero, suc, _+_, _≤_, _<_}
+use native.Mathlib.Numerals.{add-one}
 use native.Mathlib.Omega.{arith}
 use lib.Dec.{T}
 use lib.ListN.{length, getD, drop, drop-of-length-le}
@@ -45,12 +46,16 @@ module _ {A : Type 0} (f : A → Bool) where
 
 -- ---- some
 module _ {A : Type 0} (f : A → Bool) where
-  -- found: whether one of the entries before i passed
-  pub some-next : (found : Bool) (l : List A) (i : ℕ) (d : A) → i < length l → (found || some f (drop i l)) ≡ ((found || f (getD l i d)) || some f (drop (suc i) l))
-  some-next found l i d h = rw (drop-cons l i d h) (sym (or-assoc found (f (getD l i d)) (some f (drop (suc i) l))))
+  -- of a loop that looks at each entry: what was found before i, or is to be found from i on, decides
+  abbrev pub Found : List A → Bool → ℕ → Type 0
+  Found l found i = (found || some f (drop i l)) ≡ some f l
 
-  pub some-end : (found : Bool) (l : List A) (i : ℕ) → length l ≤ i → (found || some f (drop i l)) ≡ found
-  some-end found l i h = rw (drop-of-length-le l h) (or-false found)
+  pub found-next : (l : List A) (found : Bool) (i : ℕ) (d : A) → i < length l → Found l found i → Found l (found || f (getD l i d)) (i + 1)
+  found-next l found i d h e =
+      rw (add-one i) (or-assoc found (f (getD l i d)) (some f (drop (suc i) l)) ∙ ap (λ (k : List A). found || some f k) (sym (drop-cons l i d h)) ∙ e)
+
+  pub found-end : (l : List A) (found : Bool) (i : ℕ) → length l ≤ i → Found l found i → found ≡ some f l
+  found-end l found i h e = sym (or-false found) ∙ ap (λ (k : List A). found || some f k) (sym (drop-of-length-le l h)) ∙ e
 
   -- where none passes, each entry fails
   pub some-at : (l : List A) (i : ℕ) (d : A) → some f l ≡ false → i < length l → f (getD l i d) ≡ false

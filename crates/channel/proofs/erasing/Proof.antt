@@ -8,18 +8,20 @@ use lib.Ieee.{Float, nan, binary32, isNan, lt, neg, toBits}
 use lib.IntN.{ℤ, pos}
 use lib.ListN.{length, getD}
 use mir.Syntax.{w16}
+use mir.Val.{SFits, toZ, ofZ}
 use mir.Facts.{toZ-ofZ}
+use Rattle.lists.specs.Tabulated.{over}
+use Rattle.lists.proofs.Tabulated.{length-over, over-stored, over-map}
 use Rattle.model.specs.declared.Erasure.{Erasure}
 use Rattle.model.specs.declared.Channel.the-variants.{Erasing}
 use Rattle.model.specs.Channel.{zeroFloat, hard, sizeOf, product, costOfBits, costOf}
 use Rattle.model.proofs.Products.{finite-number, scale-finite, weight-in-range}
-use Rattle.channel.proofs.Filling.{filled, filled-length, filled-next, filled-end}
 use Rattle.channel.proofs.erasing.Statement.{statement}
 use Rattle.channel.proofs.erasing.Tie as tie
 
 abbrev Inv-loop : tie.InvT-loop
 Inv-loop samples costs₀ floor weight above below i₀ costs i =
-    (i ≤ length samples) × (costs ≡ filled (costOf (Erasing (record { floor = floor; weight = weight }))) samples costs₀ i)
+    (i ≤ length samples) × (costs ≡ over i (λ k. costOf (Erasing (record { floor = floor; weight = weight })) (getD samples k nan)) costs₀)
 
 abbrev μ-loop : tie.MeasureT-loop
 μ-loop samples costs₀ floor weight above below i₀ costs i = length samples - i
@@ -27,8 +29,7 @@ abbrev μ-loop : tie.MeasureT-loop
 long : (l : tie.At-loop Inv-loop μ-loop) → length (l .loop .costs) ≡ length (l .before .before .before .before .args .costs .now)
 long l =
     let s = l .before .before .before .before in
-    rw (l .loop .inv .1)
-    (filled-length (costOf (Erasing (s .args .pair))) (s .args .samples .now) (s .args .costs .now) (l .loop .i) (s .pre .1) (l .loop .inv .0))
+    rw (l .loop .inv .1) (length-over (l .loop .i) _ (s .args .costs .now) (omega (arith, s .pre .1)))
 
 weight-number : (s : tie.Start Inv-loop μ-loop) → (isNan (s .args .pair .weight) ≡ false) × (isNan (neg (s .args .pair .weight)) ≡ false)
 weight-number s = finite-number (s .args .pair .weight) (scale-finite (s .args .pair .weight) (weight-in-range (s .args .pair) (s .pre .0)))
@@ -52,6 +53,10 @@ erasing-costs p x = by (lt (sizeOf x) (p .floor)) (lt zeroFloat x) (lt x zeroFlo
     by false false true = refl
     by false false false = refl
 
+-- a cost that a call answered goes through its bits
+kept : (z : ℤ) → SFits w16 z → toZ w16 (ofZ w16 z) ≡ z
+kept z f = toZ-ofZ f
+
 selected-is : (c : tie.After-selected Inv-loop μ-loop)
     → let l = c .before .before .before in
     let s = l .before .before .before .before in
@@ -62,7 +67,7 @@ selected-is c =
     let a = l .before .before in
     let b = l .before in
     c .selected .ensures
-    ∙ rw (toZ-ofZ {w = w16} (record { sfits = a .cost .ok }), a .cost .ensures, toZ-ofZ {w = w16} (record { sfits = b .cost2 .ok }), b .cost2 .ensures)
+    ∙ rw (kept (a .cost .result) (record { sfits = a .cost .ok }), a .cost .ensures, kept (b .cost2 .result) (record { sfits = b .cost2 .ok }), b .cost2 .ensures)
     (sym (erasing-costs (s .args .pair) (getD (s .args .samples .now) (l .loop .i) nan)))
 
 cost-requires : tie.Need-cost-requires Inv-loop μ-loop
@@ -101,8 +106,7 @@ loop-again c =
     let s = l .before .before .before .before in (
       omega arith,
       rw (l .loop .inv .1)
-          (filled-next (costOf (Erasing (s .args .pair))) (s .args .samples .now) (s .args .costs .now) (l .loop .i) (s .pre .1)
-          (c .selected .result) (c .before .before .loop-test .taken) (c .selected .ok) (selected-is c)),
+      (over-stored w16 (l .loop .i) _ (s .args .costs .now) (c .selected .result) (omega (arith, s .pre .1)) (record { sfits = c .selected .ok }) (selected-is c)),
     )
 
 same-length : tie.Need-same-length Inv-loop μ-loop
@@ -112,8 +116,8 @@ returns : tie.Need-returns Inv-loop μ-loop
 returns c =
     let l = c .before in
     let s = l .before .before .before .before in
-    l .loop .inv .1
-    ∙ filled-end (costOf (Erasing (s .args .pair))) (s .args .samples .now) (s .args .costs .now) (l .loop .i) (s .pre .1) (l .loop .inv .0) (c .loop-test .left)
+    let e : l .loop .i ≡ length (s .args .samples .now) = omega arith in
+    l .loop .inv .1 ∙ rw e (over-map (costOf (Erasing (s .args .pair))) (s .args .samples .now) nan (s .args .costs .now))
 
 pub erasing-spec : {M : Type 1} → statement M
 erasing-spec =

@@ -2,32 +2,30 @@
 use mathlib.Core.Path.{_≡_, refl, sym, ap, _∙_}
 use mathlib.Core.Bool.{true, not}
 use Prim.Native.Nat.{ℕ, _+_, _≤_, _<_, _-_}
-use native.Mathlib.Numerals.{add-one}
 use native.Mathlib.Omega.{arith}
 use borrow.Author.Needs.{needs}
 use borrow.Author.Tests.{not-false}
 use lib.Ieee.{Float, nan}
 use lib.ListN.{length, getD}
+use mir.Syntax.{w16}
+use Rattle.lists.specs.Tabulated.{over}
+use Rattle.lists.proofs.Tabulated.{length-over, over-stored, over-map}
 use Rattle.lists.proofs.Entries.{some-at}
 use Rattle.model.specs.declared.Channel.the-variants.{Gaussian}
 use Rattle.model.specs.Channel.{finite, costOf, product}
 use Rattle.model.proofs.Products.{product-number}
-use Rattle.channel.proofs.Filling.{filled, filled-length, filled-next, filled-end}
 use Rattle.channel.proofs.gaussian.Statement.{statement}
 use Rattle.channel.proofs.gaussian.Tie as tie
 
 abbrev Inv-loop : tie.InvT-loop
 Inv-loop scale samples costs₀ i₀ costs i =
-    (i ≤ length samples) × (costs ≡ filled (costOf (Gaussian scale)) samples costs₀ i)
+    (i ≤ length samples) × (costs ≡ over i (λ k. costOf (Gaussian scale) (getD samples k nan)) costs₀)
 
 abbrev μ-loop : tie.MeasureT-loop
 μ-loop scale samples costs₀ i₀ costs i = length samples - i
 
 long : (l : tie.At-loop Inv-loop μ-loop) → length (l .loop .costs) ≡ length (l .before .before .args .costs .now)
-long l =
-    let s = l .before .before in
-    rw (l .loop .inv .1)
-    (filled-length (costOf (Gaussian (s .args .scale))) (s .args .samples .now) (s .args .costs .now) (l .loop .i) (s .pre .1 .1) (l .loop .inv .0))
+long l = rw (l .loop .inv .1) (length-over (l .loop .i) _ (l .before .before .args .costs .now) (omega arith))
 
 loop-holds : tie.Need-loop-holds Inv-loop μ-loop
 loop-holds c = (omega arith, refl)
@@ -60,13 +58,12 @@ loop-less : tie.Need-loop-less Inv-loop μ-loop
 loop-less c = search needs
 
 loop-again : tie.Need-loop-again Inv-loop μ-loop
+unfolding costOf product
 loop-again c =
-    let l = c .before .before .before in
-    let s = l .before .before in (
+    let l = c .before .before .before in (
       omega arith,
       rw (l .loop .inv .1)
-          (unfold costOf product in filled-next (costOf (Gaussian (s .args .scale))) (s .args .samples .now) (s .args .costs .now) (l .loop .i) (s .pre .1 .1)
-          (c .cost .result) (c .before .before .loop-test .taken) (c .cost .ok) (c .cost .ensures)),
+      (over-stored w16 (l .loop .i) _ (l .before .before .args .costs .now) (c .cost .result) (omega arith) (record { sfits = c .cost .ok }) (c .cost .ensures)),
     )
 
 same-length : tie.Need-same-length Inv-loop μ-loop
@@ -76,8 +73,8 @@ returns : tie.Need-returns Inv-loop μ-loop
 returns c =
     let l = c .before in
     let s = l .before .before in
-    l .loop .inv .1
-    ∙ filled-end (costOf (Gaussian (s .args .scale))) (s .args .samples .now) (s .args .costs .now) (l .loop .i) (s .pre .1 .1) (l .loop .inv .0) (c .loop-test .left)
+    let e : l .loop .i ≡ length (s .args .samples .now) = omega arith in
+    l .loop .inv .1 ∙ rw e (over-map (costOf (Gaussian (s .args .scale))) (s .args .samples .now) nan (s .args .costs .now))
 
 pub gaussian-spec : {M : Type 1} → statement M
 gaussian-spec =

@@ -2,9 +2,6 @@
 use borrow.Author.Needs.{needs}
 use mathlib.Core.Path.{_≡_, sym, ap, _∙_}
 use lib.Ieee.{Float, ofBits, lt}
-use lib.IntN.{ℤ}
-use mir.Syntax.{w16}
-use mir.Val.{SFits, toZ, ofZ}
 use mir.Facts.{toZ-ofZ}
 use Rattle.model.specs.Channel.{sizeOf}
 use Rattle.channel.proofs.selected.Statement.{statement}
@@ -12,10 +9,6 @@ use Rattle.channel.proofs.selected.Tie as tie
 
 size-requires : tie.Need-size-requires
 size-requires c κs = search needs
-
--- a weight's cost that was passed
-kept : (z : ℤ) → SFits w16 z → toZ w16 (ofZ w16 z) ≡ z
-kept z f = toZ-ofZ {w = w16} f
 
 erased : (c : tie.After-size) → lt (c .size .result) (c .before .args .floor) ≡ lt (sizeOf (c .before .args .x)) (c .before .args .floor)
 erased c = ap (λ (y : Float). lt y (c .before .args .floor)) (c .size .ensures)
@@ -25,11 +18,11 @@ returns c = rw (sym (erased (c .before)) ∙ c .if1 .taken)
 
 returns-2 : tie.Need-returns-2
 unfolding ofBits
-returns-2 c = rw (sym (erased (c .before .before)) ∙ c .before .if1 .left, c .if2 .taken) (kept _ (c .before .before .before .fits .above))
+returns-2 c = rw (sym (erased (c .before .before)) ∙ c .before .if1 .left, c .if2 .taken) (toZ-ofZ (c .before .before .before .fits .above))
 
 returns-3 : tie.Need-returns-3
 unfolding ofBits
-returns-3 c = rw (sym (erased (c .before .before .before)) ∙ c .before .before .if1 .left, c .before .if2 .left, c .if3 .taken) (kept _ (c .before .before .before .before .fits .below))
+returns-3 c = rw (sym (erased (c .before .before .before)) ∙ c .before .before .if1 .left, c .before .if2 .left, c .if3 .taken) (toZ-ofZ (c .before .before .before .before .fits .below))
 
 returns-4 : tie.Need-returns-4
 unfolding ofBits
