@@ -29,6 +29,10 @@ abs-fits {w} {z} f = natAbs-le z (f .sfits)
 pub widen : {w w′ : Width} {z : ℤ} → SFits w z → T (leb (hbits w) (hbits w′)) → SFits w′ z
 widen {w} {w′} f t = record { sfits = lt-of-lt-of-le (f .sfits) (pow-mono (leb→le (hbits w) (hbits w′) t)) }
 
+-- a parameter, an element of a list or a call's result goes through its bits, and is what it was
+pub kept : (w : Width) (z : ℤ) → mag z < 2 ^ hbits w → toZ w (ofZ w z) ≡ z
+kept w z f = toZ-ofZ {w = w} (record { sfits = f })
+
 -- ---- what an expression is worth
 pub record Worth (raw z : ℤ) (b : ℕ) : Type 0 where
   pub is : raw ≡ z
@@ -45,9 +49,9 @@ module _ {raw z : ℤ} {b : ℕ} (v : Worth raw z b) where
   pub stored : (w : Width) → T (ltb b (2 ^ hbits w)) → Worth (toZ w (ofZ w raw)) z b
   stored w t = record { is = toZ-ofZ {w = w} (fits w t) ∙ v .is; within = v .within }
 
--- a parameter, an element of a list or a call's result, of which is known that it fits its width
+-- such a value, with its bound
 pub local : (w : Width) {r z : ℤ} (b : ℕ) → mag r < 2 ^ hbits w → r ≡ z → natAbs z ≤ b → Worth (toZ w (ofZ w r)) z b
-local w b f e h = record { is = toZ-ofZ {w = w} (record { sfits = f }) ∙ e; within = h }
+local w {r} b f e h = record { is = kept w r f ∙ e; within = h }
 
 -- an unsigned number, cast
 pub unsigned : (w : Width) (n b : ℕ) → T (ltb b (2 ^ hbits w)) → n ≤ b → Worth (toZ w n) (pos n) b

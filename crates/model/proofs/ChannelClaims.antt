@@ -1,8 +1,7 @@
 -- What document 01 claims of the channel front holds. Assumes nothing.
-use mathlib.Core.Path.{_≡_, refl, sym, ap, ap₂, _∙_}
-use mathlib.Core.Bool.{Bool, true, false, not, _&&_, _||_}
+use mathlib.Core.Path.{_≡_, refl, ap, ap₂, _∙_}
+use mathlib.Core.Bool.{Bool, true, false, not}
 use mathlib.Core.List.{List, [], _∷_, map}
-use Prim.Native.Nat.{ℕ}
 use lib.IntN.{ℤ, pos, negℤ}
 use lib.Ieee.{Float, nan, inf, fin, binary32, neg, toBits}
 use lib.ListN.{length, length-map}
@@ -13,7 +12,7 @@ use Rattle.model.specs.declared.Channel.{Channel}
 use Rattle.model.specs.Causes.{_if_, firstOf, short, accepted}
 use Rattle.model.specs.Reflection.{turned}
 use Rattle.model.specs.Channel.{finite, inRange, costOfBits, costOf}
-use Rattle.model.specs.Calls.{Costs, channelFront}
+use Rattle.model.specs.Calls.{channelFront}
 use Rattle.model.specs.ChannelClaims.{ChannelClaims, ofSingles}
 use Rattle.model.proofs.Products.{and-left, and-right, product-number, product-single, cost-negated}
 use Rattle.model.proofs.Values.{cost-rounded}

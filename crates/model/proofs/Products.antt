@@ -1,21 +1,20 @@
 -- Products of samples and their costs. Assumes nothing.
 use mathlib.Core.Path.{_≡_, refl, sym, ap, subst, _∙_}
 use mathlib.Core.Bool.{Bool, true, false, not, cond, _&&_}
-use Prim.Native.Nat.{ℕ, zero, suc, _+_, _*_, _/_, _%_, _^_, _<_, min}
+use Prim.Native.Nat.{ℕ, _+_, _*_, _%_, _<_}
 use native.Mathlib.Omega.{arith}
-use lib.Dec.{T, ltb, leb}
-use lib.IntN.{ℤ, pos, negℤ, negℤ-negℤ}
+use lib.Dec.{T, ltb}
+use lib.IntN.{ℤ, negℤ, negℤ-negℤ}
 use lib.Ieee.{Float, nan, inf, fin, Format, binary32, up, down, unlike, neg, mul, lt, fits, isNan, toBits}
 use lib.Ieee.Bits.{toBits-lt, is-true}
-use lib.Ieee.Fits.{mul-fits, neg-fits, cond-fits}
+use lib.Ieee.Fits.{mul-fits, neg-fits}
 use borrow.Author.Tests.{le-leb, lt-leb}
-use Rattle.integers.specs.Nearest.{nearest}
 use Rattle.model.specs.declared.Erasure.{Erasure}
 use Rattle.model.specs.declared.Channel.{Channel}
 use Rattle.model.specs.declared.Channel.the-variants.{Gaussian, Hard, Erasing}
-use Rattle.model.specs.Channel.{finite, zeroFloat, scaleInRange, floorInRange, inRange, hard, sizeOf, product, units, magnitude, costOfBits, costOf}
+use Rattle.model.specs.Channel.{finite, zeroFloat, scaleInRange, floorInRange, inRange, hard, sizeOf, product, costOfBits, costOf}
 use Rattle.model.specs.ChannelClaims.{ofSingles}
-use Rattle.model.proofs.Floats.{above-zero, below-zero, size-not-below, Signed, round-signed}
+use Rattle.model.proofs.Floats.{above-zero, below-zero, size-not-below, round-signed}
 
 -- the cost of a product
 abbrev cost : Float → ℤ

@@ -8,13 +8,12 @@ use lib.Ieee.{Float, inf, fin, binary32, up, down, toBits, neg, fits, isNan}
 use Rattle.integers.specs.Nearest.{Nearest}
 use Rattle.lists.specs.Tabulated.{written}
 use Rattle.lists.specs.Entries.{every}
-use Rattle.model.specs.declared.Erasure.{Erasure}
 use Rattle.model.specs.declared.Channel.{Channel}
 use Rattle.model.specs.declared.Channel.the-variants.{Gaussian, Hard, Erasing}
 use Rattle.model.specs.Causes.{_if_, accepted}
 use Rattle.model.specs.Reflection.{turned}
 use Rattle.model.specs.Channel.{finite, inRange, product, costOfBits, costOf}
-use Rattle.model.specs.Calls.{Costs, channelFront}
+use Rattle.model.specs.Calls.{channelFront}
 
 -- the setting's floats are f32 values, as those of every caller are
 abbrev pub ofSingles : Channel → Bool

@@ -1,16 +1,13 @@
 -- `channel::cost` meets its contract: the sign bit decides the sign. Assumes nothing.
-use mathlib.Core.Path.{_≡_, refl, ap, _∙_}
-use Prim.Native.Nat.{ℕ, _^_, _≤_, min}
+use mathlib.Core.Path.{ap, _∙_}
 use native.Mathlib.Nat.{min-le-right}
 use borrow.Author.Needs.{needs}
 use borrow.Author.Tests.{le-leb, lt-leb}
-use lib.Ieee.{binary32, toBits}
-use lib.IntN.{ℤ, pos}
+use lib.IntN.{pos}
 use mir.Syntax.{w16}
 use mir.Val.{toZ}
-use Rattle.integers.specs.Nearest.{nearest}
 use Rattle.integers.proofs.Machine.{Worth, unsigned, opposite, fits, stored, fits-abs}
-use Rattle.model.specs.Channel.{magnitude, costOfBits}
+use Rattle.model.specs.Channel.{costOfBits}
 use Rattle.channel.proofs.cost.Statement.{statement}
 use Rattle.channel.proofs.cost.Tie as tie
 

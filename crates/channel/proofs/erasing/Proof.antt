@@ -1,15 +1,14 @@
 -- `channel::erasing` meets its contract: the weight's two costs and 0 are all that a sample can cost. Assumes nothing.
-use mathlib.Core.Path.{_≡_, refl, sym, ap, _∙_}
+use mathlib.Core.Path.{_≡_, refl, sym, _∙_}
 use mathlib.Core.Bool.{Bool, true, false, cond}
-use Prim.Native.Nat.{ℕ, _+_, _≤_, _<_, _-_}
+use Prim.Native.Nat.{_≤_, _-_}
 use native.Mathlib.Omega.{arith}
 use borrow.Author.Needs.{needs}
 use lib.Ieee.{Float, nan, binary32, isNan, lt, neg, toBits}
 use lib.IntN.{ℤ, pos}
 use lib.ListN.{length, getD}
 use mir.Syntax.{w16}
-use mir.Val.{SFits, toZ, ofZ}
-use mir.Facts.{toZ-ofZ}
+use Rattle.integers.proofs.Machine.{kept}
 use Rattle.lists.specs.Tabulated.{over}
 use Rattle.lists.proofs.Tabulated.{length-over, over-stored, over-map}
 use Rattle.model.specs.declared.Erasure.{Erasure}
@@ -53,10 +52,6 @@ erasing-costs p x = by (lt (sizeOf x) (p .floor)) (lt zeroFloat x) (lt x zeroFlo
     by false false true = refl
     by false false false = refl
 
--- a cost that a call answered goes through its bits
-kept : (z : ℤ) → SFits w16 z → toZ w16 (ofZ w16 z) ≡ z
-kept z f = toZ-ofZ f
-
 selected-is : (c : tie.After-selected Inv-loop μ-loop)
     → let l = c .before .before .before in
     let s = l .before .before .before .before in
@@ -67,7 +62,7 @@ selected-is c =
     let a = l .before .before in
     let b = l .before in
     c .selected .ensures
-    ∙ rw (kept (a .cost .result) (record { sfits = a .cost .ok }), a .cost .ensures, kept (b .cost2 .result) (record { sfits = b .cost2 .ok }), b .cost2 .ensures)
+    ∙ rw (kept w16 (a .cost .result) (a .cost .ok), a .cost .ensures, kept w16 (b .cost2 .result) (b .cost2 .ok), b .cost2 .ensures)
     (sym (erasing-costs (s .args .pair) (getD (s .args .samples .now) (l .loop .i) nan)))
 
 cost-requires : tie.Need-cost-requires Inv-loop μ-loop
@@ -106,7 +101,7 @@ loop-again c =
     let s = l .before .before .before .before in (
       omega arith,
       rw (l .loop .inv .1)
-      (over-stored w16 (l .loop .i) _ (s .args .costs .now) (c .selected .result) (omega (arith, s .pre .1)) (record { sfits = c .selected .ok }) (selected-is c)),
+          (over-stored w16 (l .loop .i) _ (s .args .costs .now) (c .selected .result) (omega (arith, s .pre .1)) (record { sfits = c .selected .ok }) (selected-is c)),
     )
 
 same-length : tie.Need-same-length Inv-loop μ-loop

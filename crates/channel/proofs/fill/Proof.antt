@@ -2,7 +2,6 @@
 use mathlib.Core.Path.{_≡_, sym, ap, fun-ext}
 use borrow.Author.Needs.{needs}
 use lib.Ieee.{Float, binary32, lt, toBits, ofBits}
-use lib.IntN.{ℤ}
 use Rattle.model.specs.declared.Channel.the-variants.{Hard, Erasing}
 use Rattle.model.specs.Channel.{zeroFloat, inRange, costOfBits, costOf}
 use Rattle.model.proofs.Products.{hard-erasing}

@@ -1,11 +1,11 @@
 -- `channel::gaussian` meets its contract: after i turns the first i entries are the costs of the first i samples. Assumes nothing.
-use mathlib.Core.Path.{_≡_, refl, sym, ap, _∙_}
+use mathlib.Core.Path.{_≡_, refl, _∙_}
 use mathlib.Core.Bool.{true, not}
-use Prim.Native.Nat.{ℕ, _+_, _≤_, _<_, _-_}
+use Prim.Native.Nat.{_≤_, _-_}
 use native.Mathlib.Omega.{arith}
 use borrow.Author.Needs.{needs}
 use borrow.Author.Tests.{not-false}
-use lib.Ieee.{Float, nan}
+use lib.Ieee.{nan}
 use lib.ListN.{length, getD}
 use mir.Syntax.{w16}
 use Rattle.lists.specs.Tabulated.{over}
@@ -63,7 +63,7 @@ loop-again c =
     let l = c .before .before .before in (
       omega arith,
       rw (l .loop .inv .1)
-      (over-stored w16 (l .loop .i) _ (l .before .before .args .costs .now) (c .cost .result) (omega arith) (record { sfits = c .cost .ok }) (c .cost .ensures)),
+          (over-stored w16 (l .loop .i) _ (l .before .before .args .costs .now) (c .cost .result) (omega arith) (record { sfits = c .cost .ok }) (c .cost .ensures)),
     )
 
 same-length : tie.Need-same-length Inv-loop μ-loop

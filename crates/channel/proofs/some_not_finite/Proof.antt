@@ -1,5 +1,5 @@
 -- `channel::some_not_finite` meets its contract: what was found, or is still to be found, decides. Assumes nothing.
-use mathlib.Core.Path.{_≡_, refl}
+use mathlib.Core.Path.{refl}
 use mathlib.Core.Bool.{not}
 use Prim.Native.Nat.{_-_}
 use borrow.Author.Needs.{needs}

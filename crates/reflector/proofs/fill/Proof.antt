@@ -1,62 +1,83 @@
+-- `reflector::fill` meets its contract: after i turns the first i entries are the reflected ones. Assumes nothing.
+use mathlib.Core.Path.{_≡_, refl, ap, _∙_}
+use Prim.Native.Nat.{_-_, _≤_}
+use native.Mathlib.Omega.{arith}
+use borrow.Author.Needs.{needs}
+use lib.IntN.{pos}
+use lib.ListN.{length, getD}
+use mir.Syntax.{w16}
+use Rattle.integers.proofs.Machine.{kept}
+use Rattle.lists.specs.Tabulated.{over}
+use Rattle.lists.proofs.Entries.{some-at}
+use Rattle.lists.proofs.Tabulated.{length-over, over-stored, over-tab}
+use Rattle.model.specs.Calls.{forbidden}
+use Rattle.model.specs.Iteration.{at}
+use Rattle.model.specs.Reflection.{turned, reflect}
+use Rattle.model.specs.Words.{entry}
 use Rattle.reflector.proofs.fill.Statement.{statement}
 use Rattle.reflector.proofs.fill.Tie as tie
-use Rattle.reflector.proofs.fill.Reads as reads
-use Rattle.reflector.proofs.fill.Lts as lts
-use Rattle.reflector.proofs.turned.Reads as turned-reads
 
 abbrev Inv-loop : tie.InvT-loop
-Inv-loop costs word result₀ i₀ result i = ?
+Inv-loop costs word result₀ i₀ result i =
+    (i ≤ length costs) × (result ≡ over i (λ k. turned (entry word k) (at costs k)) result₀)
 
 abbrev μ-loop : tie.MeasureT-loop
-μ-loop costs word result₀ i₀ result i = ?
+μ-loop costs word result₀ i₀ result i = length costs - i
 
--- src/lib.rt:60:5
+long : (l : tie.At-loop Inv-loop μ-loop) → length (l .loop .result) ≡ length (l .before .before .args .result .now)
+long l = rw (l .loop .inv .1) (length-over (l .loop .i) _ (l .before .before .args .result .now) (omega arith))
+
 loop-holds : tie.Need-loop-holds Inv-loop μ-loop
-loop-holds c = ?
+loop-holds c = (omega arith, refl)
 
--- src/lib.rt:61:28
 shared-slice-read-turned : tie.Need-shared-slice-read-turned Inv-loop μ-loop
-shared-slice-read-turned c = ?
+shared-slice-read-turned c = search needs
 
--- src/lib.rt:61:37
 mul-turned : tie.Need-mul-turned Inv-loop μ-loop
-mul-turned c = ?
+mul-turned c = search needs
 
--- src/lib.rt:61:37
 shared-slice-copy-out-turned : tie.Need-shared-slice-copy-out-turned Inv-loop μ-loop
-shared-slice-copy-out-turned c = ?
+shared-slice-copy-out-turned c = search needs
 
--- src/lib.rt:61:21
 turned-requires : tie.Need-turned-requires Inv-loop μ-loop
-turned-requires c κs = ?
+turned-requires c κs =
+    let l = c .before .before .before in
+    let s = l .before .before in
+    rw (kept w16 (getD (s .args .costs .now) (l .loop .i) (pos 0)) (c .turned-arg .given))
+    (some-at forbidden (s .args .costs .now) (l .loop .i) (pos 0) (s .pre .1 .0) (c .before .before .loop-test .taken))
 
--- src/lib.rt:61:9
 mul-t12 : tie.Need-mul-t12 Inv-loop μ-loop
-mul-t12 c = ?
+mul-t12 c = search needs
 
--- src/lib.rt:61:9
 slice-set-from-result : tie.Need-slice-set-from-result Inv-loop μ-loop
-slice-set-from-result c = ?
+slice-set-from-result c = omega (arith, long (c .before .before .before .before))
 
--- src/lib.rt:62:9
 add-i : tie.Need-add-i Inv-loop μ-loop
-add-i c = ?
+add-i c = search needs
 
--- src/lib.rt:60:5
 loop-less : tie.Need-loop-less Inv-loop μ-loop
-loop-less c = ?
+loop-less c = search needs
 
--- src/lib.rt:60:5
 loop-again : tie.Need-loop-again Inv-loop μ-loop
-loop-again c = ?
+loop-again c =
+    let l = c .before .before .before .before in
+    let s = l .before .before in (
+      omega arith,
+      rw (l .loop .inv .1)
+          (over-stored w16 (l .loop .i) _ (s .args .result .now) (c .turned .result) (omega (arith, s .pre)) (record { sfits = c .turned .ok })
+          (c .turned .ensures ∙ ap (turned (entry (s .args .word .now) (l .loop .i))) (kept w16 (at (s .args .costs .now) (l .loop .i)) (c .before .turned-arg .given)))),
+    )
 
--- src/lib.rt:53:1
 same-length : tie.Need-same-length Inv-loop μ-loop
-same-length c = ?
+same-length c = long (c .before)
 
--- src/lib.rt:53:1
 returns : tie.Need-returns Inv-loop μ-loop
-returns c = ?
+unfolding reflect
+returns c =
+    let l = c .before in
+    let s = l .before .before in
+    let e : l .loop .i ≡ length (s .args .costs .now) = omega arith in
+    l .loop .inv .1 ∙ rw e (over-tab (length (s .args .costs .now)) _ (s .args .result .now))
 
 pub fill-spec : {M : Type 1} → statement M
 fill-spec =

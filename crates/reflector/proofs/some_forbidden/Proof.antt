@@ -1,46 +1,52 @@
+-- `reflector::some_forbidden` meets its contract: what was found, or is still to be found, decides. Assumes nothing.
+use mathlib.Core.Path.{refl}
+use Prim.Native.Nat.{_-_}
+use borrow.Author.Needs.{needs}
+use lib.IntN.{pos}
+use lib.ListN.{length, getD}
+use mir.Syntax.{w16}
+use Rattle.integers.proofs.Machine.{kept}
+use Rattle.lists.proofs.Entries.{Found, found-next, found-end}
+use Rattle.model.specs.Calls.{forbidden}
 use Rattle.reflector.proofs.some_forbidden.Statement.{statement}
 use Rattle.reflector.proofs.some_forbidden.Tie as tie
-use Rattle.reflector.proofs.some_forbidden.Reads as reads
-use Rattle.reflector.proofs.some_forbidden.Lts as lts
-use Rattle.reflector.proofs.is_forbidden.Reads as is-forbidden-reads
 
 abbrev Inv-loop : tie.InvT-loop
-Inv-loop costs found₀ i₀ found i = ?
+Inv-loop costs found₀ i₀ found i = Found forbidden costs found i
 
 abbrev μ-loop : tie.MeasureT-loop
-μ-loop costs found₀ i₀ found i = ?
+μ-loop costs found₀ i₀ found i = length costs - i
 
--- src/lib.rt:24:5
 loop-holds : tie.Need-loop-holds Inv-loop μ-loop
-loop-holds c = ?
+loop-holds c = refl
 
--- src/lib.rt:25:20
 mul-cost : tie.Need-mul-cost Inv-loop μ-loop
-mul-cost c = ?
+mul-cost c = search needs
 
--- src/lib.rt:25:20
 shared-slice-copy-out-cost : tie.Need-shared-slice-copy-out-cost Inv-loop μ-loop
-shared-slice-copy-out-cost c = ?
+shared-slice-copy-out-cost c = search needs
 
--- src/lib.rt:26:25
 is-forbidden-requires : tie.Need-is-forbidden-requires Inv-loop μ-loop
-is-forbidden-requires c κs = ?
+is-forbidden-requires c κs = tt
 
--- src/lib.rt:27:9
 add-i : tie.Need-add-i Inv-loop μ-loop
-add-i c = ?
+add-i c = search needs
 
--- src/lib.rt:24:5
 loop-less : tie.Need-loop-less Inv-loop μ-loop
-loop-less c = ?
+loop-less c = search needs
 
--- src/lib.rt:24:5
 loop-again : tie.Need-loop-again Inv-loop μ-loop
-loop-again c = ?
+loop-again c =
+    let l = c .before .before .before in
+    let costs = l .before .args .costs .now in
+    let i = l .loop .i in
+    rw (c .is-forbidden .ensures, kept w16 (getD costs i (pos 0)) (c .before .cost .given))
+    (found-next forbidden costs (l .loop .found) i (pos 0) (c .before .before .loop-test .taken) (l .loop .inv))
 
--- src/lib.rt:19:1
 returns : tie.Need-returns Inv-loop μ-loop
-returns c = ?
+returns c =
+    let l = c .before in
+    found-end forbidden (l .before .args .costs .now) (l .loop .found) (l .loop .i) (c .loop-test .left) (l .loop .inv)
 
 pub some-forbidden-spec : {M : Type 1} → statement M
 some-forbidden-spec =

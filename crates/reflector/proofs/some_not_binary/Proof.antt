@@ -1,37 +1,40 @@
+-- `reflector::some_not_binary` meets its contract: what was found, or is still to be found, decides. Assumes nothing.
+use mathlib.Core.Path.{refl}
+use Prim.Native.Nat.{_-_}
+use borrow.Author.Needs.{needs}
+use lib.ListN.{length}
+use Rattle.lists.proofs.Entries.{Found, found-next, found-end}
+use Rattle.model.specs.Calls.{notBinary}
 use Rattle.reflector.proofs.some_not_binary.Statement.{statement}
 use Rattle.reflector.proofs.some_not_binary.Tie as tie
-use Rattle.reflector.proofs.some_not_binary.Reads as reads
-use Rattle.reflector.proofs.some_not_binary.Lts as lts
 
 abbrev Inv-loop : tie.InvT-loop
-Inv-loop word found₀ i₀ found i = ?
+Inv-loop word found₀ i₀ found i = Found notBinary word found i
 
 abbrev μ-loop : tie.MeasureT-loop
-μ-loop word found₀ i₀ found i = ?
+μ-loop word found₀ i₀ found i = length word - i
 
--- src/lib.rt:38:5
 loop-holds : tie.Need-loop-holds Inv-loop μ-loop
-loop-holds c = ?
+loop-holds c = refl
 
--- src/lib.rt:39:19
 shared-slice-read-bit : tie.Need-shared-slice-read-bit Inv-loop μ-loop
-shared-slice-read-bit c = ?
+shared-slice-read-bit c = search needs
 
--- src/lib.rt:41:9
 add-i : tie.Need-add-i Inv-loop μ-loop
-add-i c = ?
+add-i c = search needs
 
--- src/lib.rt:38:5
 loop-less : tie.Need-loop-less Inv-loop μ-loop
-loop-less c = ?
+loop-less c = search needs
 
--- src/lib.rt:38:5
 loop-again : tie.Need-loop-again Inv-loop μ-loop
-loop-again c = ?
+loop-again c =
+    let l = c .before .before in
+    found-next notBinary (l .before .args .word .now) (l .loop .found) (l .loop .i) 0 (c .before .loop-test .taken) (l .loop .inv)
 
--- src/lib.rt:33:1
 returns : tie.Need-returns Inv-loop μ-loop
-returns c = ?
+returns c =
+    let l = c .before in
+    found-end notBinary (l .before .args .word .now) (l .loop .found) (l .loop .i) (c .loop-test .left) (l .loop .inv)
 
 pub some-not-binary-spec : {M : Type 1} → statement M
 some-not-binary-spec =
