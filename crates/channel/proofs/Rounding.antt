@@ -9,7 +9,7 @@ use Rattle.integers.specs.Nearest.{nearest}
 use Rattle.integers.proofs.Nearest.{nearest-mono}
 use Rattle.model.specs.Channel.{units, magnitude}
 
--- the magnitude that 31 bits stand for
+-- the magnitude that 31 bits stand for, 8388608 being 2 ^ 23
 abbrev plain : ℕ → ℕ
 plain b = units (b / 8388608) (b % 8388608)
 
@@ -35,7 +35,7 @@ plain-mono a b h = by (decLt (a / 8388608) (b / 8388608))
         let e : a / 8388608 ≡ b / 8388608 = omega arith in
         rw e (units-mono (b / 8388608) (a % 8388608) (b % 8388608) (omega arith))
 
--- ---- of a function that grows from 0 at l to k at h, limited
+-- ---- where f grows from 0 at l to k at h, it may be limited before or after
 module _ (f : ℕ → ℕ) (grows : (a b : ℕ) → a ≤ b → f a ≤ f b) (l h k : ℕ) (order : l ≤ h) (first : f l ≡ 0) (last : f h ≡ k) where
   limited-first : (a : ℕ) → min (f a) k ≡ f (max l (min a h))
   limited-first a = by (decLt a l) (decLt a h)
@@ -82,8 +82,8 @@ size-is bits =
     ∙ ap (λ (n : ℕ). min (nearest n (2 ^ 149)) 32767) (sym (unsigned bits))
 
 -- it fits 64 bits, with room
-pub shift-fits : (b : ℕ) → b ≤ 0x46ff_fe00 → (shifted b % 2 ^ 64 ≡ shifted b) × (shifted b < 2 ^ 40)
+pub shift-fits : (b : ℕ) → b < 0x4800_0000 → (shifted b % 2 ^ 64 ≡ shifted b) × (shifted b < 2 ^ 42)
 shift-fits b h =
     let k = b / 8388608 - 125 in
     let d : 8388608 + b % 8388608 < 2 ^ 24 = omega arith in
-    (shl-exact 24 k 64 d (omega arith), lt-of-lt-of-le (shl-lt 24 k d) (pow-mono {i = 24 + k} {j = 40} (omega arith)))
+    (shl-exact 24 k 64 d (omega arith), lt-of-lt-of-le (shl-lt 24 k d) (pow-mono {i = 24 + k} {j = 42} (omega arith)))

@@ -10,7 +10,6 @@ ghost use lib.ListN.{length};
 ghost use Rattle.integers.specs.Nearest.{nearest};
 ghost use Rattle.lists.specs.Entries.{some};
 ghost use Rattle.lists.specs.Tabulated.{written};
-ghost use Rattle.model.specs.declared.Channel.{Channel as Setting};
 ghost use Rattle.model.specs.Channel.{finite, zeroFloat, scaleInRange, floorInRange, inRange, sizeOf, magnitude, costOfBits, costOf};
 ghost use Rattle.model.specs.Calls.{channelFront};
 use model::Channel;
@@ -18,27 +17,33 @@ use model::Erasure;
 
 // ---- the cost of a product
 
+// Of an f32's bits: the sign, the lowest bit of the exponent's field, and all below it the digits.
+const SIGN: u32 = 0x8000_0000;
+
+const FIELD: u32 = 0x0080_0000;
+
 // The bits of 0.25, which costs 0 as everything below it does, and of 32,767.0, the limit.
 const LOW: u32 = 0x3e80_0000;
 
 const HIGH: u32 = 0x46ff_fe00;
 
-fn limited(bits: u32) -> u32
-    ensures { λ r. ⌜ r ≡ max 0x3e80_0000 (min bits 0x46ff_fe00) ⌝ }
+fn limited(x: u32, low: u32, high: u32) -> u32
+    requires { ⌜ low ≤ high ⌝ }
+    ensures { λ r. ⌜ r ≡ max low (min x high) ⌝ }
 {
-    if bits < LOW {
-        return LOW;
+    if x < low {
+        return low;
     }
-    if bits < HIGH { bits } else { HIGH }
+    if x < high { x } else { high }
 }
 
-// The cost's size: the magnitude in units of 2^-25, then the nearest whole number, halves up.
+// The cost's size: the magnitude in units of 2^-25 (LOW's field is 125), then the nearest whole number, halves up.
 fn rounded(bits: u32) -> u32
     ensures { λ r. ⌜ r ≡ min (nearest (magnitude bits) (2 ^ 149)) 32767 ⌝ }
 {
-    let b = limited(bits % 2147483648);
-    let digits = (8388608 + b % 8388608) as u64;
-    let units = digits << (b / 8388608 - 125);
+    let b = limited(bits % SIGN, LOW, HIGH);
+    let digits = (FIELD + b % FIELD) as u64;
+    let units = digits << (b / FIELD - 125);
     ((units + 16777216) / 33554432) as u32
 }
 
@@ -48,7 +53,7 @@ fn cost(product: f32) -> i16
 {
     let bits = f32::to_bits(product);
     let size = rounded(bits) as i16;
-    if bits < 2147483648 { size } else { -size }
+    if bits < SIGN { size } else { -size }
 }
 
 // ---- samples and settings
@@ -87,6 +92,7 @@ fn in_range(setting: Channel) -> bool
     }
 }
 
+// All samples are looked at, without a branch.
 fn some_not_finite(samples: &[f32]) -> bool
     ensures { λ r. ⌜ r ≡ some (λ x. not (finite x)) (now (samples .entry)) ⌝ }
 {
@@ -102,6 +108,7 @@ fn some_not_finite(samples: &[f32]) -> bool
 
 // ---- the costs
 
+// Of a sample under a hard or erasing setting, whose weight costs `above` and its negative `below`.
 fn selected(floor: f32, above: i16, below: i16, x: f32) -> i16
     ensures { λ r. ⌜ r ≡ cond (lt (sizeOf x) floor) (pos 0) (cond (lt zeroFloat x) above (cond (lt x zeroFloat) below (pos 0))) ⌝ }
 {
@@ -115,10 +122,10 @@ fn selected(floor: f32, above: i16, below: i16, x: f32) -> i16
 }
 
 fn gaussian(scale: f32, samples: &[f32], costs: &mut [i16])
-    requires { ⌜ inRange (Setting.Gaussian scale) ≡ true ⌝ }
+    requires { ⌜ inRange (Channel.Gaussian scale) ≡ true ⌝ }
     requires { ⌜ some (λ x. not (finite x)) (now samples) ≡ false ⌝ }
     requires { ⌜ length (now samples) ≤ length (now costs) ⌝ }
-    ensures { λ _. ⌜ now (costs .exit) ≡ written (map (costOf (Setting.Gaussian scale)) (now (samples .entry))) (now (costs .entry)) ⌝ }
+    ensures { λ _. ⌜ now (costs .exit) ≡ written (map (costOf (Channel.Gaussian scale)) (now (samples .entry))) (now (costs .entry)) ⌝ }
 {
     let mut i = 0;
     while i < samples.len() {
@@ -128,9 +135,9 @@ fn gaussian(scale: f32, samples: &[f32], costs: &mut [i16])
 }
 
 fn erasing(pair: Erasure, samples: &[f32], costs: &mut [i16])
-    requires { ⌜ inRange (Setting.Erasing pair) ≡ true ⌝ }
+    requires { ⌜ inRange (Channel.Erasing pair) ≡ true ⌝ }
     requires { ⌜ length (now samples) ≤ length (now costs) ⌝ }
-    ensures { λ _. ⌜ now (costs .exit) ≡ written (map (costOf (Setting.Erasing pair)) (now (samples .entry))) (now (costs .entry)) ⌝ }
+    ensures { λ _. ⌜ now (costs .exit) ≡ written (map (costOf (Channel.Erasing pair)) (now (samples .entry))) (now (costs .entry)) ⌝ }
 {
     let floor = pair.floor;
     let weight = pair.weight;

@@ -61,8 +61,7 @@ selected-is c =
     let s = l .before .before .before .before in
     let a = l .before .before in
     let b = l .before in
-    c .selected .ensures
-    ∙ rw (kept w16 (a .cost .result) (a .cost .ok), a .cost .ensures, kept w16 (b .cost2 .result) (b .cost2 .ok), b .cost2 .ensures)
+    rw (c .selected .ensures, kept w16 (a .cost .result) (a .cost .ok), a .cost .ensures, kept w16 (b .cost2 .result) (b .cost2 .ok), b .cost2 .ensures)
     (sym (erasing-costs (s .args .pair) (getD (s .args .samples .now) (l .loop .i) nan)))
 
 cost-requires : tie.Need-cost-requires Inv-loop μ-loop

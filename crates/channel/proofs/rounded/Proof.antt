@@ -25,7 +25,7 @@ cast-units c = search needs
 shl-units : tie.Need-shl-units
 shl-units c = search needs
 
-shift : (c : tie.After-limited) → let b = c .limited .result in (shifted b % 2 ^ 64 ≡ shifted b) × (shifted b < 2 ^ 40)
+shift : (c : tie.After-limited) → let b = c .limited .result in (shifted b % 2 ^ 64 ≡ shifted b) × (shifted b < 2 ^ 42)
 shift c = shift-fits (c .limited .result) (omega (arith, c .limited .ensures))
 
 add-result : tie.Need-add-result
