@@ -63,7 +63,10 @@ mul-opposite f (fin s m e) (inf t) h k = cc
 mul-opposite f (fin s m e) (fin t n d) h k = rw (unlike-not s t) (round-signed f (m * up e * (n * up d)) (down e * down d) .opposite (unlike s t))
 
 -- a floor of 0 erases nothing
-pub hard-erasing : (weight x : Float) → product (Hard weight) x ≡ product (Erasing (record { floor = zeroFloat; weight = weight })) x
+abbrev pub noFloor : Float → Erasure
+noFloor weight = record { floor = zeroFloat; weight = weight }
+
+pub hard-erasing : (weight x : Float) → product (Hard weight) x ≡ product (Erasing (noFloor weight)) x
 unfolding product
 hard-erasing weight x = rw (size-not-below x)
 
@@ -93,37 +96,35 @@ finite-number nan h = (cc, cc)
 finite-number (inf s) h = (cc, cc)
 finite-number (fin s m e) h = (refl, refl)
 
--- what holds of the weight, of its negative and of 0
-module _ (P : Float → Type 0) (none : P zeroFloat) where
-  one-of : (t : Bool) (x y : Float) → P x → P y → P (cond t x y)
-  one-of true x y a b = a
-  one-of false x y a b = b
+-- what holds of 0, of the weight and of its negative
+module _ (P : Float → Type 0) (p : Erasure) (x : Float) where
+  one-of : (t : Bool) (y z : Float) → P y → P z → P (cond t y z)
+  one-of true y z a b = a
+  one-of false y z a b = b
 
-  hard-one-of : (weight x : Float) → P weight → P (neg weight) → P (hard weight x)
-  unfolding hard
-  hard-one-of weight x a b = one-of (lt zeroFloat x) weight _ a (one-of (lt x zeroFloat) (neg weight) zeroFloat b none)
+  each-of : P zeroFloat → P (p .weight) → P (neg (p .weight)) → P (product (Erasing p) x)
+  unfolding product hard
+  each-of n a b =
+      one-of (lt (sizeOf x) (p .floor)) zeroFloat _ n (one-of (lt zeroFloat x) (p .weight) _ a (one-of (lt x zeroFloat) (neg (p .weight)) zeroFloat b n))
+
+erasing-number : (p : Erasure) (x : Float) → finite (p .weight) ≡ true → isNan (product (Erasing p) x) ≡ false
+unfolding isNan
+erasing-number p x h = let w = finite-number (p .weight) h in each-of (λ y. isNan y ≡ false) p x refl (w .0) (w .1)
 
 pub product-number : (setting : Channel) (x : Float) → inRange setting ≡ true → finite x ≡ true → isNan (product setting x) ≡ false
-unfolding product inRange isNan
-product-number (Gaussian scale) x h k = mul-number binary32 x scale k (scale-finite scale h)
-product-number (Hard weight) x h k =
-    let w = finite-number weight (scale-finite weight h) in
-    hard-one-of (λ y. isNan y ≡ false) refl weight x (w .0) (w .1)
-product-number (Erasing p) x h k =
-    let w = finite-number (p .weight) (scale-finite (p .weight) (weight-in-range p h)) in
-    one-of (λ y. isNan y ≡ false) refl (lt (sizeOf x) (p .floor)) zeroFloat (hard (p .weight) x) refl (hard-one-of (λ y. isNan y ≡ false) refl (p .weight) x (w .0) (w .1))
+unfolding inRange
+product-number (Gaussian scale) x h k = unfold product in mul-number binary32 x scale k (scale-finite scale h)
+product-number (Hard weight) x h k = rw (hard-erasing weight x) (erasing-number (noFloor weight) x (scale-finite weight h))
+product-number (Erasing p) x h k = erasing-number p x (scale-finite (p .weight) (weight-in-range p h))
 
-neg-single : (x : Float) → fits binary32 x ≡ true → fits binary32 (neg x) ≡ true
-neg-single x h = is-true _ (neg-fits binary32 x (subst T (sym h) tt))
+erasing-single : (p : Erasure) (x : Float) → fits binary32 (p .weight) ≡ true → fits binary32 (product (Erasing p) x) ≡ true
+unfolding fits
+erasing-single p x h = each-of (λ y. fits binary32 y ≡ true) p x refl h (is-true _ (neg-fits binary32 (p .weight) (subst T (sym h) tt)))
 
 pub product-single : (setting : Channel) (x : Float) → ofSingles setting ≡ true → fits binary32 (product setting x) ≡ true
-unfolding product fits
-product-single (Gaussian scale) x h = is-true _ (mul-fits binary32 x scale)
-product-single (Hard weight) x h = hard-one-of (λ y. fits binary32 y ≡ true) refl weight x h (neg-single weight h)
-product-single (Erasing p) x h =
-    let w = weight-single p h in
-    one-of (λ y. fits binary32 y ≡ true) refl (lt (sizeOf x) (p .floor)) zeroFloat (hard (p .weight) x) refl
-    (hard-one-of (λ y. fits binary32 y ≡ true) refl (p .weight) x w (neg-single (p .weight) w))
+product-single (Gaussian scale) x h = unfold product in is-true _ (mul-fits binary32 x scale)
+product-single (Hard weight) x h = rw (hard-erasing weight x) (erasing-single (noFloor weight) x h)
+product-single (Erasing p) x h = erasing-single p x (weight-single p h)
 
 -- ---- the sign bit
 sign-bit : (a q : ℕ) → 2147483648 + a + q < 4294967296 → costOfBits (2147483648 + a + q) ≡ negℤ (costOfBits (0 + a + q))
@@ -146,7 +147,7 @@ cost-opposite (fin false m e) h k = sign-bit _ _ (toBits-lt binary32 (fin true m
 cost-opposite (fin true m e) h k = sym (negℤ-negℤ _) ∙ ap negℤ (sym (sign-bit _ _ (toBits-lt binary32 (fin true m e) (subst T (sym h) tt))))
 
 -- ---- "Negated samples give negated costs"
--- of two signs, those of the weight; t: the sample is not 0, u: it is erased
+-- by the sample's sign s; t: it is not 0, u: it is erased
 turns : (w : Float) (s t u : Bool) → cost (neg w) ≡ negℤ (cost w)
     → cost (cond t (cond u zeroFloat (cond (not s) (neg w) w)) zeroFloat) ≡ negℤ (cost (cond t (cond u zeroFloat (cond s (neg w) w)) zeroFloat))
 unfolding toBits costOfBits
@@ -175,5 +176,5 @@ cost-negated (Gaussian scale) x h r k =
     ap cost (gaussian-opposite scale x (scale-finite scale r) k)
     ∙ cost-opposite (product (Gaussian scale) x) (product-single (Gaussian scale) x h) (product-number (Gaussian scale) x r k)
 cost-negated (Hard weight) x h r k =
-    rw (hard-erasing weight (neg x), hard-erasing weight x) (erasing-opposite (record { floor = zeroFloat; weight = weight }) x h (scale-finite weight r) k)
+    rw (hard-erasing weight (neg x), hard-erasing weight x) (erasing-opposite (noFloor weight) x h (scale-finite weight r) k)
 cost-negated (Erasing p) x h r k = erasing-opposite p x (weight-single p h) (scale-finite (p .weight) (weight-in-range p r)) k

@@ -13,7 +13,7 @@ use lib.Ieee.Fits.{down-pos}
 use Rattle.integers.specs.Nearest.{nearest}
 use Rattle.integers.proofs.Nearest.{nearest-is, nearest-same}
 use Rattle.model.specs.Channel.{finite, units, magnitude, costOfBits}
-use Rattle.model.specs.ChannelClaims.{Rounded}
+use Rattle.model.specs.ChannelClaims.{NearestLimited}
 
 fields-value : (s : Bool) (x t : ℕ) → finite (ofFields binary32 s x t) ≡ true → HasValue (ofFields binary32 s x t) s (units x t) (2 ^ 149)
 unfolding ofFields
@@ -38,7 +38,7 @@ module _ (s : Bool) (m : ℕ) (e : ℤ) (h : fits binary32 (fin s m e) ≡ true)
       let back = ofBits-toBits binary32 (fin s m e) (subst T (sym h) tt) in
       rw back at (bits-value (toBits binary32 (fin s m e)) (ap finite back))
 
-  pub cost-rounded : Rounded s (m * up e) (down e) (costOfBits (toBits binary32 (fin s m e)))
+  pub cost-rounded : NearestLimited s (m * up e) (down e) (costOfBits (toBits binary32 (fin s m e)))
   unfolding costOfBits
   cost-rounded = record {
     size = nearest (m * up e) (down e);

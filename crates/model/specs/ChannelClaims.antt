@@ -22,7 +22,7 @@ ofSingles (Hard weight) = fits binary32 weight
 ofSingles (Erasing e) = fits binary32 (e .floor) && fits binary32 (e .weight)
 
 -- z is the whole number nearest to n / d with the sign s, halves away from zero, limited
-pub record Rounded (s : Bool) (n d : ℕ) (z : ℤ) : Type 0 where
+pub record NearestLimited (s : Bool) (n d : ℕ) (z : ℤ) : Type 0 where
   pub size : ℕ
   pub nearest : Nearest n d size
   pub limited : z ≡ turned (1 if s) (pos (min size 32767))
@@ -30,7 +30,7 @@ pub record Rounded (s : Bool) (n d : ℕ) (z : ℤ) : Type 0 where
 pub record ChannelClaims : Type 0 where
   -- "The cost is the nearest whole number, halves away from zero, limited to −32,767..32,767", of a product ± m * 2 ^ e;
   -- 2 ^ e is the fraction up e / down e
-  pub finiteProduct : (s : Bool) (m : ℕ) (e : ℤ) → fits binary32 (fin s m e) ≡ true → Rounded s (m * up e) (down e) (costOfBits (toBits binary32 (fin s m e)))
+  pub finiteProduct : (s : Bool) (m : ℕ) (e : ℤ) → fits binary32 (fin s m e) ≡ true → NearestLimited s (m * up e) (down e) (costOfBits (toBits binary32 (fin s m e)))
   -- "an infinite product goes to the limit"
   pub infiniteProduct : (s : Bool) → costOfBits (toBits binary32 (inf s)) ≡ turned (1 if s) (pos 32767)
   -- each product is one of these two: an f32 value, and no NaN

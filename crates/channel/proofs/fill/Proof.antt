@@ -3,12 +3,12 @@ use mathlib.Core.Path.{_≡_, sym, ap, fun-ext}
 use borrow.Author.Needs.{needs}
 use lib.Ieee.{Float, binary32, lt, toBits, ofBits}
 use Rattle.model.specs.declared.Channel.the-variants.{Hard, Erasing}
-use Rattle.model.specs.Channel.{zeroFloat, inRange, costOfBits, costOf}
-use Rattle.model.proofs.Products.{hard-erasing}
+use Rattle.model.specs.Channel.{inRange, costOfBits, costOf}
+use Rattle.model.proofs.Products.{noFloor, hard-erasing}
 use Rattle.channel.proofs.fill.Statement.{statement}
 use Rattle.channel.proofs.fill.Tie as tie
 
-hard-costs : (weight : Float) → costOf (Erasing (record { floor = zeroFloat; weight = weight })) ≡ costOf (Hard weight)
+hard-costs : (weight : Float) → costOf (Erasing (noFloor weight)) ≡ costOf (Hard weight)
 unfolding costOf
 hard-costs weight = fun-ext (λ x. ap (λ (y : Float). costOfBits (toBits binary32 y)) (sym (hard-erasing weight x)))
 
