@@ -29,6 +29,10 @@ abs-fits {w} {z} f = natAbs-le z (f .sfits)
 pub widen : {w w′ : Width} {z : ℤ} → SFits w z → T (leb (hbits w) (hbits w′)) → SFits w′ z
 widen {w} {w′} f t = record { sfits = lt-of-lt-of-le (f .sfits) (pow-mono (leb→le (hbits w) (hbits w′) t)) }
 
+-- a parameter, an element of a list or a call's result goes through its bits, and is what it was
+pub kept : (w : Width) (z : ℤ) → mag z < 2 ^ hbits w → toZ w (ofZ w z) ≡ z
+kept w z f = toZ-ofZ {w = w} (record { sfits = f })
+
 -- ---- what an expression is worth
 pub record Worth (raw z : ℤ) (b : ℕ) : Type 0 where
   pub is : raw ≡ z
@@ -45,10 +49,10 @@ module _ {raw z : ℤ} {b : ℕ} (v : Worth raw z b) where
   pub stored : (w : Width) → T (ltb b (2 ^ hbits w)) → Worth (toZ w (ofZ w raw)) z b
   stored w t = record { is = toZ-ofZ {w = w} (fits w t) ∙ v .is; within = v .within }
 
+-- such a value that is known to be z, and with its bound
 pub read-back : (w : Width) {r z : ℤ} → mag r < 2 ^ hbits w → r ≡ z → toZ w (ofZ w r) ≡ z
-read-back w f e = toZ-ofZ {w = w} (record { sfits = f }) ∙ e
+read-back w {r} f e = kept w r f ∙ e
 
--- a parameter, an element of a list or a call's result, of which is known that it fits its width
 pub local : (w : Width) {r z : ℤ} (b : ℕ) → mag r < 2 ^ hbits w → r ≡ z → natAbs z ≤ b → Worth (toZ w (ofZ w r)) z b
 local w b f e h = record { is = read-back w f e; within = h }
 

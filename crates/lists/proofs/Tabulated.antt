@@ -1,11 +1,16 @@
 -- Lists given by their entries. Assumes nothing.
 use mathlib.Core.Path.{_≡_, refl, sym, ap, ap₂, _∙_}
 use mathlib.Core.Logic.{_≢_}
-use mathlib.Core.List.{List, [], _∷_, _++_, append-nil}
+use mathlib.Core.List.{List, [], _∷_, _++_, map, append-nil}
 use Prim.Native.Nat.{ℕ, zero, suc, _+_, _-_, _≤_, _<_}
+use native.Mathlib.Numerals.{add-one}
 use native.Mathlib.Omega.{arith}
-use lib.ListN.{length, getD, drop, set, length-append, length-drop, drop-of-length-le, List·getD-append}
+use lib.IntN.{ℤ}
+use lib.ListN.{length, getD, drop, set, length-append, length-drop, drop-of-length-le, length-map, List·getD-append, List·getD-eq-default}
 use lib.Seq.{sets, drop-at, set-append-left, getD-append-add, getD-drop}
+use mir.Syntax.{Width}
+use mir.Val.{SFits, toZ, ofZ}
+use mir.Facts.{toZ-ofZ}
 use Rattle.lists.specs.Tabulated.{tab, over, written}
 
 module _ {ℓ} {A : Type ℓ} where
@@ -97,3 +102,16 @@ module _ {ℓ} {A : Type ℓ} where
 
   pub written-in : (l old : List A) (i : ℕ) (d : A) → i < length l → getD (written l old) i d ≡ getD l i d
   written-in l old i d h = List·getD-append l (drop (length l) old) d i h
+
+-- ---- of signed numbers, which the code stores through their bits
+pub over-stored : (w : Width) (n : ℕ) (f : ℕ → ℤ) (old : List ℤ) (r : ℤ) → n < length old → SFits w r → r ≡ f n
+    → set (over n f old) n (toZ w (ofZ w r)) ≡ over (n + 1) f old
+over-stored w n f old r h k e = rw (add-one n) (over-next n f old (toZ w (ofZ w r)) h (sym (toZ-ofZ k ∙ e)))
+
+-- ---- a function of each entry
+pub tab-map : {A B : Type 0} (g : A → B) (l : List A) (d : A) → tab (length l) (λ i. g (getD l i d)) ≡ map g l
+tab-map g [] d = refl
+tab-map g (x ∷ l) d = ap (_∷_ (g x)) (tab-map g l d)
+
+pub over-map : {A B : Type 0} (g : A → B) (l : List A) (d : A) (old : List B) → over (length l) (λ i. g (getD l i d)) old ≡ written (map g l) old
+over-map g l d old = rw (length-map l g, tab-map g l d)
