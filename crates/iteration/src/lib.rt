@@ -94,3 +94,129 @@ pub fn gather(triples: &[u16], rows: &[i32], count: usize, sums: &mut [i64])
         t += 1;
     }
 }
+
+// ---- c
+
+// "-(256 × S + W × L) divided by 256 × e - A, rounded to nearest, halves away from zero, then limited"
+fn value(sum: i64, cost: i16, count: u16, weight: u32, ratio: u32) -> i16
+    requires { ⌜ (natAbs sum ≤ 2 ^ 40) × (natAbs cost ≤ 32767) × (weight ≤ 65535) × (ratio ≤ 1023) ⌝ }
+    requires { ⌜ (natAbs (numerator weight sum cost) ≤ 2 ^ 48) × (1 ≤ count) × (count ≤ 2048) ⌝ }
+    ensures { λ c. ⌜ c ≡ quotient (numerator weight sum cost) (divisor (4 * count) ratio) ⌝ }
+{
+    let num = 256 * sum + (weight as i64) * (cost as i64);
+    let den = 1024 * (count as i64) - (ratio as i64);
+    quotient::divide(-num, den)
+}
+
+// The cost of a variable: an auxiliary's is 0.
+fn cost_of(costs: &[i16], v: usize) -> i16
+    ensures { λ r. ⌜ r ≡ at (now (costs .entry)) v ⌝ }
+{
+    if v < costs.len() { costs[v] } else { 0 }
+}
+
+// "First every c is renewed"
+pub fn renew_values(sums: &[i64], counts: &[u16], costs: &[i16], weight: u32, ratio: u32, values: &mut [i16])
+    requires { ⌜ (length (now sums) ≡ length (now values)) × (length (now counts) ≡ length (now values)) × (weight ≤ 65535) × (ratio ≤ 1023) ⌝ }
+    requires { ⌜ ((v : ℕ) → v < length (now values) → (natAbs (at (now sums) v) ≤ 2 ^ 40) × (natAbs (at (now costs) v) ≤ 32767)
+        × (natAbs (numerator weight (at (now sums) v) (at (now costs) v)) ≤ 2 ^ 48) × (1 ≤ getD (now counts) v 0) × (getD (now counts) v 0 ≤ 2048)) ⌝ }
+    ensures { λ _. ⌜ now (values .exit) ≡ tab (length (now (values .entry))) (λ v.
+        quotient (numerator weight (at (now (sums .entry)) v) (at (now (costs .entry)) v)) (divisor (4 * getD (now (counts .entry)) v 0) ratio)) ⌝ }
+{
+    let n = values.len();
+    let mut v = 0;
+    while v < n {
+        values[v] = value(sums[v], cost_of(costs, v), counts[v], weight, ratio);
+        v += 1;
+    }
+}
+
+// ---- s
+
+fn wide(x: i16) -> i32
+    ensures { λ r. ⌜ r ≡ x ⌝ }
+{
+    x as i32
+}
+
+// The value of the variable at position p of triple t.
+fn value_at(triples: &[u16], values: &[i16], t: usize, p: usize) -> i32
+    requires { ⌜ (t ≤ 8192) × (p < 3) × (3 * t + p < length (now triples)) × (member (now triples) t p < length (now values)) ⌝ }
+    ensures { λ c. ⌜ c ≡ at (now (values .entry)) (member (now (triples .entry)) t p) ⌝ }
+{
+    let v = variable(triples, t, p);
+    wide(values[v])
+}
+
+// The rows s of triple t, renewed: "with the old p and new c".
+fn renewed_rows(triples: &[u16], values: &[i16], t: usize, s: [i32; 4]) -> [i32; 4]
+    requires { ⌜ (t < 8192) × (3 * t + 2 < length (now triples)) ⌝ }
+    requires { ⌜ ((i : ℕ) → i < length (now triples) → getD (now triples) i 0 < length (now values)) ⌝ }
+    requires { ⌜ ((v : ℕ) → natAbs (at (now values) v) ≤ 16384) × ((r : ℕ) → natAbs (at s r) ≤ 131072000) ⌝ }
+    ensures { λ l. ⌜ l ≡ tab 4 (λ r. renewed (at s r) (sumAt (now (triples .entry)) (now (values .entry)) t r)) ⌝ }
+{
+    let a = value_at(triples, values, t, 0);
+    let b = value_at(triples, values, t, 1);
+    let c = value_at(triples, values, t, 2);
+    rows::renew_all(s, rows::sums(a, b, c))
+}
+
+fn put(rows: &mut [i32], t: usize, s: [i32; 4])
+    requires { ⌜ (t ≤ 8192) × (4 * t + 3 < length (now rows)) ⌝ }
+    requires { ⌜ ((r : ℕ) → natAbs (at s r) ≤ 131072000) ⌝ }
+    ensures { λ _. ⌜ now (rows .exit) ≡ sets (now (rows .entry)) (4 * t) (tab 4 (at s)) ⌝ }
+{
+    let i = 4 * t;
+    rows[i] = s[0];
+    rows[i + 1] = s[1];
+    rows[i + 2] = s[2];
+    rows[i + 3] = s[3];
+}
+
+// How far a renewal came, with the totals of the triples that are done.
+struct Totals {
+    done: usize,
+    multipliers: u64,
+    slacks: u64,
+}
+
+// The rows are renewed, and the totals formed, until one of them exceeds the tolerance.
+fn renew_counted(triples: &[u16], values: &[i16], rows: &mut [i32], count: usize, tolerance: u64) -> Totals
+    requires { ⌜ (count ≤ 8192) × (3 * count ≡ length (now triples)) × (4 * count ≡ length (now rows)) ⌝ }
+    requires { ⌜ ((i : ℕ) → i < length (now triples) → getD (now triples) i 0 < length (now values)) × ((v : ℕ) → natAbs (at (now values) v) ≤ 16384) ⌝ }
+    requires { ⌜ RowsWithin 3999 (now rows) ⌝ }
+    ensures { λ r. ⌜ Counted (now (triples .entry)) (now (values .entry)) count tolerance (now (rows .entry)) (now (rows .exit)) (r .done) (r .multipliers) (r .slacks) ⌝ }
+{
+    let mut t = 0;
+    let mut multipliers: u64 = 0;
+    let mut slacks: u64 = 0;
+    while (t < count) & (multipliers <= tolerance) & (slacks <= tolerance) {
+        let old = four(rows, t);
+        let new = renewed_rows(triples, values, t, old);
+        put(rows, t, new);
+        multipliers += rows::multiplier_changes(old, new);
+        slacks += rows::slack_changes(old, new);
+        t += 1;
+    }
+    Totals {
+        done: t,
+        multipliers,
+        slacks,
+    }
+}
+
+// The rest of the rows, from triple `from` on.
+fn renew_rest(triples: &[u16], values: &[i16], rows: &mut [i32], from: usize, count: usize)
+    requires { ⌜ (count ≤ 8192) × (3 * count ≡ length (now triples)) × (4 * count ≡ length (now rows)) × (from ≤ count) ⌝ }
+    requires { ⌜ ((i : ℕ) → i < length (now triples) → getD (now triples) i 0 < length (now values)) × ((v : ℕ) → natAbs (at (now values) v) ≤ 16384) ⌝ }
+    requires { ⌜ ((i : ℕ) → 4 * from ≤ i → natAbs (at (now rows) i) ≤ 131039232) ⌝ }
+    ensures { λ _. ⌜ ((i : ℕ) → 4 * from ≤ i → i < 4 * count → at (now (rows .exit)) i ≡ renewedAt (now (triples .entry)) (now (values .entry)) (now (rows .entry)) i) ⌝ }
+{
+    let mut t = from;
+    while t < count {
+        let old = four(rows, t);
+        let new = renewed_rows(triples, values, t, old);
+        put(rows, t, new);
+        t += 1;
+    }
+}
