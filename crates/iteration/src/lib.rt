@@ -12,7 +12,7 @@ ghost use Rattle.integers.specs.Sum.{sumℤ};
 ghost use Rattle.lists.specs.Tabulated.{tab, over};
 ghost use Rattle.quotient.specs.Quotient.{quotient};
 ghost use Rattle.model.specs.Splitting.{member};
-ghost use Rattle.model.specs.Iteration.{at, row, sumAt, slack, multiplier, share, _when_, sumOf, numerator, divisor, renewed};
+ghost use Rattle.model.specs.Iteration.{at, row, sumAt, slack, multiplier, share, _when_, sumOf, numerator, divisor, renewed, renewedAt};
 ghost use Rattle.model.specs.Run.{changes, settledBy};
 ghost use Rattle.model.specs.Bounds.{RowsWithin};
 
@@ -185,7 +185,10 @@ fn renew_counted(triples: &[u16], values: &[i16], rows: &mut [i32], count: usize
     requires { ⌜ (count ≤ 8192) × (3 * count ≡ length (now triples)) × (4 * count ≡ length (now rows)) ⌝ }
     requires { ⌜ ((i : ℕ) → i < length (now triples) → getD (now triples) i 0 < length (now values)) × ((v : ℕ) → natAbs (at (now values) v) ≤ 16384) ⌝ }
     requires { ⌜ RowsWithin 3999 (now rows) ⌝ }
-    ensures { λ r. ⌜ Counted (now (triples .entry)) (now (values .entry)) count tolerance (now (rows .entry)) (now (rows .exit)) (r .done) (r .multipliers) (r .slacks) ⌝ }
+    ensures { λ r. ⌜ (r .done ≤ count) × (r .multipliers ≤ tolerance → r .slacks ≤ tolerance → r .done ≡ count) ⌝ }
+    ensures { λ r. ⌜ now (rows .exit) ≡ over (4 * r .done) (renewedAt (now (triples .entry)) (now (rows .entry)) (now (values .entry))) (now (rows .entry)) ⌝ }
+    ensures { λ r. ⌜ (r .multipliers ≡ changes multiplier (r .done) (now (rows .entry)) (tab (4 * count) (renewedAt (now (triples .entry)) (now (rows .entry)) (now (values .entry)))))
+        × (r .slacks ≡ changes slack (r .done) (now (rows .entry)) (tab (4 * count) (renewedAt (now (triples .entry)) (now (rows .entry)) (now (values .entry))))) ⌝ }
 {
     let mut t = 0;
     let mut multipliers: u64 = 0;
@@ -202,21 +205,5 @@ fn renew_counted(triples: &[u16], values: &[i16], rows: &mut [i32], count: usize
         done: t,
         multipliers,
         slacks,
-    }
-}
-
-// The rest of the rows, from triple `from` on.
-fn renew_rest(triples: &[u16], values: &[i16], rows: &mut [i32], from: usize, count: usize)
-    requires { ⌜ (count ≤ 8192) × (3 * count ≡ length (now triples)) × (4 * count ≡ length (now rows)) × (from ≤ count) ⌝ }
-    requires { ⌜ ((i : ℕ) → i < length (now triples) → getD (now triples) i 0 < length (now values)) × ((v : ℕ) → natAbs (at (now values) v) ≤ 16384) ⌝ }
-    requires { ⌜ ((i : ℕ) → 4 * from ≤ i → natAbs (at (now rows) i) ≤ 131039232) ⌝ }
-    ensures { λ _. ⌜ ((i : ℕ) → 4 * from ≤ i → i < 4 * count → at (now (rows .exit)) i ≡ renewedAt (now (triples .entry)) (now (values .entry)) (now (rows .entry)) i) ⌝ }
-{
-    let mut t = from;
-    while t < count {
-        let old = four(rows, t);
-        let new = renewed_rows(triples, values, t, old);
-        put(rows, t, new);
-        t += 1;
     }
 }

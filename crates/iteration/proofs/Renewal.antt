@@ -1,0 +1,104 @@
+-- The rows, as one triple after another is renewed: of the rows s, with the values c. Assumes nothing.
+use mathlib.Core.Bool.{Bool, true, false, _&&_}
+use mathlib.Core.List.{List}
+use mathlib.Core.Path.{_≡_, refl, sym, ap, _∙_}
+use Prim.Native.Nat.{ℕ, suc, _+_, _*_, _/_, _%_, _^_, _≤_, _<_}
+use native.Mathlib.Omega.{arith}
+use borrow.Author.Tests.{ltb-true, ltb-false, le-leb}
+use lib.Dec.{T, leb, ltb}
+use lib.IntN.{ℤ, pos, natAbs, _-ℤ_}
+use lib.ListN.{length}
+use lib.Seq.{sets}
+use Rattle.integers.specs.Sum.{sumℕ}
+use Rattle.integers.proofs.Sums.{sumℕ-same}
+use Rattle.integers.proofs.Linear.{about, abs-difference}
+use Rattle.lists.specs.Tabulated.{tab, over}
+use Rattle.lists.proofs.Tabulated.{getD-tab, tab-same, over-out, over-sets}
+use Rattle.model.specs.Iteration.{at, sumAt, row, slack, multiplier, renewed, renewedAt}
+use Rattle.model.specs.Run.{squareOfChange, changes}
+use Rattle.model.specs.Bounds.{RowsWithin}
+use Rattle.model.specs.Splitting.{member}
+use Rattle.model.proofs.Causes.{within}
+use Rattle.model.proofs.Products.{and-left}
+use Rattle.model.proofs.Bounds.{rowSum-bound, renewed-multiplier, renewed-slack, multiplier-change, changes-bound}
+use Rattle.model.proofs.Rows.{renewed-at}
+use Rattle.iteration.proofs.Sums.{reached}
+
+-- ---- the test of a loop that goes on while t is below n and neither total exceeds x
+pub going : (t n a b x : ℕ) → ((ltb t n && leb a x) && leb b x) ≡ true → t < n
+going t n a b x h = ltb-true t n (and-left (ltb t n) (leb a x) (and-left (ltb t n && leb a x) (leb b x) h))
+
+and-false : (s u : Bool) → (s && u) ≡ false → u ≡ true → s ≡ false
+and-false true u h e = sym e ∙ h
+and-false false u h e = refl
+
+pub ended : (t n a b x : ℕ) → ((ltb t n && leb a x) && leb b x) ≡ false → a ≤ x → b ≤ x → n ≤ t
+ended t n a b x h p q = ltb-false t n (and-false (ltb t n) (leb a x) (and-false (ltb t n && leb a x) (leb b x) h (le-leb b x q)) (le-leb a x p))
+
+module _ (ts : List ℕ) (s c : List ℤ) where
+  -- entry i, renewed; and what the list is with the first t triples renewed
+  abbrev pub new : ℕ → ℤ
+  new i = renewedAt ts s c i
+
+  abbrev pub renewedTo : ℕ → List ℤ
+  renewedTo t = over (4 * t) new s
+
+  -- triple t, before and after
+  abbrev pub oldFour : ℕ → List ℤ
+  oldFour t = tab 4 (λ r. row s t r)
+
+  abbrev pub newFour : ℕ → List ℤ
+  newFour t = tab 4 (λ r. new (4 * t + r))
+
+  pub old-four : (t : ℕ) → tab 4 (λ r. row (renewedTo t) t r) ≡ oldFour t
+  old-four t = tab-same 4 (λ r. row (renewedTo t) t r) (λ r. row s t r) (λ r l. over-out (4 * t) new s (4 * t + r) (pos 0) (omega arith))
+
+  pub new-four : (t : ℕ) → tab 4 (λ r. renewed (row s t r) (sumAt ts c t r)) ≡ newFour t
+  new-four t = tab-same 4 (λ r. renewed (row s t r) (sumAt ts c t r)) (λ r. new (4 * t + r)) (λ r l. sym (renewed-at ts s c t r l))
+
+  pub put-four : (t : ℕ) → 4 * t + 4 ≤ length s → sets (renewedTo t) (4 * t) (newFour t) ≡ renewedTo (suc t)
+  put-four t h = let e : 4 * t + 4 ≡ 4 * suc t = omega arith in rw (over-sets 4 (4 * t) new s h, e)
+
+  -- ---- how large
+  module _ (within : RowsWithin 3999 s) (small : (v : ℕ) → natAbs (at c v) ≤ 16384) where
+    sum-small : (i : ℕ) → natAbs (sumAt ts c (i / 4) (i % 4)) ≤ 49152
+    sum-small i = rowSum-bound (i % 4) _ _ _ (omega arith) (small (member ts (i / 4) 0)) (small (member ts (i / 4) 1)) (small (member ts (i / 4) 2))
+
+    pub new-small : (i : ℕ) → natAbs (new i) ≤ 131072000
+    new-small i =
+        let sum = sumAt ts c (i / 4) (i % 4) in
+        omega (arith, about (new i), renewed-multiplier (at s i) sum (sum-small i), renewed-slack (at s i) sum (sum-small i), within .multipliers i)
+
+    pub old-small : (i : ℕ) → natAbs (at s i) ≤ 131072000
+    old-small i = reached s within i
+
+    multiplier-moves : (i : ℕ) → natAbs (pos (multiplier (new i)) -ℤ pos (multiplier (at s i))) ≤ 65536
+    multiplier-moves i = multiplier-change (at s i) (sumAt ts c (i / 4) (i % 4)) (sum-small i)
+
+    slack-moves : (i : ℕ) → natAbs (pos (slack (new i)) -ℤ pos (slack (at s i))) ≤ 65536
+    slack-moves i =
+        abs-difference (slack (new i)) (slack (at s i)) 65536 (omega (arith, renewed-slack (at s i) (sumAt ts c (i / 4) (i % 4)) (sum-small i))) (omega (arith, within .slacks i))
+
+    -- ---- the totals over the first t triples, where T are renewed in all
+    module _ (T : ℕ) (few : T ≤ 8192) where
+      abbrev pub all : List ℤ
+      all = tab (4 * T) new
+
+      row-all : (t r : ℕ) → t < T → r < 4 → row all t r ≡ new (4 * t + r)
+      row-all t r h l = getD-tab (4 * T) new (4 * t + r) (pos 0) (omega arith)
+
+      pub total-next : (part : ℤ → ℕ) (t : ℕ) → t < T
+          → changes part (suc t) s all ≡ changes part t s all + sumℕ 4 (λ r. squareOfChange (part (at (oldFour t) r)) (part (at (newFour t) r)))
+      unfolding changes
+      total-next part t h =
+          ap (λ (n : ℕ). changes part t s all + n)
+          (sumℕ-same 4 (λ r. squareOfChange (part (row s t r)) (part (row all t r))) (λ r. squareOfChange (part (at (oldFour t) r)) (part (at (newFour t) r))) (λ r l. rw (row-all t r h l, getD-tab 4 (λ r. row s t r) r (pos 0) l, getD-tab 4 (λ r. new (4 * t + r)) r (pos 0) l)))
+
+      pub total-most : (part : ℤ → ℕ) → ((i : ℕ) → natAbs (pos (part (new i)) -ℤ pos (part (at s i))) ≤ 65536) → (t : ℕ) → t ≤ T → changes part t s all ≤ 2 ^ 47
+      total-most part moves t h = changes-bound part t s all (omega arith) (λ u r k l. rw (row-all u r (omega arith) l) (moves (4 * u + r)))
+
+      pub multipliers-most : (t : ℕ) → t ≤ T → changes multiplier t s all ≤ 2 ^ 47
+      multipliers-most = total-most multiplier multiplier-moves
+
+      pub slacks-most : (t : ℕ) → t ≤ T → changes slack t s all ≤ 2 ^ 47
+      slacks-most = total-most slack slack-moves
