@@ -13,7 +13,7 @@ use Rattle.integers.specs.Sum.{sumℕ}
 use Rattle.integers.proofs.Sums.{sumℕ-same}
 use Rattle.integers.proofs.Linear.{about, abs-difference}
 use Rattle.lists.specs.Tabulated.{tab, over}
-use Rattle.lists.proofs.Tabulated.{getD-tab, tab-same, over-out, over-sets}
+use Rattle.lists.proofs.Tabulated.{length-tab, getD-tab, tab-same, tab-getD, length-over, over-in, over-out, over-sets, over-same, over-self, over-whole}
 use Rattle.model.specs.Iteration.{at, sumAt, row, slack, multiplier, renewed, renewedAt}
 use Rattle.model.specs.Run.{squareOfChange, changes}
 use Rattle.model.specs.Bounds.{RowsWithin}
@@ -35,6 +35,14 @@ and-false false u h e = refl
 pub ended : (t n a b x : ℕ) → ((ltb t n && leb a x) && leb b x) ≡ false → a ≤ x → b ≤ x → n ≤ t
 ended t n a b x h p q = ltb-false t n (and-false (ltb t n) (leb a x) (and-false (ltb t n && leb a x) (leb b x) h (le-leb b x q)) (le-leb a x p))
 
+-- ---- four rows in a list of which the first t triples are done
+module _ (s : List ℤ) (f : ℕ → ℤ) (t : ℕ) where
+  pub old-four : tab 4 (λ r. row (over (4 * t) f s) t r) ≡ tab 4 (λ r. row s t r)
+  old-four = tab-same 4 (λ r. row (over (4 * t) f s) t r) (λ r. row s t r) (λ r l. over-out (4 * t) f s (4 * t + r) (pos 0) (omega arith))
+
+  pub put-four : 4 * t + 4 ≤ length s → sets (over (4 * t) f s) (4 * t) (tab 4 (λ r. f (4 * t + r))) ≡ over (4 * suc t) f s
+  put-four h = let e : 4 * t + 4 ≡ 4 * suc t = omega arith in rw (over-sets 4 (4 * t) f s h, e)
+
 module _ (ts : List ℕ) (s c : List ℤ) where
   -- entry i, renewed; and what the list is with the first t triples renewed
   abbrev pub new : ℕ → ℤ
@@ -50,34 +58,51 @@ module _ (ts : List ℕ) (s c : List ℤ) where
   abbrev pub newFour : ℕ → List ℤ
   newFour t = tab 4 (λ r. new (4 * t + r))
 
-  pub old-four : (t : ℕ) → tab 4 (λ r. row (renewedTo t) t r) ≡ oldFour t
-  old-four t = tab-same 4 (λ r. row (renewedTo t) t r) (λ r. row s t r) (λ r l. over-out (4 * t) new s (4 * t + r) (pos 0) (omega arith))
-
   pub new-four : (t : ℕ) → tab 4 (λ r. renewed (row s t r) (sumAt ts c t r)) ≡ newFour t
   new-four t = tab-same 4 (λ r. renewed (row s t r) (sumAt ts c t r)) (λ r. new (4 * t + r)) (λ r l. sym (renewed-at ts s c t r l))
 
-  pub put-four : (t : ℕ) → 4 * t + 4 ≤ length s → sets (renewedTo t) (4 * t) (newFour t) ≡ renewedTo (suc t)
-  put-four t h = let e : 4 * t + 4 ≡ 4 * suc t = omega arith in rw (over-sets 4 (4 * t) new s h, e)
+  -- ---- the triples from `from` on, renewed; T are there
+  module _ (from T : ℕ) where
+    abbrev pub rest : List ℤ
+    rest = over (4 * from) (at s) (tab (4 * T) new)
+
+    pub rest-first : from ≤ T → 4 * T ≡ length s → over (4 * from) (at rest) s ≡ s
+    rest-first h e =
+        over-same (4 * from) (at rest) (at s) s (λ i l. over-in (4 * from) (at s) (tab (4 * T) new) i (pos 0) l) ∙ over-self (4 * from) s (pos 0) (omega arith)
+
+    pub rest-four : (t : ℕ) → from ≤ t → t < T → newFour t ≡ tab 4 (λ r. at rest (4 * t + r))
+    rest-four t h k =
+        tab-same 4 (λ r. new (4 * t + r)) (λ r. at rest (4 * t + r)) (λ r l. sym (over-out (4 * from) (at s) (tab (4 * T) new) (4 * t + r) (pos 0) (omega arith) ∙ getD-tab (4 * T) new (4 * t + r) (pos 0) (omega arith)))
+
+    length-rest : from ≤ T → length rest ≡ 4 * T
+    length-rest h = length-over (4 * from) (at s) (tab (4 * T) new) (omega (arith, length-tab (4 * T) new)) ∙ length-tab (4 * T) new
+
+    pub rest-whole : from ≤ T → 4 * T ≡ length s → over (4 * T) (at rest) s ≡ rest
+    rest-whole h e = over-whole (4 * T) (at rest) s (omega arith) ∙ ap (λ n. tab n (at rest)) (sym (length-rest h)) ∙ tab-getD rest (pos 0)
 
   -- ---- how large
-  module _ (within : RowsWithin 3999 s) (small : (v : ℕ) → natAbs (at c v) ≤ 16384) where
+  module _ (small : (v : ℕ) → natAbs (at c v) ≤ 16384) where
     sum-small : (i : ℕ) → natAbs (sumAt ts c (i / 4) (i % 4)) ≤ 49152
     sum-small i = rowSum-bound (i % 4) _ _ _ (omega arith) (small (member ts (i / 4) 0)) (small (member ts (i / 4) 1)) (small (member ts (i / 4) 2))
 
-    pub new-small : (i : ℕ) → natAbs (new i) ≤ 131072000
-    new-small i =
+    pub renewed-small : (i : ℕ) → multiplier (at s i) ≤ 32768 * 3999 → natAbs (new i) ≤ 131072000
+    renewed-small i h =
         let sum = sumAt ts c (i / 4) (i % 4) in
-        omega (arith, about (new i), renewed-multiplier (at s i) sum (sum-small i), renewed-slack (at s i) sum (sum-small i), within .multipliers i)
+        omega (arith, about (new i), renewed-multiplier (at s i) sum (sum-small i), renewed-slack (at s i) sum (sum-small i))
+
+  module _ (within : RowsWithin 3999 s) (small : (v : ℕ) → natAbs (at c v) ≤ 16384) where
+    pub new-small : (i : ℕ) → natAbs (new i) ≤ 131072000
+    new-small i = renewed-small small i (within .multipliers i)
 
     pub old-small : (i : ℕ) → natAbs (at s i) ≤ 131072000
     old-small i = reached s within i
 
     multiplier-moves : (i : ℕ) → natAbs (pos (multiplier (new i)) -ℤ pos (multiplier (at s i))) ≤ 65536
-    multiplier-moves i = multiplier-change (at s i) (sumAt ts c (i / 4) (i % 4)) (sum-small i)
+    multiplier-moves i = multiplier-change (at s i) (sumAt ts c (i / 4) (i % 4)) (sum-small small i)
 
     slack-moves : (i : ℕ) → natAbs (pos (slack (new i)) -ℤ pos (slack (at s i))) ≤ 65536
     slack-moves i =
-        abs-difference (slack (new i)) (slack (at s i)) 65536 (omega (arith, renewed-slack (at s i) (sumAt ts c (i / 4) (i % 4)) (sum-small i))) (omega (arith, within .slacks i))
+        abs-difference (slack (new i)) (slack (at s i)) 65536 (omega (arith, renewed-slack (at s i) (sumAt ts c (i / 4) (i % 4)) (sum-small small i))) (omega (arith, within .slacks i))
 
     -- ---- the totals over the first t triples, where T are renewed in all
     module _ (T : ℕ) (few : T ≤ 8192) where

@@ -11,10 +11,12 @@ ghost use lib.Signed.{_<ℤ_, _≤ℤ_};
 ghost use Rattle.integers.specs.Sum.{sumℤ};
 ghost use Rattle.lists.specs.Tabulated.{tab, over};
 ghost use Rattle.quotient.specs.Quotient.{quotient};
-ghost use Rattle.model.specs.Splitting.{member};
-ghost use Rattle.model.specs.Iteration.{at, row, sumAt, slack, multiplier, share, _when_, sumOf, numerator, divisor, renewed, renewedAt};
+ghost use Rattle.model.specs.Splitting.{System, member};
+ghost use Rattle.model.specs.Iteration.{at, row, sumAt, slack, multiplier, share, _when_, sumOf, numerator, divisor, renewed, renewedAt, State, countsOf};
+ghost use Rattle.model.specs.Iteration as Iteration;
 ghost use Rattle.model.specs.Run.{changes, settledBy};
-ghost use Rattle.model.specs.Bounds.{RowsWithin};
+ghost use Rattle.model.specs.Bounds.{RowsWithin, Ready};
+use model::Settings;
 
 // ---- reading
 
@@ -206,4 +208,52 @@ fn renew_counted(triples: &[u16], values: &[i16], rows: &mut [i32], count: usize
         multipliers,
         slacks,
     }
+}
+
+// The rows of triple `from` and of those after it are renewed.
+fn renew_rest(triples: &[u16], values: &[i16], rows: &mut [i32], from: usize, count: usize)
+    requires { ⌜ (from ≤ count) × (count ≤ 8192) × (3 * count ≡ length (now triples)) × (4 * count ≡ length (now rows)) ⌝ }
+    requires { ⌜ ((i : ℕ) → i < length (now triples) → getD (now triples) i 0 < length (now values)) × ((v : ℕ) → natAbs (at (now values) v) ≤ 16384) ⌝ }
+    requires { ⌜ ((i : ℕ) → 4 * from ≤ i → (multiplier (at (now rows) i) ≤ 32768 * 3999) × (slack (at (now rows) i) ≤ 65536)) ⌝ }
+    ensures { λ _. ⌜ now (rows .exit) ≡ over (4 * from) (at (now (rows .entry))) (tab (4 * count) (renewedAt (now (triples .entry)) (now (rows .entry)) (now (values .entry)))) ⌝ }
+{
+    let mut t = from;
+    while t < count {
+        let old = four(rows, t);
+        let new = renewed_rows(triples, values, t, old);
+        put(rows, t, new);
+        t += 1;
+    }
+}
+
+// "Then each row"; and whether "neither total exceeds X".
+pub fn renew_rows(triples: &[u16], values: &[i16], rows: &mut [i32], count: usize, tolerance: u64) -> u32
+    requires { ⌜ (count ≤ 8192) × (3 * count ≡ length (now triples)) × (4 * count ≡ length (now rows)) ⌝ }
+    requires { ⌜ ((i : ℕ) → i < length (now triples) → getD (now triples) i 0 < length (now values)) × ((v : ℕ) → natAbs (at (now values) v) ≤ 16384) ⌝ }
+    requires { ⌜ RowsWithin 3999 (now rows) ⌝ }
+    ensures { λ _. ⌜ now (rows .exit) ≡ tab (4 * count) (renewedAt (now (triples .entry)) (now (rows .entry)) (now (values .entry))) ⌝ }
+    ensures { λ settled. ⌜ settled ≡ settledBy tolerance count (now (rows .entry)) (tab (4 * count) (renewedAt (now (triples .entry)) (now (rows .entry)) (now (values .entry)))) ⌝ }
+{
+    let totals = renew_counted(triples, values, rows, count, tolerance);
+    renew_rest(triples, values, rows, totals.done, count);
+    if (totals.multipliers <= tolerance) & (totals.slacks <= tolerance) { 1 } else { 0 }
+}
+
+// ---- one iteration
+
+// The lists of a run afterwards are those of `iterate`; the answer says whether the run stops, settled.
+pub fn iterate(settings: Settings, triples: &[u16], counts: &[u16], costs: &[i16], count: usize, sums: &mut [i64], values: &mut [i16], rows: &mut [i32]) -> u32
+    requires { ⌜ (3 * count ≡ length (now triples)) × (length (now sums) ≡ length (now values)) × (4 * count ≡ length (now rows)) ⌝ }
+    requires { ⌜ ((i : ℕ) → i < length (now triples) → getD (now triples) i 0 < length (now values)) ⌝ }
+    requires { ⌜ (let g : System = record { variables = length (now values); triples = count; members = now triples } in
+        (now counts ≡ countsOf g) × Ready g settings (now costs)) ⌝ }
+    requires { ⌜ RowsWithin 3999 (now rows) ⌝ }
+    ensures { λ _. ⌜ (let g : System = record { variables = length (now (values .entry)); triples = count; members = now (triples .entry) } in
+        let a : State = record { sums = now (sums .entry); values = now (values .entry); rows = now (rows .entry) } in
+        record { sums = now (sums .exit); values = now (values .exit); rows = now (rows .exit) } ≡ Iteration.iterate quotient g settings (now (costs .entry)) a) ⌝ }
+    ensures { λ settled. ⌜ settled ≡ settledBy (settings .tolerance) count (now (rows .entry)) (now (rows .exit)) ⌝ }
+{
+    gather(triples, rows, count, sums);
+    renew_values(sums, counts, costs, settings.weight, settings.ratio, values);
+    renew_rows(triples, values, rows, count, settings.tolerance as u64)
 }

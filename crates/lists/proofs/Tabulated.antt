@@ -1,16 +1,16 @@
 -- Lists given by their entries. Assumes nothing.
-use mathlib.Core.Path.{_≡_, refl, sym, ap, ap₂, _∙_}
-use mathlib.Core.Logic.{_≢_}
 use mathlib.Core.List.{List, [], _∷_, _++_, map, append-nil}
+use mathlib.Core.Logic.{_≢_}
+use mathlib.Core.Path.{_≡_, refl, sym, ap, ap₂, _∙_}
 use Prim.Native.Nat.{ℕ, zero, suc, _+_, _-_, _≤_, _<_}
 use native.Mathlib.Numerals.{add-one}
 use native.Mathlib.Omega.{arith}
 use lib.IntN.{ℤ}
-use lib.ListN.{length, getD, drop, set, length-append, length-drop, drop-of-length-le, length-map, List·getD-append, List·getD-eq-default}
-use lib.Seq.{sets, drop-at, set-append-left, getD-append-add, getD-drop}
-use mir.Syntax.{Width}
-use mir.Val.{SFits, toZ, ofZ}
+use lib.ListN.{length, getD, drop, set, length-append, length-drop, length-map, drop-of-length-le, List·getD-append}
+use lib.Seq.{getD-drop, getD-append-add, drop-at, sets, set-append-left}
 use mir.Facts.{toZ-ofZ}
+use mir.Syntax.{Width}
+use mir.Val.{toZ, ofZ, SFits}
 use Rattle.lists.specs.Tabulated.{tab, over, written}
 
 module _ {ℓ} {A : Type ℓ} where
@@ -87,6 +87,11 @@ module _ {ℓ} {A : Type ℓ} where
   over-over n f g old = ap (λ (l : List A). tab n f ++ l) (drop-at (tab n g) (drop n old) n (length-tab n g))
 
   -- all of it
+  pub over-self : (n : ℕ) (l : List A) (d : A) → n ≤ length l → over n (λ i. getD l i d) l ≡ l
+  over-self zero l d h = refl
+  over-self (suc n) [] d h = absurd (omega arith)
+  over-self (suc n) (x ∷ l) d h = ap (λ k. x ∷ k) (over-self n l d (omega arith))
+
   pub over-whole : (n : ℕ) (f : ℕ → A) (old : List A) → length old ≤ n → over n f old ≡ tab n f
   over-whole n f old h = rw (drop-of-length-le old h) (append-nil (tab n f))
 

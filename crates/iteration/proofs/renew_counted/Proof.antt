@@ -60,7 +60,7 @@ four-requires : tie.Need-four-requires Inv-loop μ-loop
 four-requires c κs = let l = c .before .before in (omega (arith, start l .pre .0), omega (arith, long l, below (c .before)))
 
 old-is : (c : tie.After-four Inv-loop μ-loop) → let l = c .before .before .before in c .four .result ≡ oldFour (ts l) (ss l) (cs l) (l .loop .t)
-old-is c = let l = c .before .before .before in c .four .ensures ∙ ap (λ (k : List ℤ). tab 4 (λ r. row k (l .loop .t) r)) (l .loop .inv .1) ∙ old-four (ts l) (ss l) (cs l) (l .loop .t)
+old-is c = let l = c .before .before .before in c .four .ensures ∙ ap (λ (k : List ℤ). tab 4 (λ r. row k (l .loop .t) r)) (l .loop .inv .1) ∙ old-four (ss l) (renewedAt (ts l) (ss l) (cs l)) (l .loop .t)
 
 old-within : (c : tie.After-four Inv-loop μ-loop) (r : ℕ) → natAbs (at (c .four .result) r) ≤ 131072000
 old-within c r =
@@ -91,7 +91,7 @@ put-is c =
     let t = l .loop .t in
     c .put .ensures
     ∙ ap₂ (λ (k m : List ℤ). sets k (4 * t) (tab 4 (at m))) (l .loop .inv .1) (new-is (c .before .before))
-    ∙ put-four (ts l) (ss l) (cs l) t (omega (arith, start l .pre .0, below (c .before .before .before .before .before)))
+    ∙ put-four (ss l) (renewedAt (ts l) (ss l) (cs l)) t (omega (arith, start l .pre .0, below (c .before .before .before .before .before)))
 
 -- ---- the totals
 abbrev made : tie.After-rows Inv-loop μ-loop → tie.After-renewed-rows Inv-loop μ-loop
