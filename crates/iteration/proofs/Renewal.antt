@@ -1,21 +1,22 @@
 -- The rows, as one triple after another is renewed: of the rows s, with the values c. Assumes nothing.
 use mathlib.Core.Bool.{Bool, true, false, _&&_}
 use mathlib.Core.List.{List}
-use mathlib.Core.Path.{_≡_, refl, sym, ap, _∙_}
+use mathlib.Core.Path.{_≡_, refl, sym, ap, ap₂, _∙_}
 use Prim.Native.Nat.{ℕ, suc, _+_, _*_, _/_, _%_, _^_, _≤_, _<_}
 use native.Mathlib.Omega.{arith}
-use borrow.Author.Tests.{ltb-true, ltb-false, le-leb}
+use borrow.Author.Tests.{ltb-true, ltb-false, leb-true, leb-false, le-leb, lt-leb}
 use lib.Dec.{T, leb, ltb}
 use lib.IntN.{ℤ, pos, natAbs, _-ℤ_}
 use lib.ListN.{length}
 use lib.Seq.{sets}
 use Rattle.integers.specs.Sum.{sumℕ}
-use Rattle.integers.proofs.Sums.{sumℕ-same}
+use Rattle.integers.proofs.Sums.{sumℕ-same, sumℕ-begin}
 use Rattle.integers.proofs.Linear.{about, abs-difference}
 use Rattle.lists.specs.Tabulated.{tab, over}
-use Rattle.lists.proofs.Tabulated.{length-tab, getD-tab, tab-same, tab-getD, length-over, over-in, over-out, over-sets, over-same, over-self, over-whole}
+use Rattle.lists.proofs.Tabulated.{length-tab, getD-tab, tab-same, tab-getD, length-over, over-in, over-out, over-sets, over-same, over-self, over-whole, tab-over}
 use Rattle.model.specs.Iteration.{at, sumAt, row, slack, multiplier, renewed, renewedAt}
-use Rattle.model.specs.Run.{squareOfChange, changes}
+use Rattle.model.specs.Causes.{_if_}
+use Rattle.model.specs.Run.{squareOfChange, changes, settledBy}
 use Rattle.model.specs.Bounds.{RowsWithin}
 use Rattle.model.specs.Splitting.{member}
 use Rattle.model.proofs.Causes.{within}
@@ -80,6 +81,13 @@ module _ (ts : List ℕ) (s c : List ℤ) where
     pub rest-whole : from ≤ T → 4 * T ≡ length s → over (4 * T) (at rest) s ≡ rest
     rest-whole h e = over-whole (4 * T) (at rest) s (omega arith) ∙ ap (λ n. tab n (at rest)) (sym (length-rest h)) ∙ tab-getD rest (pos 0)
 
+  -- the first d triples, then the rest: all of them
+  pub in-two : (d T : ℕ) → d ≤ T → over (4 * d) (at (renewedTo d)) (tab (4 * T) (renewedAt ts (renewedTo d) c)) ≡ tab (4 * T) new
+  in-two d T h =
+      tab-over (4 * d) (4 * T) (at (renewedTo d)) (renewedAt ts (renewedTo d) c) new (omega arith)
+      (λ i l. over-in (4 * d) new s i (pos 0) l)
+      (λ i l. ap (λ (z : ℤ). renewed z (sumAt ts c (i / 4) (i % 4))) (over-out (4 * d) new s i (pos 0) l))
+
   -- ---- how large
   module _ (small : (v : ℕ) → natAbs (at c v) ≤ 16384) where
     sum-small : (i : ℕ) → natAbs (sumAt ts c (i / 4) (i % 4)) ≤ 49152
@@ -127,3 +135,24 @@ module _ (ts : List ℕ) (s c : List ℤ) where
 
       pub slacks-most : (t : ℕ) → t ≤ T → changes slack t s all ≤ 2 ^ 47
       slacks-most = total-most slack slack-moves
+
+and-none : (t : Bool) → 1 if (t && false) ≡ 0
+and-none true = refl
+and-none false = refl
+
+-- ---- a total that exceeds x before all triples are counted exceeds it in the end
+module _ (x d T : ℕ) (s s′ : List ℤ) (h : d ≤ T) where
+  grown : (part : ℤ → ℕ) (a : ℕ) → a ≡ changes part d s s′ → leb a x ≡ false → leb (changes part T s s′) x ≡ false
+  unfolding changes
+  grown part a e l =
+      lt-leb (changes part T s s′) x (omega (arith, leb-false a x l, sumℕ-begin T d (λ t. sumℕ 4 (λ r. squareOfChange (part (row s t r)) (part (row s′ t r)))) h))
+
+  module _ (a b : ℕ) (p : a ≡ changes multiplier d s s′) (q : b ≡ changes slack d s s′) where
+    by-tests : (m n : Bool) → leb a x ≡ m → leb b x ≡ n → (m ≡ true → n ≡ true → d ≡ T) → 1 if (leb a x && leb b x) ≡ settledBy x T s s′
+    unfolding settledBy
+    by-tests true true e f w = let same = w refl refl in ap₂ (λ (u v : ℕ). 1 if (leb u x && leb v x)) (p ∙ ap (λ (n : ℕ). changes multiplier n s s′) same) (q ∙ ap (λ (n : ℕ). changes slack n s s′) same)
+    by-tests true false e f w = rw (e, f, grown slack b q f) (sym (and-none (leb (changes multiplier T s s′) x)))
+    by-tests false n e f w = rw (e, grown multiplier a p e) refl
+
+    pub settled-is : (a ≤ x → b ≤ x → d ≡ T) → 1 if (leb a x && leb b x) ≡ settledBy x T s s′
+    settled-is w = by-tests (leb a x) (leb b x) refl refl (λ u v. w (leb-true a x u) (leb-true b x v))

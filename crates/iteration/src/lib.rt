@@ -3,7 +3,8 @@
 ghost use mathlib.Core.Path.{_≡_};
 ghost use mathlib.Core.List.{List};
 ghost use Prim.Native.Nat.{ℕ, _+_, _*_, _/_, _%_, _^_, _≤_, _<_};
-ghost use lib.Dec.{eqb};
+ghost use mathlib.Core.Bool.{_&&_};
+ghost use lib.Dec.{leb, eqb};
 ghost use lib.IntN.{ℤ, pos, natAbs, _+ℤ_};
 ghost use lib.ListN.{length, getD, set};
 ghost use lib.Seq.{sets};
@@ -11,6 +12,7 @@ ghost use lib.Signed.{_<ℤ_, _≤ℤ_};
 ghost use Rattle.integers.specs.Sum.{sumℤ};
 ghost use Rattle.lists.specs.Tabulated.{tab, over};
 ghost use Rattle.quotient.specs.Quotient.{quotient};
+ghost use Rattle.model.specs.Causes.{_if_};
 ghost use Rattle.model.specs.Splitting.{System, member};
 ghost use Rattle.model.specs.Iteration.{at, row, sumAt, slack, multiplier, share, _when_, sumOf, numerator, divisor, renewed, renewedAt, State, countsOf};
 ghost use Rattle.model.specs.Iteration as Iteration;
@@ -226,6 +228,12 @@ fn renew_rest(triples: &[u16], values: &[i16], rows: &mut [i32], from: usize, co
     }
 }
 
+fn settles(multipliers: u64, slacks: u64, tolerance: u64) -> u32
+    ensures { λ settled. ⌜ settled ≡ 1 if (leb multipliers tolerance && leb slacks tolerance) ⌝ }
+{
+    if (multipliers <= tolerance) & (slacks <= tolerance) { 1 } else { 0 }
+}
+
 // "Then each row"; and whether "neither total exceeds X".
 pub fn renew_rows(triples: &[u16], values: &[i16], rows: &mut [i32], count: usize, tolerance: u64) -> u32
     requires { ⌜ (count ≤ 8192) × (3 * count ≡ length (now triples)) × (4 * count ≡ length (now rows)) ⌝ }
@@ -236,7 +244,7 @@ pub fn renew_rows(triples: &[u16], values: &[i16], rows: &mut [i32], count: usiz
 {
     let totals = renew_counted(triples, values, rows, count, tolerance);
     renew_rest(triples, values, rows, totals.done, count);
-    if (totals.multipliers <= tolerance) & (totals.slacks <= tolerance) { 1 } else { 0 }
+    settles(totals.multipliers, totals.slacks, tolerance)
 }
 
 // ---- one iteration

@@ -96,6 +96,12 @@ module _ {ℓ} {A : Type ℓ} where
   over-whole n f old h = rw (drop-of-length-le old h) (append-nil (tab n f))
 
   -- ---- written
+  pub tab-over : (n N : ℕ) (f g h : ℕ → A) → n ≤ N → ((i : ℕ) → i < n → f i ≡ h i) → ((i : ℕ) → n ≤ i → g i ≡ h i) → over n f (tab N g) ≡ tab N h
+  tab-over zero N f g h l p q = tab-same N g h (λ i k. q i (omega arith))
+  tab-over (suc n) zero f g h l p q = absurd (omega arith)
+  tab-over (suc n) (suc N) f g h l p q =
+      ap₂ _∷_ (p 0 (omega arith)) (tab-over n N (λ i. f (suc i)) (λ i. g (suc i)) (λ i. h (suc i)) (omega arith) (λ i k. p (suc i) (omega arith)) (λ i k. q (suc i) (omega arith)))
+
   pub over-tab : (n : ℕ) (f : ℕ → A) (old : List A) → over n f old ≡ written (tab n f) old
   over-tab n f old = rw (length-tab n f)
 
