@@ -1,2 +1,5 @@
+pub mod Causes
+pub mod Accepted
+pub mod Sound
 pub mod Runs
 pub mod Worked

@@ -3,6 +3,7 @@
 pub mod Causes
 pub mod Code
 pub mod Records
+pub mod Sound
 pub mod Splitting
 pub mod Iteration
 pub mod Run

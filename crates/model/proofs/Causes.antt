@@ -1,0 +1,30 @@
+-- What the number 0 says of a list of causes. Assumes nothing.
+use mathlib.Core.Path.{_≡_, refl, subst}
+use mathlib.Core.Bool.{Bool, true, false, _||_}
+use mathlib.Core.List.{List, [], _∷_}
+use Prim.Native.Nat.{ℕ, zero, suc, _≤_}
+use native.Mathlib.Omega.{arith}
+use lib.Dec.{T, ltb}
+use borrow.Author.Tests.{ltb-false}
+use Rattle.model.specs.Causes.{_if_, firstOf, outside}
+
+-- none of the causes holds
+abbrev pub Clear : List ℕ → Type 0
+Clear [] = Unit {0}
+Clear (c ∷ l) = (c ≡ 0) × Clear l
+
+pub clear : (l : List ℕ) → firstOf l ≡ 0 → Clear l
+clear [] h = tt
+clear (zero ∷ l) h = (refl, clear l h)
+clear (suc c ∷ l) h = absurd (omega arith)
+
+pub unless : (c : ℕ) (t : Bool) → suc c if t ≡ 0 → t ≡ false
+unless c true h = absurd (omega arith)
+unless c false h = refl
+
+pub within : (low high x : ℕ) → outside low high x ≡ false → (low ≤ x) × (x ≤ high)
+within low high x h = by (ltb x low) (ltb high x) refl refl h
+  where
+    by : (a b : Bool) → ltb x low ≡ a → ltb high x ≡ b → (a || b) ≡ false → (low ≤ x) × (x ≤ high)
+    by true b p q h = absurd (subst T h tt)
+    by false b p q h = (ltb-false x low p, ltb-false high x (subst (λ (t : Bool). ltb high x ≡ t) h q))
