@@ -6,6 +6,7 @@
 --   one loop after another over the same entries                over-over
 --
 -- A loop that tests the entries keeps `every f (drop i l) ≡ every f l` (every-next, every-stop, every-end), and one that searches
--- keeps `(j : ℕ) → j < i → f j ≡ false` (first-at, first-none).
+-- keeps `(j : ℕ) → j < i → f j ≡ false` (first-at, first-none). What a loan of `&s[k..]` is: `Parts`.
 pub mod Tabulated
 pub mod Entries
+pub mod Parts
