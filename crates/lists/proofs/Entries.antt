@@ -7,6 +7,7 @@ use native.Mathlib.Omega.{arith}
 use lib.Dec.{T}
 use lib.ListN.{length, getD, drop}
 use lib.Seq.{drop-cons}
+use Rattle.lists.specs.Tabulated.{tab}
 use Rattle.lists.specs.Entries.{every, first}
 
 -- ---- every
@@ -33,6 +34,11 @@ module _ {A : Type 0} (f : A → Bool) where
       by true p e zero h ih = p
       by true p e (suc i) h ih = ih i d e (omega arith)
       by false p e i h ih = absurd (subst T (sym e) tt)
+
+-- tests that agree on the entries
+pub every-same : {A : Type 0} (n : ℕ) (h : ℕ → A) (f g : A → Bool) → ((i : ℕ) → i < n → f (h i) ≡ g (h i)) → every f (tab n h) ≡ every g (tab n h)
+every-same zero h f g e = refl
+every-same (suc n) h f g e = rw (e 0 (omega arith), every-same n (λ i. h (suc i)) f g (λ i l. e (suc i) (omega arith)))
 
 -- ---- first
 pub first-at : (n : ℕ) (f : ℕ → Bool) (i : ℕ) → i < n → ((j : ℕ) → j < i → f j ≡ false) → f i ≡ true → first n f ≡ i
