@@ -8,14 +8,10 @@ use lib.Dec.{T, ltb}
 use borrow.Author.Tests.{ltb-false}
 use Rattle.model.specs.Causes.{_if_, firstOf, outside}
 
--- the last cause decides alone, and one that holds decides before the others
+-- the last cause decides alone
 pub only : (c : ℕ) → firstOf (c ∷ []) ≡ c
 only zero = refl
 only (suc c) = refl
-
-pub decides : (c : ℕ) (l : List ℕ) → (c ≡ 0 → ⊥) → firstOf (c ∷ l) ≡ c
-decides zero l h = absurd (h refl)
-decides (suc c) l h = refl
 
 -- none of the causes holds
 abbrev pub Clear : List ℕ → Type 0

@@ -9,7 +9,7 @@ use lib.ListN.{length, getD, drop}
 use lib.Seq.{drop-cons, drop-drop}
 use Rattle.model.specs.Causes.{firstOf}
 use Rattle.model.specs.Records.{twoBytes, numbers, degree, indices, afterCheck, checksIn, afterChecks, judgeCheck, judgeChecks}
-use Rattle.model.proofs.Causes.{only, decides, clear}
+use Rattle.model.proofs.Causes.{only, clear}
 use Rattle.model.proofs.Accepted.{SoundRecord, record-sound, length-checks}
 
 -- ---- the first of m check records
@@ -19,7 +19,7 @@ judge-next n zero s h = absurd (omega arith)
 judge-next n (suc m) s h = let e : suc m - 1 ≡ m = omega arith in rw e
 
 pub judge-refused : (n m : ℕ) (s : List ℕ) → 0 < m → (judgeCheck n s ≡ 0 → ⊥) → judgeChecks n m s ≡ judgeCheck n s
-judge-refused n m s h c = judge-next n m s h ∙ decides (judgeCheck n s) (judgeChecks n (m - 1) (afterCheck s) ∷ []) c
+judge-refused n m s h c = let e : judgeCheck n s ≡ suc (judgeCheck n s - 1) = omega arith in judge-next n m s h ∙ rw e
 
 pub judge-passed : (n m : ℕ) (s : List ℕ) → 0 < m → judgeCheck n s ≡ 0 → judgeChecks n m s ≡ judgeChecks n (m - 1) (afterCheck s)
 judge-passed n m s h c = judge-next n m s h ∙ rw c (only (judgeChecks n (m - 1) (afterCheck s)))

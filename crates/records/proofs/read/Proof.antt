@@ -1,80 +1,130 @@
+-- `records::read` meets its contract: the causes in their order, and the answer of an accepted code. Assumes nothing.
+use mathlib.Core.Path.{_≡_, refl, sym, ap, _∙_}
+use mathlib.Core.Bool.{Bool, not}
+use mathlib.Core.List.{List, [], _∷_}
+use Prim.Native.Nat.{ℕ, zero, suc, _-_, _≤_, _<_}
+use native.Mathlib.Omega.{arith}
 use borrow.Author.Needs.{needs}
+use borrow.Author.Tests.{lt-ltb, le-ltb}
+use lib.Dec.{ltb}
+use lib.ListN.{length, drop}
+use Rattle.lists.proofs.Parts.{part-from}
+use Rattle.model.specs.Causes.{_if_, firstOf}
+use Rattle.model.specs.Code.{triples}
+use Rattle.model.specs.Records.{bitCount, checkCount, checksIn, codeOf, judgeHeader, judgeChecks, covered, judge}
+use Rattle.model.proofs.Accepted.{SoundHeader, header-sound}
+use Rattle.records.specs.Judged.{Judged}
+use Rattle.records.proofs.Answers.{refused-told, code-told}
 use Rattle.records.proofs.read.Statement.{statement}
 use Rattle.records.proofs.read.Tie as tie
-use Rattle.records.proofs.read.Reads as reads
-use Rattle.records.proofs.read.Lts as lts
-use Rattle.records.proofs.covers.Reads as covers-reads
-use Rattle.records.proofs.judge_checks.Reads as judge-checks-reads
-use Rattle.records.proofs.judge_header.Reads as judge-header-reads
-use Rattle.records.proofs.two_bytes.Reads as two-bytes-reads
 
--- src/lib.rt:196:9
+-- ---- the judgement in its order; c, t and a are what `judge_checks` found
+module _ (b : List ℕ) where
+  header-decides : (c : ℕ) → c ≡ judgeHeader b → (c ≡ 0 → ⊥) → judge b ≡ c
+  unfolding judge
+  header-decides c e h = let p : judgeHeader b ≡ suc (c - 1) = omega arith in rw p (omega arith)
+
+  module _ (header : judgeHeader b ≡ 0) (c t a : ℕ) (found : Judged (bitCount b) (checkCount b) (drop 6 b) c t a) where
+    checks-decide : (c ≡ 0 → ⊥) → judge b ≡ c
+    unfolding judge
+    checks-decide h = let p : judgeChecks (bitCount b) (checkCount b) (drop 6 b) ≡ suc (c - 1) = omega (arith, found .first) in rw (header, p) (omega arith)
+
+    whole-decides : c ≡ 0 → judge b ≡ firstOf (9 if ltb 0 a ∷ 7 if ltb 8192 t ∷ 8 if not (covered (codeOf b)) ∷ [])
+    unfolding judge codeOf
+    whole-decides z = rw (header, ← found .first, z, found .left z, found .counted z)
+
+-- ---- the header
 judge-header-requires : tie.Need-judge-header-requires
 judge-header-requires c κs = search needs
 
--- src/lib.rt:198:9
 returns : tie.Need-returns
-returns c = ?
+returns c = refused-told _ _ (c .if1 .taken) (header-decides _ _ (c .before .judge-header .ensures) (c .if1 .taken))
 
--- src/lib.rt:200:9
+header : (c : tie.Else1) → judgeHeader (c .before .before .before .args .code .now) ≡ 0
+header c = sym (c .before .judge-header .ensures) ∙ c .if1 .left
+
+sound : (c : tie.Else1) → SoundHeader (c .before .before .before .args .code .now)
+sound c = header-sound _ (header c)
+
 two-bytes-requires : tie.Need-two-bytes-requires
-two-bytes-requires c κs = ?
+two-bytes-requires c κs = omega (arith, sound c .room)
 
--- src/lib.rt:201:9
 two-bytes-requires-2 : tie.Need-two-bytes-requires-2
-two-bytes-requires-2 c κs = ?
+two-bytes-requires-2 c κs = omega (arith, sound (c .before) .room)
 
--- src/lib.rt:202:30
+-- ---- the check records
 sub-judge-checks : tie.Need-sub-judge-checks
-sub-judge-checks c = ?
+sub-judge-checks c = omega (arith, sound (c .before .before) .room)
 
--- src/lib.rt:202:30
 part-judge-checks-start : tie.Need-part-judge-checks-start
-part-judge-checks-start c = ?
+part-judge-checks-start c = omega (arith, sound (c .before .before) .room)
 
--- src/lib.rt:202:30
 part-judge-checks-end : tie.Need-part-judge-checks-end
 part-judge-checks-end c = search needs
 
--- src/lib.rt:202:9
 judge-checks-requires : tie.Need-judge-checks-requires
-judge-checks-requires c κs = ?
+judge-checks-requires c κs = omega (arith, sound (c .before .before .before) .checks-most, c .before .two-bytes2 .ensures .0)
 
--- src/lib.rt:205:9
+abbrev bytes : tie.After-judge-checks → List ℕ
+bytes c = c .before .before .before .before .before .before .before .args .code .now
+
+found : (c : tie.After-judge-checks) → let r = c .judge-checks .result in Judged (bitCount (bytes c)) (checkCount (bytes c)) (drop 6 (bytes c)) (r .cause) (r .triples) (r .after)
+found c = rw (← part-from 6 (bytes c), ← c .before .before .before .two-bytes .ensures .0, ← c .before .before .two-bytes2 .ensures .0) (c .judge-checks .ensures)
+
 returns-2 : tie.Need-returns-2
-returns-2 c = ?
+returns-2 c =
+    let k = c .before in
+    refused-told _ _ (c .if2 .taken) (checks-decide _ (header (k .before .before .before .before)) _ _ _ (found k) (c .if2 .taken))
 
--- src/lib.rt:209:9
+whole : (c : tie.Else2)
+    → let r = c .before .judge-checks .result in
+    judge (bytes (c .before)) ≡ firstOf (9 if ltb 0 (r .after) ∷ 7 if ltb 8192 (r .triples) ∷ 8 if not (covered (codeOf (bytes (c .before)))) ∷ [])
+whole c = whole-decides _ (header (c .before .before .before .before .before)) _ _ _ (found (c .before)) (c .if2 .left)
+
 returns-3 : tie.Need-returns-3
-returns-3 c = ?
+returns-3 c = refused-told _ 9 (λ z. omega arith) (rw (whole (c .before), lt-ltb 0 _ (c .if3 .taken)))
 
--- src/lib.rt:213:9
 returns-4 : tie.Need-returns-4
-returns-4 c = ?
+returns-4 c = refused-told _ 7 (λ z. omega arith) (rw (whole (c .before .before), le-ltb 0 _ (c .before .if3 .left), lt-ltb 8192 _ (c .if4 .taken)))
 
--- src/lib.rt:215:16
+-- ---- the coverage
 sub-covers : tie.Need-sub-covers
-sub-covers c = ?
+sub-covers c = omega (arith, sound (c .before .before .before .before .before .before .before) .room)
 
--- src/lib.rt:215:16
 part-covers-start : tie.Need-part-covers-start
-part-covers-start c = ?
+part-covers-start c = omega (arith, sound (c .before .before .before .before .before .before .before) .room)
 
--- src/lib.rt:215:16
 part-covers-end : tie.Need-part-covers-end
 part-covers-end c = search needs
 
--- src/lib.rt:215:9
 covers-requires : tie.Need-covers-requires
-covers-requires c κs = ?
+covers-requires c κs =
+    let e = c .before .before .before in
+    let k = e .before in
+    let w = k .before .before in
+    rw (part-from 6 (w .before .before .before .before .before .args .code .now), w .before .two-bytes .ensures .0, w .two-bytes2 .ensures .0) (sound (w .before .before) .bits-most, sym (found k .first) ∙ e .if2 .left)
 
--- src/lib.rt:216:9
+covered-is : (c : tie.After-covers) → c .covers .result ≡ covered (codeOf (bytes (c .before .before .before .before .before)))
+unfolding codeOf
+covered-is c =
+    let k = c .before .before .before .before .before in
+    rw (← part-from 6 (bytes k), ← k .before .before .before .two-bytes .ensures .0, ← k .before .before .two-bytes2 .ensures .0) (c .covers .ensures)
+
 returns-5 : tie.Need-returns-5
-returns-5 c = ?
+returns-5 c =
+    let v = c .before in
+    let e = v .before .before in
+    refused-told _ 8 (λ z. omega arith)
+    (rw (whole (e .before .before), le-ltb 0 _ (e .before .if3 .left), le-ltb 8192 _ (e .if4 .left), ← covered-is v, c .if5 .taken))
 
--- src/lib.rt:193:1
 returns-6 : tie.Need-returns-6
-returns-6 c = ?
+unfolding codeOf
+returns-6 c =
+    let v = c .before in
+    let e = v .before .before in
+    let k = e .before .before .before in
+    let j : judge (bytes k) ≡ 0 = rw (whole (e .before .before), le-ltb 0 _ (e .before .if3 .left), le-ltb 8192 _ (e .if4 .left), ← covered-is v, c .if5 .left) in
+    rw (k .before .before .before .two-bytes .ensures .0, k .before .before .two-bytes2 .ensures .0, found k .counted (e .before .before .if2 .left)) (code-told _ j)
 
 pub read-spec : {M : Type 1} → statement M
 read-spec =
