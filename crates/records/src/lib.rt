@@ -1,6 +1,6 @@
 // The reader of code records (document 01, 'Code records').
 ghost use mathlib.Core.Path.{_≡_};
-ghost use Prim.Native.Nat.{_+_, _≤_};
+ghost use Prim.Native.Nat.{_+_, _-_, _≤_, _<_};
 ghost use lib.ListN.{length, drop};
 ghost use Rattle.lists.specs.Tabulated.{tab};
 ghost use Rattle.lists.specs.Entries.{every};
@@ -160,22 +160,24 @@ fn mark(s: &[u8], bits: usize, seen: &mut [u8; 4096])
     }
 }
 
-// Whether each of the first `bits` entries has a mark.
-fn all_marked(seen: &[u8; 4096], bits: usize) -> bool
-    requires { ⌜ bits ≤ 4096 ⌝ }
-    ensures { λ r. ⌜ r ≡ every (marked (now (seen .entry))) (tab bits (λ b. b)) ⌝ }
+// Whether each entry from the first to `last` has a mark.
+fn all_marked(seen: &[u8; 4096], last: usize) -> bool
+    requires { ⌜ last < 4096 ⌝ }
+    ensures { λ r. ⌜ r ≡ every (marked (now (seen .entry))) (tab (last + 1) (λ b. b)) ⌝ }
 {
-    for b in 0..bits {
+    let mut b = 0usize;
+    while b <= last {
         if seen[b] == 0 {
             return false;
         }
+        b += 1;
     }
     true
 }
 
 // Whether each bit lies in some of the check records that `s` begins with.
 fn covers(s: &[u8], bits: usize, checks: usize) -> bool
-    requires { ⌜ bits ≤ 4096 ⌝ }
+    requires { ⌜ (3 ≤ bits) × (bits ≤ 4096) ⌝ }
     requires { ⌜ judgeChecks bits checks (now s) ≡ 0 ⌝ }
     ensures { λ r. ⌜ r ≡ covered (record { bits = bits; checks = checksIn checks (now (s .entry)) }) ⌝ }
 {
@@ -186,7 +188,7 @@ fn covers(s: &[u8], bits: usize, checks: usize) -> bool
         let d = degree(rest);
         rest = &rest[3 + 2 * d..];
     }
-    all_marked(&seen, bits)
+    all_marked(&seen, bits - 1)
 }
 
 // The reader: n, m and the number of triples of a sound code, or the first cause.
@@ -205,10 +207,10 @@ pub fn read(code: &[u8]) -> Reading
         return Reading::Refused(next);
     }
     let after = found.after;
+    let triples = found.triples;
     if 0 < after {
         return Reading::Refused(9);
     }
-    let triples = found.triples;
     if 8192 < triples {
         return Reading::Refused(7);
     }

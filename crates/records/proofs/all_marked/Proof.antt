@@ -20,10 +20,10 @@ abbrev itself : ℕ → ℕ
 itself b = b
 
 abbrev Inv-loop : tie.InvT-loop
-Inv-loop seen bits b₀ b = every (marked seen) (drop b (tab bits itself)) ≡ every (marked seen) (tab bits itself)
+Inv-loop seen last b₀ b = every (marked seen) (drop b (tab (last + 1) itself)) ≡ every (marked seen) (tab (last + 1) itself)
 
 abbrev μ-loop : tie.MeasureT-loop
-μ-loop seen bits b₀ b = bits - b
+μ-loop seen last b₀ b = last + 1 - b
 
 -- the test of entry b
 test-at : (seen : List ℕ) (n b : ℕ) (t : Bool) → b < n → marked seen b ≡ t → marked seen (getD (tab n itself) b 0) ≡ t
@@ -40,8 +40,8 @@ returns c =
     let t = c .before .before in
     let l = t .before in
     let a = l .before .args in
-    sym (sym (l .loop .inv) ∙ every-stop (marked (a .seen .now)) _ (l .loop .b) 0 (omega (arith, length-tab (a .bits) itself))
-    (test-at (a .seen .now) (a .bits) (l .loop .b) false (t .loop-test .taken) (rw (eq-eqb _ 0 (c .if1 .taken)))))
+    sym (sym (l .loop .inv) ∙ every-stop (marked (a .seen .now)) _ (l .loop .b) 0 (omega (arith, length-tab (a .last + 1) itself))
+    (test-at (a .seen .now) (a .last + 1) (l .loop .b) false (omega arith) (rw (eq-eqb _ 0 (c .if1 .taken)))))
 
 add-b : tie.Need-add-b Inv-loop μ-loop
 add-b c = search needs
@@ -55,14 +55,14 @@ loop-again c =
     let l = t .before in
     let a = l .before .args in
     rw (add-one (l .loop .b))
-    (sym (every-next (marked (a .seen .now)) _ (l .loop .b) 0 (omega (arith, length-tab (a .bits) itself))
-    (test-at (a .seen .now) (a .bits) (l .loop .b) true (t .loop-test .taken) (rw (ne-eqb _ 0 (c .if1 .left))))) ∙ l .loop .inv)
+    (sym (every-next (marked (a .seen .now)) _ (l .loop .b) 0 (omega (arith, length-tab (a .last + 1) itself))
+    (test-at (a .seen .now) (a .last + 1) (l .loop .b) true (omega arith) (rw (ne-eqb _ 0 (c .if1 .left))))) ∙ l .loop .inv)
 
 returns-2 : tie.Need-returns-2 Inv-loop μ-loop
 returns-2 c =
     let l = c .before in
     let a = l .before .args in
-    sym (sym (l .loop .inv) ∙ every-end (marked (a .seen .now)) _ (l .loop .b) (omega (arith, length-tab (a .bits) itself)))
+    sym (sym (l .loop .inv) ∙ every-end (marked (a .seen .now)) _ (l .loop .b) (omega (arith, length-tab (a .last + 1) itself)))
 
 pub all-marked-spec : {M : Type 1} → statement M
 all-marked-spec = tie.close (tie.spec Inv-loop μ-loop loop-holds element-copy-out-if1 returns add-b loop-less loop-again returns-2)

@@ -45,7 +45,7 @@ record-at : (c : tie.In-loop Inv-loop μ-loop)
 record-at c = here _ _ _ _ _ (c .loop-test .taken) (c .before .loop .inv .0)
 
 mark-requires : tie.Need-mark-requires Inv-loop μ-loop
-mark-requires c κs = (c .before .before .before .before .pre .0, record-at (c .before) .judged)
+mark-requires c κs = (c .before .before .before .before .pre .0 .1, record-at (c .before) .judged)
 
 degree-requires : tie.Need-degree-requires Inv-loop μ-loop
 degree-requires c κs = omega (arith, record-at (c .before .before) .sound .room)
@@ -87,6 +87,9 @@ loop-again c =
           (sym (mark-next (some (eqb b)) _ (l .j) [] (marked (l .seen) b) (omega (arith, length-checks (a .checks) (a .s .now)))) ∙ l .inv .2 b h),
     )
 
+sub-all-marked : tie.Need-sub-all-marked Inv-loop μ-loop
+sub-all-marked c = search needs
+
 all-marked-requires : tie.Need-all-marked-requires Inv-loop μ-loop
 all-marked-requires c κs = search needs
 
@@ -96,7 +99,10 @@ returns c =
     let l = c .before .before .before in
     let a = l .before .before .args in
     let e = drop-of-length-le (checksIn (a .checks) (a .s .now)) {i = l .loop .j} (omega (arith, length-checks (a .checks) (a .s .now))) in
-    c .all-marked .ensures ∙ every-same (a .bits) (λ b. b) (marked (l .loop .seen)) (λ b. some (some (eqb b)) (checksIn (a .checks) (a .s .now))) (λ b h. rw e at (l .loop .inv .2 b (omega arith)))
+    let n : a .bits - 1 + 1 ≡ a .bits = omega (arith, l .before .before .pre .0 .0) in
+    c .all-marked .ensures
+    ∙ ap (λ (k : ℕ). every (marked (l .loop .seen)) (tab k (λ b. b))) n
+    ∙ every-same (a .bits) (λ b. b) (marked (l .loop .seen)) (λ b. some (some (eqb b)) (checksIn (a .checks) (a .s .now))) (λ b h. rw e at (l .loop .inv .2 b (omega arith)))
 
 pub covers-spec : {M : Type 1} → statement M
 covers-spec =
@@ -115,5 +121,6 @@ covers-spec =
     add-j
     loop-less
     loop-again
+    sub-all-marked
     all-marked-requires
     returns)

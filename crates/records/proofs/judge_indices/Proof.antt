@@ -41,8 +41,9 @@ two-bytes-requires c κs = search needs
 
 returns-2 : tie.Need-returns-2 Inv-loop μ-loop
 returns-2 c =
-    let t = c .before .before .before in
-    rw (t .before .loop .inv, next _ _ _ _ (t .loop-test .taken), le-ltb _ 2 (c .before .before .if1 .left), ← c .before .two-bytes .ensures .0, le-leb _ _ (c .if2 .taken))
+    let w = c .before in
+    let t = w .before .before in
+    rw (t .before .loop .inv, next _ _ _ _ (t .loop-test .taken), le-ltb _ 2 (w .before .if1 .left), ← w .two-bytes .ensures .0, le-leb (t .before .before .before .args .bits) (w .two-bytes .result) (omega arith))
 
 returns-3 : tie.Need-returns-3 Inv-loop μ-loop
 returns-3 c =

@@ -102,7 +102,7 @@ covers-requires c κs =
     let e = c .before .before .before in
     let k = e .before in
     let w = k .before .before in
-    rw (part-from 6 (w .before .before .before .before .before .args .code .now), w .before .two-bytes .ensures .0, w .two-bytes2 .ensures .0) (sound (w .before .before) .bits-most, sym (found k .first) ∙ e .if2 .left)
+    rw (part-from 6 (w .before .before .before .before .before .args .code .now), w .before .two-bytes .ensures .0, w .two-bytes2 .ensures .0) ((sound (w .before .before) .bits-least, sound (w .before .before) .bits-most), sym (found k .first) ∙ e .if2 .left)
 
 covered-is : (c : tie.After-covers) → c .covers .result ≡ covered (codeOf (bytes (c .before .before .before .before .before)))
 unfolding codeOf
