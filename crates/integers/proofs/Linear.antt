@@ -5,10 +5,10 @@ use mathlib.Core.Logic.{_↔_}
 use mathlib.Core.Bool.{Bool, true, false, not, cond}
 use Prim.Native.Nat.{ℕ, zero, suc, _+_, _*_, _-_, _<_, _≤_, min}
 use native.Mathlib.Omega.{arith}
-use lib.Dec.{T, leb, ltb, ltb→lt, nltb→le, lt→ltb, leb→le, le→leb}
+use lib.Dec.{T, ltb, ltb→lt, nltb→le, lt→ltb, leb→le, le→leb}
 use lib.IntN.{ℤ, pos, negsuc, negℤ, subℕ, natAbs, _+ℤ_, _-ℤ_, _*ℤ_, +ℤ-assoc, +ℤ-comm, *ℤ-comm, negℤ-+ℤ, negℤ-negℤ}
-use lib.Signed.{mag, ltZ, leZ, ltZ-no, _≤ℤ_, _<ℤ_}
-use borrow.Author.Tests.{leb-false, lt-ltb, le-ltb}
+use lib.Signed.{mag, ltZ, ltZ-no, _≤ℤ_, _<ℤ_}
+use borrow.Author.Tests.{lt-ltb, le-ltb}
 use Rattle.integers.specs.Parts.{up, dn}
 
 -- a − b, shut, so that `simp` meets it as it is written
@@ -216,6 +216,10 @@ abs-add a b = omega (arith, about a, about b, about-sum a b, about (a +ℤ b))
 
 pub abs-sub : (a b : ℤ) → natAbs (a -ℤ b) ≤ natAbs a + natAbs b
 abs-sub a b = omega (arith, abs-add a (negℤ b), abs-neg b)
+
+-- of a difference of natural numbers
+pub abs-difference : (a b n : ℕ) → a ≤ n + b → b ≤ n + a → natAbs (pos a -ℤ pos b) ≤ n
+abs-difference a b n h k = simp toℕ (omega arith)
 
 -- ---- the ring. `ring` multiplies out and sorts, `linear` then takes each product for an unknown
 -- (a numeral is a part of its product: write x +ℤ x for pos 2 *ℤ x)

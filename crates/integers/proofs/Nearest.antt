@@ -1,6 +1,6 @@
 -- Rounding. Assumes nothing.
 use mathlib.Core.Path.{_≡_}
-use Prim.Native.Nat.{ℕ, suc, _+_, _*_, _/_, _%_, _≤_, _<_}
+use Prim.Native.Nat.{ℕ, suc, _+_, _*_, _%_, _≤_, _<_}
 use native.Mathlib.Omega.{arith, by-contra}
 use native.Mathlib.Nat.{div-add-mod', mod-lt, mul-le-mul-left, le-antisymm}
 use Rattle.integers.specs.Nearest.{nearest, Nearest}

@@ -1,7 +1,8 @@
 -- Sums over a range. Assumes nothing.
-use mathlib.Core.Path.{_≡_, refl, sym, ap, ap₂, _∙_}
+use mathlib.Core.Path.{_≡_, refl, ap₂}
 use Prim.Native.Nat.{ℕ, zero, suc, _+_, _*_, _≤_, _<_}
 use native.Mathlib.Decide.{decLt}
+use native.Mathlib.Nat.{add-zero, add-suc}
 use native.Mathlib.Omega.{arith}
 use lib.IntN.{ℤ, pos, negℤ, natAbs, _+ℤ_, _*ℤ_}
 use Rattle.integers.specs.Sum.{sumℕ, sumℤ}
@@ -19,6 +20,14 @@ sumℕ-add (suc n) f g = rw (sumℕ-add n f g) (omega arith)
 pub sumℕ-first : (n : ℕ) (f : ℕ → ℕ) → sumℕ (suc n) f ≡ f 0 + sumℕ n (λ k. f (suc k))
 sumℕ-first zero f = omega arith
 sumℕ-first (suc n) f = rw (sumℕ-first n f) (omega arith)
+
+pub sumℕ-split : (m n : ℕ) (f : ℕ → ℕ) → sumℕ (m + n) f ≡ sumℕ m f + sumℕ n (λ k. f (m + k))
+sumℕ-split m zero f = rw (add-zero m) (omega arith)
+sumℕ-split m (suc n) f = rw (add-suc m n, sumℕ-split m n f) (omega arith)
+
+pub sumℕ-scale : (n c : ℕ) (f : ℕ → ℕ) → sumℕ n (λ k. c * f k) ≡ c * sumℕ n f
+sumℕ-scale zero c f = omega arith
+sumℕ-scale (suc n) c f = rw (sumℕ-scale n c f) (omega arith)
 
 pub sumℕ-zero : (n : ℕ) (f : ℕ → ℕ) → ((k : ℕ) → k < n → f k ≡ 0) → sumℕ n f ≡ 0
 sumℕ-zero zero f h = refl

@@ -1,14 +1,14 @@
--- Tests of a list's entries, and the first index that passes. Assumes nothing.
+-- Tests and sums of a list's entries, and the first index that passes. Assumes nothing.
 use mathlib.Core.Path.{_≡_, refl, sym, ap, subst}
 use mathlib.Core.Bool.{Bool, true, false, cond, _&&_}
-use mathlib.Core.List.{List, [], _∷_}
-use Prim.Native.Nat.{ℕ, zero, suc, _≤_, _<_}
+use mathlib.Core.List.{List, [], _∷_, _++_}
+use Prim.Native.Nat.{ℕ, zero, suc, _+_, _≤_, _<_}
 use native.Mathlib.Omega.{arith}
 use lib.Dec.{T}
 use lib.ListN.{length, getD, drop}
 use lib.Seq.{drop-cons}
 use Rattle.lists.specs.Tabulated.{tab}
-use Rattle.lists.specs.Entries.{every, first}
+use Rattle.lists.specs.Entries.{every, total, first}
 
 -- ---- every
 module _ {A : Type 0} (f : A → Bool) where
@@ -39,6 +39,20 @@ module _ {A : Type 0} (f : A → Bool) where
 pub every-same : {A : Type 0} (n : ℕ) (h : ℕ → A) (f g : A → Bool) → ((i : ℕ) → i < n → f (h i) ≡ g (h i)) → every f (tab n h) ≡ every g (tab n h)
 every-same zero h f g e = refl
 every-same (suc n) h f g e = rw (e 0 (omega arith), every-same n (λ i. h (suc i)) f g (λ i l. e (suc i) (omega arith)))
+
+-- ---- total
+module _ {A : Type 0} where
+  pub total-append : (f : A → ℕ) (l k : List A) → total f (l ++ k) ≡ total f l + total f k
+  total-append f [] k = omega arith
+  total-append f (x ∷ l) k = rw (total-append f l k) (omega arith)
+
+  pub total-one : (l : List A) → total (λ _. 1) l ≡ length l
+  total-one [] = refl
+  total-one (x ∷ l) = rw (total-one l) (omega arith)
+
+  pub total-same : (f g : A → ℕ) → ((x : A) → f x ≡ g x) → (l : List A) → total f l ≡ total g l
+  total-same f g e [] = refl
+  total-same f g e (x ∷ l) = rw (e x, total-same f g e l)
 
 -- ---- first
 pub first-at : (n : ℕ) (f : ℕ → Bool) (i : ℕ) → i < n → ((j : ℕ) → j < i → f j ≡ false) → f i ≡ true → first n f ≡ i

@@ -1,12 +1,12 @@
 -- What an accepted code, header or check record is: the judgement's tests, read backwards. Assumes nothing.
-use mathlib.Core.Path.{_≡_, refl, sym, ap, subst, _∙_}
+use mathlib.Core.Path.{_≡_, refl, sym, ap, _∙_}
 use mathlib.Core.Bool.{Bool, true, not}
 use mathlib.Core.List.{List, [], _∷_}
 use Prim.Native.Nat.{ℕ, zero, suc, _+_, _*_, _≤_, _<_}
 use native.Mathlib.Omega.{arith}
 use lib.Dec.{ltb, leb, eqb}
-use lib.ListN.{length, getD, drop, length-drop}
-use borrow.Author.Tests.{ltb-false, leb-false, eqb-true, not-false}
+use lib.ListN.{length, drop, length-drop}
+use borrow.Author.Tests.{ltb-false, leb-false, not-false}
 use Rattle.lists.specs.Tabulated.{tab}
 use Rattle.lists.specs.Entries.{some}
 use Rattle.lists.proofs.Tabulated.{length-tab, getD-tab}
@@ -14,7 +14,7 @@ use Rattle.lists.proofs.Entries.{every-at}
 use Rattle.model.specs.Causes.{_if_, short, outside}
 use Rattle.model.specs.Code.{Code, triples}
 use Rattle.model.specs.Records.{twoBytes, numbers, bitCount, checkCount, degree, indices, afterCheck, checksIn, afterChecks, codeOf, judgeHeader, judgeIndices, judgeCheck, judgeChecks, covered, judge}
-use Rattle.model.specs.Sound.{Rising, SoundCheck, SoundChecks, Sound}
+use Rattle.model.specs.Sound.{Rising, SoundChecks, Sound}
 use Rattle.model.proofs.Causes.{clear, unless, within}
 
 -- ---- the header

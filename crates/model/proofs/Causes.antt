@@ -27,9 +27,9 @@ pub unless : (c : ℕ) (t : Bool) → suc c if t ≡ 0 → t ≡ false
 unless c true h = absurd (omega arith)
 unless c false h = refl
 
+pub or-false : (s t : Bool) → (s || t) ≡ false → (s ≡ false) × (t ≡ false)
+or-false true t h = absurd (subst T h tt)
+or-false false t h = (refl, h)
+
 pub within : (low high x : ℕ) → outside low high x ≡ false → (low ≤ x) × (x ≤ high)
-within low high x h = by (ltb x low) (ltb high x) refl refl h
-  where
-    by : (a b : Bool) → ltb x low ≡ a → ltb high x ≡ b → (a || b) ≡ false → (low ≤ x) × (x ≤ high)
-    by true b p q h = absurd (subst T h tt)
-    by false b p q h = (ltb-false x low p, ltb-false high x (subst (λ (t : Bool). ltb high x ≡ t) h q))
+within low high x h = let e = or-false (ltb x low) (ltb high x) h in (ltb-false x low (e .0), ltb-false high x (e .1))

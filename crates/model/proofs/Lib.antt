@@ -1,5 +1,13 @@
 pub mod Causes
 pub mod Accepted
 pub mod Sound
+pub mod Rows
 pub mod Runs
+pub mod Queue
+pub mod TripleRule
+pub mod Bounds
+pub mod Reflection
+pub mod Paper
+pub mod Points
+pub mod Demand3
 pub mod Worked

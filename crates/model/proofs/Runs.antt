@@ -1,12 +1,12 @@
 -- How a run goes on. Assumes nothing.
-use mathlib.Core.Path.{_≡_, refl}
+use mathlib.Core.Path.{_≡_}
 use mathlib.Core.List.{List}
-use Prim.Native.Nat.{ℕ, zero, suc}
+use Prim.Native.Nat.{ℕ, suc}
 use lib.IntN.{ℤ}
 use Rattle.model.specs.declared.Settings.{Settings}
 use Rattle.model.specs.Splitting.{System}
 use Rattle.model.specs.Iteration.{State, iterate}
-use Rattle.model.specs.Run.{settledBy, Ended, runFrom}
+use Rattle.model.specs.Run.{settledBy, runFrom}
 
 module _ (div : ℤ → ℤ → ℤ) (g : System) (o : Settings) (costs : List ℤ) (more k : ℕ) (a : State) where
   pub stops : (n : ℕ) → settledBy (o .tolerance) (g .triples) (a .rows) (iterate div g o costs a .rows) ≡ suc n

@@ -1,7 +1,8 @@
 -- The worked table holds, at the real quotient. Assumes nothing.
-use mathlib.Core.Path.{_≡_, refl, sym, ap, _∙_, fun-ext}
+use mathlib.Core.Path.{_≡_, refl, ap, ap₂, _∙_, fun-ext}
+use mathlib.Core.Bool.{Bool, _&&_}
 use mathlib.Core.List.{List, [], _∷_}
-use Prim.Native.Nat.{ℕ, zero, suc, _<_, _≤_, min}
+use Prim.Native.Nat.{ℕ, zero, suc, min}
 use native.Mathlib.Omega.{arith}
 use lib.Dec.{leb·zero}
 use lib.IntN.{ℤ, pos, negsuc, negℤ}
@@ -9,6 +10,7 @@ use borrow.Author.Tests.{lt-leb, le-leb}
 use Rattle.integers.specs.Nearest.{nearest}
 use Rattle.quotient.specs.Quotient.{unit, quotient}
 use Rattle.quotient.specs.Quotient.Laws.{quotient-odd, quotient-is, rounded-by}
+use Rattle.model.specs.Causes.{_if_}
 use Rattle.model.specs.Splitting.{queue, triplesFrom, systemOf}
 use Rattle.model.specs.Iteration.{State, sign, rowSum, share, sumOf, occurrences, sumsOf, valuesOf, rowsOf, iterate}
 use Rattle.model.specs.Run.{changes, settledBy, start, after, Ended, runFrom}
@@ -40,6 +42,10 @@ zeros = pos 0 ∷ pos 0 ∷ pos 0 ∷ []
 abbrev endAt : Ended → End
 endAt e = record { k = e .k; settled = e .settled }
 
+-- neither total exceeds X
+abbrev neither : Bool → Bool → ℕ
+neither s t = 1 if (s && t)
+
 abbrev once : ℕ → State
 once X = iterate computes (checkOver 3) (settings 256 X) zeros (start (checkOver 3))
 
@@ -63,9 +69,9 @@ computed = record {
   weight-512 = refl;
   zeros-below = λ X h.
       let o = settings 256 X in
-      ap endAt (goes-on computes (checkOver 3) o zeros 1 0 (start (checkOver 3)) (rw (leb·zero X, lt-leb 1073741824 X h))
-      ∙ stops computes (checkOver 3) o zeros 0 1 (once X) 0 (rw (leb·zero X)));
-  zeros-from = λ X h. ap endAt (stops computes (checkOver 3) (settings 256 X) zeros 1 0 (start (checkOver 3)) 0 (rw (leb·zero X, le-leb 1073741824 X h)));
+      ap endAt (goes-on computes (checkOver 3) o zeros 1 0 (start (checkOver 3)) (ap₂ neither (leb·zero X) (lt-leb 1073741824 X h))
+      ∙ stops computes (checkOver 3) o zeros 0 1 (once X) 0 (ap₂ neither (leb·zero X) (leb·zero X)));
+  zeros-from = λ X h. ap endAt (stops computes (checkOver 3) (settings 256 X) zeros 1 0 (start (checkOver 3)) 0 (ap₂ neither (leb·zero X) (le-leb 1073741824 X h)));
 }
 
 pub table : Table quotient

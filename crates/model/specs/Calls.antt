@@ -1,7 +1,7 @@
 -- Document 01, 'Causes and codes': for each call of the library, from its inputs and the lent lists as they were, its number and values
 -- and the lists as they are afterwards. The order of the causes is the order of the list that `firstOf` is given. `..Told` gives the number and the values of
 -- every case of an answer. Definitions only.
-use mathlib.Core.Bool.{Bool, true, false, not, _||_}
+use mathlib.Core.Bool.{Bool, false, not, _||_}
 use mathlib.Core.List.{List, [], _∷_, map}
 use Prim.Native.Nat.{ℕ, suc, _*_}
 use lib.Dec.{ltb, eqb}
@@ -15,13 +15,12 @@ use Rattle.model.specs.declared.Settings.{Settings}
 use Rattle.model.specs.declared.Channel as declared
 use Rattle.model.specs.declared.Reading.{Reading}
 use Rattle.model.specs.declared.Verdict.{Verdict}
-use Rattle.model.specs.declared.Ending.{Ending}
 use Rattle.model.specs.declared.Decoding.{Decoding}
 use Rattle.model.specs.Causes.{_if_, firstOf, short, outside, accepted}
 use Rattle.model.specs.Code.{Code, triples, variables}
 use Rattle.model.specs.Records.{codeOf, judge}
-use Rattle.model.specs.Splitting.{System, systemOf}
-use Rattle.model.specs.Iteration.{State, countsOf}
+use Rattle.model.specs.Splitting.{systemOf}
+use Rattle.model.specs.Iteration.{countsOf}
 use Rattle.model.specs.Run.{mostIterations, Ended, run}
 use Rattle.model.specs.Words.{Outcome, wordOf, tested, outcome}
 use Rattle.model.specs.Points.{pointOf}

@@ -5,7 +5,6 @@ use lib.Dec.{leb}
 use lib.IntN.{ℤ, pos}
 use lib.Ieee.{Float, nan, inf, fin, binary32, toBits, mul, neg, lt}
 use Rattle.integers.specs.Nearest.{nearest}
-use Rattle.model.specs.declared.Erasure.{Erasure}
 use Rattle.model.specs.declared.Channel.{Channel}
 use Rattle.model.specs.declared.Channel.the-variants.{Gaussian, Hard, Erasing}
 use Rattle.model.specs.Causes.{_if_}

@@ -7,9 +7,13 @@ pub mod Sound
 pub mod Splitting
 pub mod Iteration
 pub mod Run
+pub mod TripleRule
 pub mod Words
 pub mod Points
 pub mod Reflection
 pub mod Channel
 pub mod Calls
+pub mod Bounds
+pub mod Claims
+pub mod Paper
 pub mod Table

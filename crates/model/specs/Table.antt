@@ -5,10 +5,8 @@ use Prim.Native.Nat.{ℕ, _<_, _≤_}
 use lib.IntN.{ℤ, pos, negℤ}
 use Rattle.lists.specs.Tabulated.{tab}
 use Rattle.model.specs.declared.Settings.{Settings}
-use Rattle.model.specs.Code.{Code}
 use Rattle.model.specs.Splitting.{System, systemOf}
-use Rattle.model.specs.Iteration.{State}
-use Rattle.model.specs.Run.{start, after, Ended, run}
+use Rattle.model.specs.Run.{start, after, run}
 use Rattle.model.specs.Reflection.{reflect}
 use Rattle.model.specs.Channel.{costOfBits}
 

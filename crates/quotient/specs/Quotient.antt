@@ -1,6 +1,6 @@
 -- Document 01, 'One iteration': "rounded to nearest, halves away from zero, then limited to −U..U".
 -- `quotient` is shut: no crate above can open it. What they have of it are the laws below, in `Laws`.
-use Prim.Native.Nat.{ℕ, suc, _+_, _-_, _*_, _/_, _≤_, _<_, min}
+use Prim.Native.Nat.{ℕ, suc, _+_, _*_, _≤_, _<_, min}
 use lib.IntN.{ℤ, pos, negsuc, negℤ, natAbs}
 use Rattle.integers.specs.Nearest.{nearest}
 pub mod Laws

@@ -1,0 +1,189 @@
+-- How large the numbers of a run get. Assumes nothing.
+use mathlib.Core.Path.{_≡_, _∙_}
+use mathlib.Core.Bool.{Bool, true, false}
+use mathlib.Core.List.{List}
+use Prim.Native.Nat.{ℕ, zero, suc, _+_, _*_, _/_, _%_, _^_, _≤_, _<_}
+use native.Mathlib.Omega.{arith}
+use native.Mathlib.Nat.{mul-le-mul, mul-le-mul-left, le-trans, le-of-eq}
+use lib.Dec.{eqb, ltb}
+use lib.IntN.{ℤ, pos, negℤ, natAbs, _+ℤ_, _-ℤ_, _*ℤ_}
+use lib.Signed.{_≤ℤ_, _<ℤ_}
+use Rattle.integers.specs.Parts.{up, dn}
+use Rattle.integers.specs.Sum.{sumℕ, sumℤ}
+use Rattle.integers.proofs.Linear.{toℕ, about, about-sum, abs-neg, abs-add, abs-mul, abs-difference}
+use Rattle.integers.proofs.Sums.{sumℕ-same, sumℕ-scale, sumℕ-bound, sumℤ-bound}
+use Rattle.quotient.specs.Quotient.{unit, quotient}
+use Rattle.quotient.specs.Quotient.Laws.{quotient-range}
+use Rattle.model.specs.declared.Settings.{Settings}
+use borrow.Author.Tests.{ltb-false}
+use Rattle.model.specs.Causes.{_if_, outside}
+use Rattle.model.specs.Code.{Code}
+use Rattle.model.specs.Sound.{Sound}
+use Rattle.model.specs.Calls.{wild}
+use Rattle.model.specs.Splitting.{System, systemOf, member}
+use Rattle.model.specs.Iteration.{at, row, sign, rowSum, sumAt, slack, multiplier, share, _when_, sumOf, occurrences, numerator, divisor, renewed, State, sumsOf, valueOf, valuesOf, rowsOf, iterate}
+use Rattle.model.specs.Run.{squareOfChange, changes, start, after}
+use Rattle.model.specs.Bounds.{RowsWithin, Ready, Bounds}
+use Rattle.model.proofs.Causes.{within, or-false}
+use Rattle.model.proofs.TripleRule.{occurs-some, occurs-few}
+use Rattle.model.proofs.Rows.{sign-one, at-tab, none, row-renewed}
+
+-- ---- the four sums, and a row's renewal
+term : (r p : ℕ) (c : ℤ) → r < 4 → p < 3 → natAbs c ≤ unit → natAbs (sign r p *ℤ c) ≤ unit
+term r p c h l k = rw (abs-mul (sign r p) c, sign-one r p h l) (omega arith)
+
+pub rowSum-bound : (r : ℕ) (a b c : ℤ) → r < 4 → natAbs a ≤ unit → natAbs b ≤ unit → natAbs c ≤ unit → natAbs (rowSum r a b c) ≤ 49152
+unfolding rowSum
+rowSum-bound r a b c h x y z =
+    omega (
+      arith,
+      abs-add (sign r 0 *ℤ a +ℤ sign r 1 *ℤ b) (sign r 2 *ℤ c),
+      abs-add (sign r 0 *ℤ a) (sign r 1 *ℤ b),
+      term r 0 a h (omega arith) x,
+      term r 1 b h (omega arith) y,
+      term r 2 c h (omega arith) z,
+    )
+
+module _ (s sum : ℤ) (small : natAbs sum ≤ 49152) where
+  parts : up (renewed s sum) + (dn sum + unit) ≡ (multiplier s + up sum) + dn (renewed s sum)
+  parts = omega (arith, about-sum (pos (multiplier s)) sum, about-sum (pos (multiplier s) +ℤ sum) (negℤ (pos unit)))
+
+  renewed-multiplier : multiplier (renewed s sum) ≤ multiplier s + 32768
+  renewed-multiplier = omega (arith, parts, about sum, about (renewed s sum))
+
+  renewed-slack : slack (renewed s sum) ≤ 65536
+  renewed-slack = omega (arith, parts, about sum, about (renewed s sum))
+
+  multiplier-change : natAbs (pos (multiplier (renewed s sum)) -ℤ pos (multiplier s)) ≤ 65536
+  multiplier-change = abs-difference (multiplier (renewed s sum)) (multiplier s) 65536 (omega (arith, renewed-multiplier)) (omega (arith, parts, about sum))
+
+-- ---- the divisor
+divisor-above : (e A : ℕ) → 1 ≤ e → A ≤ 1023 → pos 0 <ℤ divisor (4 * e) A
+divisor-above e A h k = simp toℕ (omega arith)
+
+divisor-below : (e A : ℕ) → e ≤ 2048 → divisor (4 * e) A ≤ℤ pos 2097152
+divisor-below e A h = simp toℕ (omega arith)
+
+-- ---- one iteration
+square : (a b : ℕ) → natAbs (pos b -ℤ pos a) ≤ 65536 → squareOfChange a b ≤ 4294967296
+square a b h = mul-le-mul h h
+
+module _ (g : System) (o : Settings) (costs : List ℤ) (n : ℕ) (a : State) (ready : Ready g o costs) (within : RowsWithin n (a .rows)) where
+  abbrev S : ℕ → ℤ
+  S v = sumOf (g .members) (g .triples) (a .rows) v
+
+  abbrev e : ℕ → ℕ
+  e v = occurrences (g .members) (g .triples) v
+
+  abbrev b : State
+  b = iterate quotient g o costs a
+
+  -- a position's share of a triple, and S
+  share-bound : (t p : ℕ) → p < 3 → natAbs (share (a .rows) t p) ≤ 4 * (32768 * (n + 2))
+  unfolding share
+  share-bound t p l =
+      let size : ℕ → ℕ = λ r. slack (row (a .rows) t r) + multiplier (row (a .rows) t r) in
+      let each : (r : ℕ) → r < 4 → natAbs (sign r p *ℤ pos (size r)) ≤ 32768 * (n + 2)
+      = λ r h. rw (abs-mul (sign r p) (pos (size r)), sign-one r p h l) (omega (arith, within .multipliers (4 * t + r), within .slacks (4 * t + r))) in
+      le-trans (sumℤ-bound 4 (λ r. sign r p *ℤ pos (size r)) (λ _. 32768 * (n + 2)) each) (omega arith)
+
+  when-bound : (t : Bool) (z : ℤ) (u : ℕ) → natAbs z ≤ u → natAbs (z when t) ≤ u * (1 if t)
+  when-bound true z u h = omega arith
+  when-bound false z u h = omega arith
+
+  sum-bound : (v : ℕ) → natAbs (S v) ≤ (4 * (32768 * (n + 2))) * e v
+  unfolding sumOf occurrences
+  sum-bound v =
+      let u = 4 * (32768 * (n + 2)) in
+      let f : ℕ → ℕ → ℕ = λ t p. 1 if eqb (member (g .members) t p) v in
+      let part : ℕ → ℕ → ℤ = λ t p. share (a .rows) t p when eqb (member (g .members) t p) v in
+      le-trans (sumℤ-bound (g .triples) (λ t. sumℤ 3 (part t)) (λ t. sumℕ 3 (λ p. u * f t p))
+      (λ t _. sumℤ-bound 3 (part t) (λ p. u * f t p) (λ p l. when-bound (eqb (member (g .members) t p) v) (share (a .rows) t p) u (share-bound t p l))))
+      (le-of-eq (sumℕ-same (g .triples) (λ t. sumℕ 3 (λ p. u * f t p)) (λ t. u * sumℕ 3 (f t)) (λ t _. sumℕ-scale 3 u (f t)) ∙ sumℕ-scale (g .triples) u (λ t. sumℕ 3 (f t))))
+
+  sums : (v : ℕ) → natAbs (at (b .sums) v) ≤ 8192 * (32768 * (n + 2))
+  unfolding iterate sumsOf
+  sums v =
+      at-tab (λ z. natAbs z ≤ 8192 * (32768 * (n + 2))) (g .variables) S v
+      (λ _. le-trans (sum-bound v) (let m : (4 * (32768 * (n + 2))) * e v ≤ (4 * (32768 * (n + 2))) * 2048 = mul-le-mul-left (4 * (32768 * (n + 2))) (ready .few v) in omega arith))
+      (omega arith)
+
+  numerators : n < 4000 → (v : ℕ) → natAbs (numerator (o .weight) (at (b .sums) v) (at costs v)) ≤ 2 ^ 48
+  numerators h v =
+      let x = at (b .sums) v in
+      let y = at costs v in
+      let m : natAbs (pos (o .weight) *ℤ y) ≤ 65535 * 32767 = rw abs-mul (mul-le-mul (ready .weight) (ready .cost v)) in
+      rw (abs-neg (pos 256 *ℤ x +ℤ pos (o .weight) *ℤ y)) (omega (arith, abs-add (pos 256 *ℤ x) (pos (o .weight) *ℤ y), abs-mul (pos 256) x, sums v))
+
+  values : (v : ℕ) → natAbs (at (b .values) v) ≤ unit
+  unfolding iterate valuesOf
+  values v =
+      at-tab (λ z. natAbs z ≤ unit) (g .variables) (valueOf quotient g o costs (b .sums)) v
+      (λ _. quotient-range (numerator (o .weight) (at (b .sums) v) (at costs v)) (divisor (4 * e v) (o .ratio))) (omega arith)
+
+  sum-small : (t r : ℕ) → r < 4 → natAbs (sumAt (g .members) (b .values) t r) ≤ 49152
+  sum-small t r h =
+      let c : ℕ → ℤ = λ p. at (b .values) (member (g .members) t p) in
+      rowSum-bound r (c 0) (c 1) (c 2) h (values (member (g .members) t 0)) (values (member (g .members) t 1)) (values (member (g .members) t 2))
+
+  -- a law of every new row
+  each-row : (P : ℤ → Type 0) → P (pos 0) → ((i : ℕ) → P (renewed (at (a .rows) i) (sumAt (g .members) (b .values) (i / 4) (i % 4)))) → (i : ℕ) → P (at (b .rows) i)
+  unfolding iterate rowsOf
+  each-row P z h i = at-tab P (4 * g .triples) (λ i. renewed (at (a .rows) i) (sumAt (g .members) (b .values) (i / 4) (i % 4))) i (λ _. h i) z
+
+  rows : RowsWithin (suc n) (b .rows)
+  rows =
+      let sum : ℕ → ℤ = λ i. sumAt (g .members) (b .values) (i / 4) (i % 4) in
+      let small : (i : ℕ) → natAbs (sum i) ≤ 49152 = λ i. sum-small (i / 4) (i % 4) (omega arith) in
+      record {
+        multipliers = each-row (λ s. multiplier s ≤ 32768 * suc n) (omega arith)
+            (λ i. omega (arith, renewed-multiplier (at (a .rows) i) (sum i) (small i), within .multipliers i));
+        slacks = each-row (λ s. slack s ≤ 65536) (omega arith) (λ i. renewed-slack (at (a .rows) i) (sum i) (small i));
+      }
+
+  total-bound : (part : ℤ → ℕ) → ((t r : ℕ) → t < g .triples → r < 4 → natAbs (pos (part (row (b .rows) t r)) -ℤ pos (part (row (a .rows) t r))) ≤ 65536)
+      → changes part (g .triples) (a .rows) (b .rows) ≤ 2 ^ 47
+  unfolding changes
+  total-bound part h =
+      let term : ℕ → ℕ → ℕ = λ t r. squareOfChange (part (row (a .rows) t r)) (part (row (b .rows) t r)) in
+      let four : (t : ℕ) → t < g .triples → sumℕ 4 (term t) ≤ 4 * 4294967296
+      = λ t l. sumℕ-bound 4 4294967296 (term t) (λ r k. square (part (row (a .rows) t r)) (part (row (b .rows) t r)) (h t r l k)) in
+      omega (arith, sumℕ-bound (g .triples) (4 * 4294967296) (λ t. sumℕ 4 (term t)) four, ready .triples)
+
+  pub bounds : Bounds g o costs n a
+  unfolding iterate
+  bounds = record {
+    divisor-least = λ v h. divisor-above (e v) (o .ratio) (ready .some v h) (ready .ratio);
+    divisor-most = λ v. divisor-below (e v) (o .ratio) (ready .few v);
+    sums = sums;
+    numerators = numerators;
+    values = values;
+    rows = rows;
+    multiplier-total = total-bound multiplier (λ t r l k. rw (row-renewed g (a .rows) (b .values) t r l k) (multiplier-change (row (a .rows) t r) (sumAt (g .members) (b .values) t r) (sum-small t r k)));
+    slack-total = total-bound slack (λ t r l k. abs-difference (slack (row (b .rows) t r)) (slack (row (a .rows) t r)) 65536 (omega (arith, rows .slacks (4 * t + r))) (omega (arith, within .slacks (4 * t + r))));
+  }
+
+-- ---- after n iterations
+pub start-within : (g : System) → RowsWithin 0 (start g .rows)
+unfolding start
+start-within g = record { multipliers = λ i. rw (none (4 * g .triples) i) (omega arith); slacks = λ i. rw (none (4 * g .triples) i) (omega arith) }
+
+pub rows-after : (g : System) (o : Settings) (costs : List ℤ) → Ready g o costs → (n : ℕ) → RowsWithin n (after quotient g o costs n (start g) .rows)
+unfolding after
+rows-after g o costs ready zero = start-within g
+rows-after g o costs ready (suc n) = bounds g o costs n (after quotient g o costs n (start g)) ready (rows-after g o costs ready n) .rows
+
+-- ---- an accepted code, settings and costs are ready
+pub ready : (k : Code) → Sound k → (o : Settings) → wild o ≡ false → (costs : List ℤ) → ((v : ℕ) → natAbs (at costs v) ≤ 32767) → Ready (systemOf k) o costs
+unfolding systemOf
+ready k s o h costs small =
+    let a = or-false (outside 1 65535 (o .weight)) _ h in
+    let b = or-false (ltb 1023 (o .ratio)) _ (a .1) in
+    record {
+      some = occurs-some k s;
+      few = occurs-few k s;
+      triples = s .triples-most;
+      weight = within 1 65535 (o .weight) (a .0) .1;
+      ratio = ltb-false 1023 (o .ratio) (b .0);
+      cost = small;
+    }

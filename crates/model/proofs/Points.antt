@@ -1,0 +1,272 @@
+-- Codewords and points. Assumes nothing.
+use mathlib.Core.Path.{_≡_, refl, sym, ap, ap₂, _∙_, subst}
+use mathlib.Core.Bool.{Bool, true, false, cond}
+use mathlib.Core.List.{List, [], _∷_, _++_}
+use Prim.Native.Nat.{ℕ, zero, suc, _+_, _%_, _≤_, _<_}
+use native.Mathlib.Nat.{add-zero}
+use native.Mathlib.Omega.{arith}
+use lib.Dec.{T, eqb, lit<}
+use lib.IntN.{pos}
+use lib.ListN.{length, getD, take, length-append, List·getD-append}
+use lib.Seq.{take-suc, take-all, length-take-le, getD-take, getD-append-seam, ext-getD}
+use lib.Signed.{leZ, _≤ℤ_}
+use borrow.Author.Tests.{eq-eqb, ne-eqb}
+use Rattle.lists.specs.Entries.{total}
+use Rattle.lists.proofs.Entries.{total-append}
+use Rattle.quotient.specs.Quotient.{unit}
+use Rattle.model.specs.Code.{Code, turns, tripleCount, triples}
+use Rattle.model.specs.Sound.{Rising, SoundCheck, SoundChecks, Sound}
+use Rattle.model.specs.Splitting.{queue, triplesFrom, systemOf, member}
+use Rattle.model.specs.Iteration.{sign, rowSum}
+use Rattle.model.specs.Words.{entry}
+use Rattle.model.specs.Points.{Bits, Codeword, centred, Point, extend, pointOf}
+use Rattle.model.specs.Claims.{Points}
+use Rattle.model.proofs.Queue.{by-turns, member-next}
+use Rattle.model.proofs.Rows.{four, eight, even-cases}
+
+-- ---- a triple meets the system where the sum of its entries is even, and only there
+abbrev Meets : ℕ → ℕ → ℕ → Type 0
+Meets a b c = (r : ℕ) → r < 4 → rowSum r (centred a) (centred b) (centred c) ≤ℤ pos unit
+
+even-meets : (a b c : ℕ) → a < 2 → b < 2 → c < 2 → (a + b + c) % 2 ≡ 0 → Meets a b c
+unfolding rowSum sign
+even-meets = even-cases Meets (by 0 0 0 tt tt tt tt) (by 0 1 1 tt tt tt tt) (by 1 0 1 tt tt tt tt) (by 1 1 0 tt tt tt tt)
+  where
+    Row : ℕ → ℕ → ℕ → ℕ → Type 0
+    Row a b c r = T (leZ (rowSum r (centred a) (centred b) (centred c)) (pos unit))
+
+    by : (a b c : ℕ) → Row a b c 0 → Row a b c 1 → Row a b c 2 → Row a b c 3 → Meets a b c
+    by a b c w x y z = four _ (record { le = w }) (record { le = x }) (record { le = y }) (record { le = z })
+
+meets-even : (a b c : ℕ) → a < 2 → b < 2 → c < 2 → Meets a b c → (a + b + c) % 2 ≡ 0
+unfolding rowSum sign
+meets-even =
+    eight (λ a b c. Meets a b c → (a + b + c) % 2 ≡ 0)
+    (λ m. refl) (λ m. absurd (m 2 (lit< tt) .le)) (λ m. absurd (m 1 (lit< tt) .le)) (λ m. refl)
+    (λ m. absurd (m 0 (lit< tt) .le)) (λ m. refl) (λ m. refl) (λ m. absurd (m 3 (lit< tt) .le))
+
+-- ---- the first n triples of a list are even
+abbrev pub Even : (ℕ → ℕ) → List ℕ → ℕ → Type 0
+Even x ts n = (t : ℕ) → t < n → (x (member ts t 0) + x (member ts t 1) + x (member ts t 2)) % 2 ≡ 0
+
+module _ (x : ℕ → ℕ) (a b c : ℕ) (ts : List ℕ) where
+  even-cons : (n : ℕ) → (x a + x b + x c) % 2 ≡ 0 → Even x ts n → Even x (a ∷ b ∷ c ∷ ts) (suc n)
+  even-cons n h e zero l = h
+  even-cons n h e (suc t) l = rw (member-next a b c ts t 0, member-next a b c ts t 1, member-next a b c ts t 2) (e t (omega arith))
+
+  even-tail : (n : ℕ) → Even x (a ∷ b ∷ c ∷ ts) (suc n) → Even x ts n
+  even-tail n e t l = rw (member-next a b c ts t 0, member-next a b c ts t 1, member-next a b c ts t 2) at (e (suc t) (omega arith))
+
+-- ---- one check
+-- every entry is below u: what waits lies below the next auxiliary, and a point has entries below 2
+abbrev Below : ℕ → List ℕ → Type 0
+Below u q = (i : ℕ) → getD q i 0 < u
+
+below-snoc : (u v : ℕ) (q : List ℕ) → v < u → Below u q → Below u (q ++ (v ∷ []))
+below-snoc u v [] h b zero = h
+below-snoc u v [] h b (suc i) = omega arith
+below-snoc u v (x ∷ q) h b zero = b 0
+below-snoc u v (x ∷ q) h b (suc i) = below-snoc u v q h (λ i. b (suc i)) i
+
+below-turn : (a x y : ℕ) (q : List ℕ) → Below a (x ∷ y ∷ q) → Below (suc a) (q ++ (a ∷ []))
+below-turn a x y q b = below-snoc (suc a) a q (omega arith) (λ i. omega (arith, b (suc (suc i))))
+
+below-rising : (n low : ℕ) (c : List ℕ) → 0 < n → Rising n low c → Below n c
+below-rising n low [] l r i = l
+below-rising n low (x ∷ c) l r zero = r .1
+below-rising n low (x ∷ c) l r (suc i) = below-rising n (suc x) c l (r .2) i
+
+-- where the triples of a check are even, so is the check
+check-even : (x : ℕ → ℕ) (rest : List ℕ) (n m : ℕ) (q : List ℕ) (a : ℕ) → length q ≡ 3 + m → Even x (queue m q a ++ rest) (suc m + n)
+    → (total x q % 2 ≡ 0) × Even x rest n
+unfolding queue
+check-even x rest n =
+    by-turns (λ m q a. Even x (queue m q a ++ rest) (suc m + n) → (total x q % 2 ≡ 0) × Even x rest n)
+    (λ b c d a e. (omega (arith, e 0 (omega arith)), even-tail x b c d rest n (λ t l. e t (omega arith))))
+    (λ m b c q a ih e.
+    let i = ih (even-tail x b c a (queue m (q ++ (a ∷ [])) (suc a) ++ rest) (suc m + n) (λ t l. e t (omega arith))) in
+    (omega (arith, e 0 (omega arith), i .0, total-append x q (a ∷ [])), i .1))
+
+-- ---- the point that a word is extended to
+along : (P : List ℕ → Type 0) → ((q : List ℕ) (v : ℕ) → v < 2 → P q → P (q ++ (v ∷ []))) → (ts p : List ℕ) → P p → P (extend ts p)
+unfolding extend
+along P more [] p h = h
+along P more (x ∷ []) p h = h
+along P more (x ∷ y ∷ []) p h = h
+along P more (x ∷ y ∷ z ∷ ts) p h = along P more ts _ (by (eqb z (length p)))
+  where
+    by : (t : Bool) → P (cond t (p ++ ((entry p x + entry p y) % 2 ∷ [])) p)
+    by true = more p ((entry p x + entry p y) % 2) (omega arith) h
+    by false = h
+
+extend-binary : (ts p : List ℕ) → Below 2 p → Below 2 (extend ts p)
+extend-binary = along (Below 2) (λ q v h b. below-snoc 2 v q h b)
+
+extend-begins : (ts p : List ℕ) (i : ℕ) → i < length p → entry (extend ts p) i ≡ entry p i
+extend-begins ts p i h =
+    along (λ q. (i < length q) × (entry q i ≡ entry p i)) (λ q v l e. (simp length-append (omega (arith, e .0)), List·getD-append q (v ∷ []) 0 i (e .0) ∙ e .1)) ts p (h, refl) .1
+
+-- a step over a triple whose third is the next auxiliary, and over one whose third is not
+extend-made : (x y a : ℕ) (ts p : List ℕ) → length p ≡ a → extend (x ∷ y ∷ a ∷ ts) p ≡ extend ts (p ++ ((entry p x + entry p y) % 2 ∷ []))
+unfolding extend
+extend-made x y a ts p h = rw (eq-eqb a (length p) (sym h))
+
+extend-kept : (x y z : ℕ) (ts p : List ℕ) → z < length p → extend (x ∷ y ∷ z ∷ ts) p ≡ extend ts p
+unfolding extend
+extend-kept x y z ts p h = rw (ne-eqb z (length p) (λ e. omega arith))
+
+-- where the triples of a check are even at r, the extension follows r
+follows : (r : List ℕ) → ((i : ℕ) → entry r i < 2) → (rest : List ℕ) (n m : ℕ) (q : List ℕ) (a : ℕ) → length q ≡ 3 + m → Below a q → a + m ≤ length r
+    → Even (entry r) (queue m q a ++ rest) (suc m + n) → extend (queue m q a ++ rest) (take a r) ≡ extend rest (take (a + m) r)
+unfolding queue
+follows r binary rest n =
+    by-turns (λ m q a. Below a q → a + m ≤ length r → Even (entry r) (queue m q a ++ rest) (suc m + n) → extend (queue m q a ++ rest) (take a r) ≡ extend rest (take (a + m) r))
+    (λ x y z a b l e. rw (add-zero a) (extend-kept x y z rest (take a r) (omega (arith, b 2, length-take-le a r (omega arith)))))
+    (λ m x y q a ih b l e.
+    let ts = queue m (q ++ (a ∷ [])) (suc a) ++ rest in
+    let first : entry (take a r) x ≡ entry r x = getD-take a r x 0 (b 0) in
+    let second : entry (take a r) y ≡ entry r y = getD-take a r y 0 (b 1) in
+    let new : (entry (take a r) x + entry (take a r) y) % 2 ≡ entry r a = omega (arith, first, second, e 0 (omega arith), binary a) in
+    let next : a + suc m ≡ suc a + m = omega arith in
+    extend-made x y a ts (take a r) (length-take-le a r (omega arith))
+    ∙ rw (new, ← take-suc r a 0 (omega arith), next)
+    (ih (below-turn a x y q b) (omega arith) (even-tail (entry r) x y a ts (suc m + n) (λ t k. e t (omega arith)))))
+
+-- the extension over a check: m entries are added, which make its triples even where the check is even
+record Grown (rest : List ℕ) (m : ℕ) (q : List ℕ) (a : ℕ) (p : List ℕ) : Type 0 where
+  grown : List ℕ
+  long : length grown ≡ a + m
+  is : extend (queue m q a ++ rest) p ≡ extend rest grown
+  even : (r : List ℕ) → r ≡ extend rest grown → total (entry r) q % 2 ≡ 0 → (n : ℕ) → Even (entry r) rest n → Even (entry r) (queue m q a ++ rest) (suc m + n)
+
+grow : (rest : List ℕ) (m : ℕ) (q : List ℕ) (a : ℕ) → length q ≡ 3 + m → Below a q → (p : List ℕ) → length p ≡ a → Grown rest m q a p
+unfolding queue
+grow rest =
+    by-turns (λ m q a. Below a q → (p : List ℕ) → length p ≡ a → Grown rest m q a p)
+    (λ x y z a b p l. record {
+      grown = p;
+      long = omega arith;
+      is = extend-kept x y z rest p (omega (arith, b 2));
+      even = λ r e o n k t h. even-cons (entry r) x y z rest n (omega arith) k t (omega arith);
+    })
+    turn
+  where
+    turn : (m x y : ℕ) (q : List ℕ) (a : ℕ) → (Below (suc a) (q ++ (a ∷ [])) → (p : List ℕ) → length p ≡ suc a → Grown rest m (q ++ (a ∷ [])) (suc a) p)
+        → Below a (x ∷ y ∷ q) → (p : List ℕ) → length p ≡ a → Grown rest (suc m) (x ∷ y ∷ q) a p
+    turn m x y q a ih b p l =
+        let v = (entry p x + entry p y) % 2 in
+        let ts = queue m (q ++ (a ∷ [])) (suc a) ++ rest in
+        let i = ih (below-turn a x y q b) (p ++ (v ∷ [])) (length-append p (v ∷ []) ∙ omega arith) in
+        let seam : entry (p ++ (v ∷ [])) a ≡ v = subst (λ (i : ℕ). entry (p ++ (v ∷ [])) i ≡ v) l (getD-append-seam p v [] 0) in
+        record {
+          grown = i .grown;
+          long = omega (arith, i .long);
+          is = extend-made x y a ts p l ∙ i .is;
+          even = λ r e o n k t h.
+              let at : (j : ℕ) → j < suc a → entry r j ≡ entry (p ++ (v ∷ [])) j
+              = λ j g. ap (λ (r : List ℕ). entry r j) (e ∙ sym (i .is)) ∙ extend-begins ts (p ++ (v ∷ [])) j (simp length-append (omega arith)) in
+              let old : (j : ℕ) → j < a → entry r j ≡ entry p j = λ j g. at j (omega arith) ∙ List·getD-append p (v ∷ []) 0 j (omega arith) in
+              let three : (entry r x + entry r y + entry r a) % 2 ≡ 0 = omega (arith, old x (b 0), old y (b 1), at a (omega arith), seam) in
+              even-cons (entry r) x y a ts (suc m + n) three (i .even r e (omega (arith, total-append (entry r) q (a ∷ []), three)) n k) t (omega arith);
+        }
+
+-- ---- all checks
+module _ (n : ℕ) (some-bit : 0 < n) where
+  below : (a : ℕ) (c : List ℕ) → n ≤ a → SoundCheck n c → Below a c
+  below a c l s i = omega (arith, below-rising n 0 c some-bit (s .rising) i)
+
+  checks-even : (x : ℕ → ℕ) (cs : List (List ℕ)) (a : ℕ) → SoundChecks n cs → Even x (triplesFrom cs a) (total tripleCount cs) → (j : ℕ) → j < length cs → total x (getD cs j []) % 2 ≡ 0
+  unfolding triplesFrom
+  checks-even x [] a s e j h = absurd (omega arith)
+  checks-even x (c ∷ cs) a s e j h =
+      let i = check-even x (triplesFrom cs (a + turns c)) (total tripleCount cs) (turns c) c a (omega (arith, s .0 .least)) (λ t l. e t (omega arith)) in
+      by (i .0) (checks-even x cs (a + turns c) (s .1) (i .1)) j h
+    where
+      by : total x c % 2 ≡ 0 → ((j : ℕ) → j < length cs → total x (getD cs j []) % 2 ≡ 0) → (j : ℕ) → j < suc (length cs) → total x (getD (c ∷ cs) j []) % 2 ≡ 0
+      by o ih zero h = o
+      by o ih (suc j) h = ih j (omega arith)
+
+  checks-follow : (r : List ℕ) → ((i : ℕ) → entry r i < 2) → (cs : List (List ℕ)) (a : ℕ) → n ≤ a → SoundChecks n cs → length r ≡ a + total turns cs
+      → Even (entry r) (triplesFrom cs a) (total tripleCount cs) → extend (triplesFrom cs a) (take a r) ≡ r
+  unfolding triplesFrom extend
+  checks-follow r binary [] a l s h e = take-all a r (omega arith)
+  checks-follow r binary (c ∷ cs) a l s h e =
+      let d : length c ≡ 3 + turns c = omega (arith, s .0 .least) in
+      let e′ : Even (entry r) (queue (turns c) c a ++ triplesFrom cs (a + turns c)) (suc (turns c) + total tripleCount cs) = λ t k. e t (omega arith) in
+      follows r binary (triplesFrom cs (a + turns c)) (total tripleCount cs) (turns c) c a d (below a c l (s .0)) (omega arith) e′
+      ∙ checks-follow r binary cs (a + turns c) (omega arith) (s .1) (omega arith) (check-even (entry r) (triplesFrom cs (a + turns c)) (total tripleCount cs) (turns c) c a d e′ .1)
+
+  checks-grow : (cs : List (List ℕ)) (a : ℕ) → n ≤ a → SoundChecks n cs → (p : List ℕ) → length p ≡ a
+      → (length (extend (triplesFrom cs a) p) ≡ a + total turns cs)
+      × ((r : List ℕ) → r ≡ extend (triplesFrom cs a) p → ((j : ℕ) → j < length cs → total (entry r) (getD cs j []) % 2 ≡ 0) → Even (entry r) (triplesFrom cs a) (total tripleCount cs))
+  unfolding triplesFrom extend
+  checks-grow [] a l s p h = (omega arith, λ r e o t k. absurd (omega arith))
+  checks-grow (c ∷ cs) a l s p h =
+      let g = grow (triplesFrom cs (a + turns c)) (turns c) c a (omega (arith, s .0 .least)) (below a c l (s .0)) p h in
+      let i = checks-grow cs (a + turns c) (omega arith) (s .1) (g .grown) (g .long) in (
+        ap length (g .is) ∙ i .0 ∙ omega arith,
+        λ r e o t k. g .even r (e ∙ g .is) (o 0 (omega arith)) (total tripleCount cs) (i .1 r (e ∙ g .is) (λ j m. o (suc j) (omega arith))) t (omega arith),
+      )
+
+-- a sum over a check sees only its bits
+pub total-bits : (n low : ℕ) (x y : ℕ → ℕ) (c : List ℕ) → ((i : ℕ) → i < n → x i ≡ y i) → Rising n low c → total x c ≡ total y c
+total-bits n low x y [] h r = refl
+total-bits n low x y (i ∷ c) h r = ap₂ _+_ (h i (r .1)) (total-bits n (suc i) x y c h (r .2))
+
+pub totals-bits : (n : ℕ) (x y : ℕ → ℕ) (cs : List (List ℕ)) → ((i : ℕ) → i < n → x i ≡ y i) → SoundChecks n cs → (j : ℕ) → total x (getD cs j []) ≡ total y (getD cs j [])
+totals-bits n x y [] h s j = refl
+totals-bits n x y (c ∷ cs) h s zero = total-bits n 0 x y c h (s .0 .rising)
+totals-bits n x y (c ∷ cs) h s (suc j) = totals-bits n x y cs h (s .1) j
+
+-- ---- the whole
+module _ (k : Code) (s : Sound k) where
+  some-bit : 0 < k .bits
+  some-bit = omega (arith, s .bits-least)
+
+  pub point-begins : (w : List ℕ) → length w ≡ k .bits → (i : ℕ) → i < k .bits → entry (pointOf k w) i ≡ entry w i
+  point-begins w h i l = extend-begins (systemOf k .members) w i (omega arith)
+
+  pub point-even : (w : List ℕ) → Codeword k w → Even (entry (pointOf k w)) (systemOf k .members) (systemOf k .triples)
+  unfolding systemOf
+  point-even w c =
+      checks-grow (k .bits) some-bit (k .checks) (k .bits) (omega arith) (s .checks) w (c .word .long) .1 (pointOf k w) refl
+      (λ j h. rw (totals-bits (k .bits) (entry (pointOf k w)) (entry w) (k .checks) (point-begins w (c .word .long)) (s .checks) j) (c .even j h))
+
+  pub point-binary : (w : List ℕ) → Codeword k w → (i : ℕ) → entry (pointOf k w) i < 2
+  point-binary w c = extend-binary (systemOf k .members) w (c .word .binary)
+
+  point : (w : List ℕ) → Codeword k w → Point (systemOf k) (pointOf k w)
+  unfolding systemOf
+  point w c = record {
+    point = record {
+      long = checks-grow (k .bits) some-bit (k .checks) (k .bits) (omega arith) (s .checks) w (c .word .long) .0;
+      binary = point-binary w c;
+    };
+    meets = λ t r h l. even-meets _ _ _ (point-binary w c _) (point-binary w c _) (point-binary w c _) (point-even w c t h) r l;
+  }
+
+  begins : (w : List ℕ) → Codeword k w → take (k .bits) (pointOf k w) ≡ w
+  unfolding systemOf
+  begins w c =
+      let n : length w ≡ k .bits = c .word .long in
+      let long : length (take (k .bits) (pointOf k w)) ≡ length w = length-take-le (k .bits) (pointOf k w) (omega (arith, point w c .point .long)) ∙ sym n in
+      ext-getD 0 (take (k .bits) (pointOf k w)) w long (λ i l. getD-take (k .bits) (pointOf k w) i 0 (omega arith) ∙ point-begins w n i (omega arith))
+
+  evened : (p : List ℕ) → Point (systemOf k) p → Even (entry p) (systemOf k .members) (systemOf k .triples)
+  evened p q t h = meets-even _ _ _ (q .point .binary _) (q .point .binary _) (q .point .binary _) (λ r l. q .meets t r h l)
+
+  codeword : (w p : List ℕ) → Bits (k .bits) w → Point (systemOf k) p → take (k .bits) p ≡ w → Codeword k w
+  unfolding systemOf
+  codeword w p b q e = record {
+    word = b;
+    even = λ j h. rw (totals-bits (k .bits) (entry w) (entry p) (k .checks) (λ i l. subst (λ (u : List ℕ). entry u i ≡ entry p i) e (getD-take (k .bits) p i 0 l)) (s .checks) j)
+        (checks-even (k .bits) some-bit (entry p) (k .checks) (k .bits) (s .checks) (evened p q) j h);
+  }
+
+  pub points : Points k
+  unfolding systemOf
+  points = record {
+    exactly = λ w b. (λ c. (pointOf k w, point w c, begins w c), λ q. codeword w (q .0) b (q .1) (q .2));
+    only = λ w p q e. sym (subst (λ (u : List ℕ). extend (systemOf k .members) u ≡ p) e
+        (checks-follow (k .bits) some-bit p (q .point .binary) (k .checks) (k .bits) (omega arith) (s .checks) (q .point .long) (evened p q)));
+  }

@@ -1,0 +1,257 @@
+-- The triple rule, for all degrees together, and how often each variable of a code occurs. Assumes nothing.
+use mathlib.Core.Path.{_≡_, refl, sym, ap, _∙_, subst}
+use mathlib.Core.Bool.{Bool, true, false, cond, _||_}
+use mathlib.Core.List.{List, [], _∷_, _++_, append-assoc}
+use Prim.Native.Nat.{ℕ, zero, suc, _+_, _*_, _≤_, _<_}
+use native.Mathlib.Decide.{decLt}
+use native.Mathlib.Omega.{arith}
+use lib.Dec.{T, ltb, eqb, leb·suc-suc}
+use lib.ListN.{length, getD, drop, length-append}
+use lib.Seq.{getD-drop, drop-append-le, getD-append-add}
+use borrow.Author.Tests.{eqb-true, eq-eqb, ne-eqb, lt-ltb, le-ltb}
+use Rattle.integers.specs.Sum.{sumℕ}
+use Rattle.lists.specs.Tabulated.{tab}
+use Rattle.lists.specs.Entries.{some, total}
+use Rattle.lists.proofs.Tabulated.{length-tab, tab-same, getD-tab}
+use Rattle.lists.proofs.Entries.{total-one, total-same}
+use Rattle.model.specs.Causes.{_if_}
+use Rattle.model.specs.Code.{Code, turns, tripleCount, triples, variables}
+use Rattle.model.specs.Sound.{Rising, SoundCheck, SoundChecks, Sound}
+use Rattle.model.specs.Splitting.{queue, triplesFrom, systemOf, member}
+use Rattle.model.specs.Iteration.{occurrences}
+use Rattle.model.specs.TripleRule.{items, TripleRule}
+use Rattle.model.proofs.Queue.{queue-total, triples-total, by-turns, member-next, members-total}
+use Rattle.model.proofs.Sound.{rising-below, rising-apart}
+
+-- ---- how often v stands
+abbrev is : ℕ → ℕ → ℕ
+is v u = 1 if eqb u v
+
+is-same : (v : ℕ) → is v v ≡ 1
+is-same v = rw (eq-eqb v v refl)
+
+is-other : (v u : ℕ) → (u ≡ v → ⊥) → is v u ≡ 0
+is-other v u h = rw (ne-eqb u v h)
+
+-- in m numbers from a on
+is-range : (v m a : ℕ) → (v < a → sumℕ m (λ j. is v (a + j)) ≡ 0) × (a + m ≤ v → sumℕ m (λ j. is v (a + j)) ≡ 0) × (a ≤ v → v < a + m → sumℕ m (λ j. is v (a + j)) ≡ 1)
+is-range v zero a = (λ h. refl, λ h. refl, λ h l. absurd (omega arith))
+is-range v (suc m) a =
+    let ih = is-range v m a in (
+      λ h. rw (ih .0 h, is-other v (a + m) (λ e. omega arith)),
+      λ h. rw (ih .1 (omega arith), is-other v (a + m) (λ e. omega arith)),
+      λ h l. by (decLt v (a + m)) (ih .1) (ih .2 h) l,
+    )
+  where
+    by : Dec (v < a + m) → (a + m ≤ v → sumℕ m (λ j. is v (a + j)) ≡ 0) → (v < a + m → sumℕ m (λ j. is v (a + j)) ≡ 1) → v < a + suc m → sumℕ m (λ j. is v (a + j)) + is v (a + m) ≡ 1
+    by (yes k) before at l = rw (at k, is-other v (a + m) (λ e. omega arith))
+    by (no k) before at l = let e : a + m ≡ v = omega arith in rw (before (omega arith), e, is-same v)
+
+-- in a rising list
+is-rising : (v n low : ℕ) (l : List ℕ) → Rising n low l → (total (is v) l ≤ 1) × (v < low → total (is v) l ≡ 0) × (n ≤ v → total (is v) l ≡ 0)
+is-rising v n low [] r = (omega arith, λ h. refl, λ h. refl)
+is-rising v n low (x ∷ l) r =
+    let ih = is-rising v n (suc x) l (r .2) in (
+      by (decLt v (suc x)) (ih .0) (ih .1),
+      λ h. rw (is-other v x (λ e. omega (arith, r .0)), ih .1 (omega (arith, r .0))),
+      λ h. rw (is-other v x (λ e. omega (arith, r .1)), ih .2 h),
+    )
+  where
+    small : (b : Bool) → 1 if b ≤ 1
+    small true = omega arith
+    small false = omega arith
+
+    by : Dec (v < suc x) → total (is v) l ≤ 1 → (v < suc x → total (is v) l ≡ 0) → is v x + total (is v) l ≤ 1
+    by (yes h) most none = omega (arith, none h, small (eqb x v))
+    by (no h) most none = let e : is v x ≡ 0 = is-other v x (λ e. omega arith) in omega arith
+
+total-entry : (f : ℕ → ℕ) (l : List ℕ) (i : ℕ) → i < length l → f (getD l i 0) ≤ total f l
+total-entry f [] i h = absurd (omega arith)
+total-entry f (x ∷ l) zero h = omega arith
+total-entry f (x ∷ l) (suc i) h = omega (arith, total-entry f l i (omega arith))
+
+-- ---- of the triples that a check gives
+long : (n : ℕ) → sumℕ n (λ _. 1) ≡ n
+long zero = refl
+long (suc n) = rw (long n) (omega arith)
+
+queue-long : (m : ℕ) (q : List ℕ) (a : ℕ) → length (queue m q a) ≡ length q + 2 * m
+queue-long m q a = sym (total-one (queue m q a)) ∙ queue-total (λ _. 1) m q a ∙ rw (total-one q, long m)
+
+occurs : (v : ℕ) (T : ℕ) (ts : List ℕ) → length ts ≡ 3 * T → occurrences ts T v ≡ total (is v) ts
+unfolding occurrences
+occurs v T ts h = members-total (is v) T ts h
+
+items-turn : (m : ℕ) (q : List ℕ) (a : ℕ) → 2 ≤ length q
+    → drop 2 (q ++ tab (suc m) (λ j. a + j)) ≡ (drop 2 q ++ (a ∷ [])) ++ tab m (λ j. suc a + j)
+items-turn m q a h =
+    let z : a + 0 ≡ a = omega arith in
+    drop-append-le 2 q (tab (suc m) (λ j. a + j)) h
+    ∙ rw (z, tab-same m (λ j. a + suc j) (λ j. suc a + j) (λ j l. omega arith)) (sym (append-assoc (drop 2 q) (a ∷ []) (tab m (λ j. suc a + j))))
+
+-- the closed form, for a queue of m turns
+abbrev At : ℕ → List ℕ → ℕ → ℕ → Type 0
+At m q a t =
+    (member (queue m q a) t 0 ≡ getD (q ++ tab m (λ j. a + j)) (2 * t) 0)
+    × (member (queue m q a) t 1 ≡ getD (q ++ tab m (λ j. a + j)) (2 * t + 1) 0)
+    × (member (queue m q a) t 2 ≡ cond (ltb t m) (a + t) (getD (q ++ tab m (λ j. a + j)) (2 * t + 2) 0))
+
+queue-at : (m : ℕ) (q : List ℕ) (a : ℕ) → length q ≡ 3 + m → (t : ℕ) → t ≤ m → At m q a t
+unfolding queue
+queue-at = by-turns (λ m q a. (t : ℕ) → t ≤ m → At m q a t) last turn
+  where
+    last : (x y z a t : ℕ) → t ≤ 0 → At 0 (x ∷ y ∷ z ∷ []) a t
+    last x y z a zero l = (refl, refl, refl)
+    last x y z a (suc t) l = absurd (omega arith)
+
+    turn : (m x y : ℕ) (q : List ℕ) (a : ℕ) → ((t : ℕ) → t ≤ m → At m (q ++ (a ∷ [])) (suc a) t) → (t : ℕ) → t ≤ suc m → At (suc m) (x ∷ y ∷ q) a t
+    turn m x y q a ih zero l = let z : a + 0 ≡ a = omega arith in (refl, refl, rw (lt-ltb 0 (suc m) (omega arith), z))
+    turn m x y q a ih (suc t) l =
+        let R = queue m (q ++ (a ∷ [])) (suc a) in
+        let its = (x ∷ y ∷ q) ++ tab (suc m) (λ j. a + j) in
+        let i = ih t (omega arith) in
+        let n : (p : ℕ) → member (x ∷ y ∷ a ∷ R) (suc t) p ≡ member R t p = member-next x y a R t in
+        let shift : (i k : ℕ) → k ≡ 2 + i → getD ((q ++ (a ∷ [])) ++ tab m (λ j. suc a + j)) i 0 ≡ getD its k 0
+        = λ i k e. ap (λ (r : List ℕ). getD r i 0) (sym (items-turn m (x ∷ y ∷ q) a (omega arith))) ∙ getD-drop 2 its i 0 ∙ ap (λ (j : ℕ). getD its j 0) (sym e) in
+        let s : suc a + t ≡ a + suc t = omega arith in (
+          n 0 ∙ i .0 ∙ shift (2 * t) (2 * suc t) (omega arith),
+          n 1 ∙ i .1 ∙ shift (2 * t + 1) (2 * suc t + 1) (omega arith),
+          n 2 ∙ i .2 ∙ rw (shift (2 * t + 2) (2 * suc t + 2) (omega arith), s, leb·suc-suc (suc t) m),
+        )
+
+-- what ever waits rises
+rising-range : (m a low : ℕ) → low ≤ a → Rising (a + m) low (tab m (λ j. a + j))
+rising-range zero a low h = tt
+rising-range (suc m) a low h =
+    let e : a + suc m ≡ suc a + m = omega arith in (
+      omega arith,
+      omega arith,
+      rw (e, tab-same m (λ j. a + suc j) (λ j. suc a + j) (λ j l. omega arith)) (rising-range m (suc a) (suc (a + 0)) (omega arith)),
+    )
+
+items-rising : (n low m a : ℕ) (c : List ℕ) → n ≤ a → low ≤ a → Rising n low c → Rising (a + m) low (c ++ tab m (λ j. a + j))
+items-rising n low m a [] h l r = rising-range m a low l
+items-rising n low m a (x ∷ c) h l r = (r .0, omega (arith, r .1), items-rising n (suc x) m a c h (omega (arith, r .1)) (r .2))
+
+module _ (n a : ℕ) (c : List ℕ) (sound : SoundCheck n c) (above : n ≤ a) where
+  degree : length c ≡ 3 + turns c
+  degree = omega (arith, sound .least)
+
+  long-queue : length (queue (turns c) c a) ≡ 3 * tripleCount c
+  long-queue = queue-long (turns c) c a ∙ omega (arith, degree)
+
+  -- the items rise, so those at two places differ
+  items-apart : (i j : ℕ) → i < j → j < length c + turns c → getD (items c a) i 0 < getD (items c a) j 0
+  unfolding items
+  items-apart i j h l =
+      rising-apart (a + turns c) 0 (c ++ tab (turns c) (λ j. a + j)) (items-rising n 0 (turns c) a c above (omega arith) (sound .rising)) i j h
+      (simp (length-append, length-tab) l)
+
+  auxiliary-item : (t : ℕ) → t < turns c → getD (items c a) (length c + t) 0 ≡ a + t
+  unfolding items
+  auxiliary-item t h = getD-append-add c (tab (turns c) (λ j. a + j)) t 0 ∙ getD-tab (turns c) (λ j. a + j) t 0 h
+
+  occurs-here : (v : ℕ) → occurrences (queue (turns c) c a) (tripleCount c) v ≡ total (is v) c + 2 * sumℕ (turns c) (λ j. is v (a + j))
+  occurs-here v = occurs v (tripleCount c) (queue (turns c) c a) long-queue ∙ queue-total (is v) (turns c) c a
+
+  bit-once : (i : ℕ) → i < length c → occurrences (queue (turns c) c a) (tripleCount c) (getD c i 0) ≡ 1
+  bit-once i h =
+      let v = getD c i 0 in
+      omega (
+        arith,
+        occurs-here v,
+        is-rising v n 0 c (sound .rising) .0,
+        total-entry (is v) c i h,
+        is-same v,
+        is-range v (turns c) a .0 (omega (arith, rising-below n 0 c (sound .rising) i h)),
+      )
+
+  auxiliary-twice : (j : ℕ) → j < turns c → occurrences (queue (turns c) c a) (tripleCount c) (a + j) ≡ 2
+  auxiliary-twice j h =
+      omega (arith, occurs-here (a + j), is-rising (a + j) n 0 c (sound .rising) .2 (omega arith), is-range (a + j) (turns c) a .2 (omega arith) (omega arith))
+
+  pub triple-rule : TripleRule c a
+  unfolding items
+  triple-rule =
+      let at : (t : ℕ) → t < tripleCount c → At (turns c) c a t = λ t h. queue-at (turns c) c a degree t (omega arith) in
+      record {
+        triples = omega (arith, sound .least);
+        auxiliaries = refl;
+        long = long-queue;
+        firsts = λ t h. at t h .0;
+        seconds = λ t h. at t h .1;
+        thirds = λ t h. at t h .2;
+        bit-once = bit-once;
+        auxiliary-twice = auxiliary-twice;
+        rising = λ t h. (rw (at t h .0, at t h .1) (items-apart (2 * t) (2 * t + 1) (omega arith) (omega (arith, degree))), rw (at t h .1, at t h .2) (last t h (decLt t (turns c))));
+      }
+    where
+      last : (t : ℕ) → t < tripleCount c → Dec (t < turns c) → getD (items c a) (2 * t + 1) 0 < cond (ltb t (turns c)) (a + t) (getD (items c a) (2 * t + 2) 0)
+      last t h (yes l) = rw (lt-ltb t (turns c) l, ← auxiliary-item t l) (items-apart (2 * t + 1) (length c + t) (omega (arith, degree)) (omega arith))
+      last t h (no l) = rw (le-ltb t (turns c) (omega arith)) (items-apart (2 * t + 1) (2 * t + 2) (omega arith) (omega (arith, degree)))
+
+-- ---- of a whole code
+checks-long : (n : ℕ) (cs : List (List ℕ)) → SoundChecks n cs → total length cs + 2 * total turns cs ≡ 3 * total tripleCount cs
+checks-long n [] s = refl
+checks-long n (c ∷ cs) s = omega (arith, checks-long n cs (s .1), s .0 .least)
+
+pub triples-long : (n : ℕ) (cs : List (List ℕ)) (a : ℕ) → SoundChecks n cs → length (triplesFrom cs a) ≡ 3 * total tripleCount cs
+triples-long n cs a s =
+    sym (total-one (triplesFrom cs a)) ∙ triples-total (λ _. 1) cs a
+    ∙ rw (total-same (total (λ _. 1)) length total-one cs, long (total turns cs)) (checks-long n cs s)
+
+checks-occur : (v n : ℕ) (cs : List (List ℕ)) → SoundChecks n cs → (total (total (is v)) cs ≤ length cs) × (n ≤ v → total (total (is v)) cs ≡ 0)
+checks-occur v n [] s = (omega arith, λ h. refl)
+checks-occur v n (c ∷ cs) s =
+    let ih = checks-occur v n cs (s .1) in
+    let r = is-rising v n 0 c (s .0 .rising) in
+    (omega (arith, ih .0, r .0), λ h. omega (arith, ih .1 h, r .2 h))
+
+-- a bit that lies in some check
+lies : {A : Type 0} (p : A → Bool) (f : A → ℕ) → ((x : A) → p x ≡ true → 1 ≤ f x) → (l : List A) → some p l ≡ true → 1 ≤ total f l
+lies p f h [] e = absurd (subst T (sym e) tt)
+lies p f h (x ∷ l) e = by (p x) refl e (lies p f h l)
+  where
+    by : (t : Bool) → p x ≡ t → (t || some p l) ≡ true → (some p l ≡ true → 1 ≤ total f l) → 1 ≤ f x + total f l
+    by true q e ih = omega (arith, h x q)
+    by false q e ih = omega (arith, ih e)
+
+module _ (k : Code) (s : Sound k) where
+  abbrev count : ℕ → ℕ
+  count v = occurrences (systemOf k .members) (systemOf k .triples) v
+
+  count-is : (v : ℕ) → count v ≡ total (total (is v)) (k .checks) + 2 * sumℕ (total turns (k .checks)) (λ j. is v (k .bits + j))
+  unfolding systemOf
+  count-is v =
+      occurs v (triples k) (triplesFrom (k .checks) (k .bits)) (triples-long (k .bits) (k .checks) (k .bits) (s .checks)) ∙ triples-total (is v) (k .checks) (k .bits)
+
+  -- a bit occurs once in each of its checks
+  pub bit-occurs : (v : ℕ) → v < k .bits → (1 ≤ count v) × (count v ≤ 2048)
+  bit-occurs v h =
+      let none = is-range v (total turns (k .checks)) (k .bits) .0 h in
+      let here : 1 ≤ total (total (is v)) (k .checks)
+      = lies (some (eqb v)) (total (is v)) (lies (eqb v) (is v) (λ u e. let p : v ≡ u = eqb-true v u e in rw (← p, is-same v) (omega arith))) (k .checks) (s .covered v h) in
+      (omega (arith, count-is v, none, here), omega (arith, count-is v, none, checks-occur v (k .bits) (k .checks) (s .checks) .0, s .checks-most))
+
+  pub auxiliary-occurs : (v : ℕ) → k .bits ≤ v → v < variables k → count v ≡ 2
+  auxiliary-occurs v h l =
+      omega (arith, count-is v, is-range v (total turns (k .checks)) (k .bits) .2 h l, checks-occur v (k .bits) (k .checks) (s .checks) .1 h)
+
+  none-occurs : (v : ℕ) → variables k ≤ v → count v ≡ 0
+  none-occurs v h =
+      omega (arith, count-is v, is-range v (total turns (k .checks)) (k .bits) .1 h, checks-occur v (k .bits) (k .checks) (s .checks) .1 (omega arith))
+
+  pub occurs-some : (v : ℕ) → v < variables k → 1 ≤ count v
+  occurs-some v h = by (decLt v (k .bits))
+    where
+      by : Dec (v < k .bits) → 1 ≤ count v
+      by (yes l) = bit-occurs v l .0
+      by (no l) = omega (arith, auxiliary-occurs v (omega arith) h)
+
+  pub occurs-few : (v : ℕ) → count v ≤ 2048
+  occurs-few v = by (decLt v (k .bits)) (decLt v (variables k))
+    where
+      by : Dec (v < k .bits) → Dec (v < variables k) → count v ≤ 2048
+      by (yes l) d = bit-occurs v l .1
+      by (no l) (yes h) = omega (arith, auxiliary-occurs v (omega arith) h)
+      by (no l) (no h) = omega (arith, none-occurs v (omega arith))
