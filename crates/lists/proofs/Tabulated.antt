@@ -2,7 +2,7 @@
 use mathlib.Core.Path.{_≡_, refl, sym, ap, ap₂, _∙_}
 use mathlib.Core.Logic.{_≢_}
 use mathlib.Core.List.{List, [], _∷_, _++_}
-use Prim.Native.Nat.{ℕ, zero, suc, _-_, _≤_, _<_}
+use Prim.Native.Nat.{ℕ, zero, suc, _+_, _-_, _≤_, _<_}
 use native.Mathlib.Omega.{arith}
 use lib.ListN.{length, getD, drop, set, length-append, length-drop, List·getD-append}
 use lib.Seq.{drop-at, set-append-left, getD-append-add, getD-drop}
@@ -55,6 +55,17 @@ module _ {ℓ} {A : Type ℓ} where
   over-next n f [] x h e = absurd (omega arith)
   over-next zero f (y ∷ old) x h e = rw e
   over-next (suc n) f (y ∷ old) x h e = ap (_∷_ (f 0)) (over-next n (λ k. f (suc k)) old x (omega arith) e)
+
+  -- three of them
+  pub over-three : (n : ℕ) (f : ℕ → A) (old : List A) (x y z : A) → n + 3 ≤ length old → f n ≡ x → f (n + 1) ≡ y → f (n + 2) ≡ z
+      → set (set (set (over n f old) n x) (n + 1) y) (n + 2) z ≡ over (n + 3) f old
+  over-three n f old x y z h p q r =
+      ap (λ (l : List A). set (set l (n + 1) y) (n + 2) z) (to n (n + 1) x (omega arith) (omega arith) p)
+      ∙ ap (λ (l : List A). set l (n + 2) z) (to (n + 1) (n + 2) y (omega arith) (omega arith) q)
+      ∙ to (n + 2) (n + 3) z (omega arith) (omega arith) r
+    where
+      to : (n m : ℕ) (x : A) → m ≡ suc n → n < length old → f n ≡ x → set (over n f old) n x ≡ over m f old
+      to n m x e h p = over-next n f old x h p ∙ ap (λ (k : ℕ). over k f old) (sym e)
 
   -- one store among what is filled changes one entry of the function
   pub over-set : (n : ℕ) (f g : ℕ → A) (old : List A) (v : ℕ) (x : A) → v < n → g v ≡ x → ((u : ℕ) → u < n → u ≢ v → g u ≡ f u)

@@ -5,7 +5,6 @@ use Prim.Native.Nat.{ℕ, zero, suc, _<_}
 use native.Mathlib.Omega.{arith}
 use lib.ListN.{length, drop}
 use Rattle.model.specs.declared.Reading.{Reading}
-use Rattle.model.specs.Causes.{accepted}
 use Rattle.model.specs.Code.{Code, triples}
 use Rattle.model.specs.Records.{bitCount, checkCount, codeOf, judge}
 use Rattle.model.specs.Calls.{ReaderAnswer, readingTold, reader}

@@ -1,20 +1,20 @@
 -- `records::covers` meets its contract: what is left of the checks, with what is marked. Assumes nothing.
 use mathlib.Core.Path.{_≡_, refl, sym, ap, _∙_}
 use mathlib.Core.Bool.{Bool, true, false, _||_}
-use mathlib.Core.List.{List, []}
-use Prim.Native.Nat.{ℕ, suc, _+_, _-_, _*_, _≤_, _<_}
+use mathlib.Core.List.{[]}
+use Prim.Native.Nat.{ℕ, _+_, _-_, _*_, _<_}
 use native.Mathlib.Numerals.{add-one}
 use native.Mathlib.Omega.{arith}
 use borrow.Author.Needs.{needs}
 use lib.Dec.{eqb}
-use lib.ListN.{length, getD, drop, drop-of-length-le, replicate, length-replicate, getD-replicate}
+use lib.ListN.{length, drop, drop-of-length-le, replicate, getD-replicate}
 use Rattle.lists.specs.Tabulated.{tab}
 use Rattle.lists.specs.Entries.{every, some}
 use Rattle.lists.proofs.Entries.{every-same}
 use Rattle.lists.proofs.Parts.{part-from}
-use Rattle.model.specs.Records.{degree, indices, checksIn, covered}
-use Rattle.model.proofs.Accepted.{SoundRecord, length-checks}
-use Rattle.records.specs.Marks.{marked, Marks}
+use Rattle.model.specs.Records.{degree, checksIn, covered}
+use Rattle.model.proofs.Accepted.{length-checks}
+use Rattle.records.specs.Marks.{marked}
 use Rattle.records.proofs.Walk.{Walk, walk-start, Here, here}
 use Rattle.records.proofs.Marks.{mark-next}
 use Rattle.records.proofs.covers.Statement.{statement}

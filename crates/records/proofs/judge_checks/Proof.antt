@@ -1,15 +1,14 @@
 -- `records::judge_checks` meets its contract: what is left to read decides. Assumes nothing.
 use mathlib.Core.Path.{_≡_, refl, sym, ap, _∙_}
-use mathlib.Core.List.{List, [], _∷_}
+use mathlib.Core.List.{List}
 use Prim.Native.Nat.{ℕ, zero, suc, _+_, _-_, _*_, _≤_, _<_}
 use native.Mathlib.Omega.{arith}
 use borrow.Author.Needs.{needs}
 use lib.ListN.{length, drop}
 use Rattle.lists.specs.Entries.{total}
 use Rattle.lists.proofs.Parts.{part-from}
-use Rattle.model.specs.Causes.{firstOf}
 use Rattle.model.specs.Code.{tripleCount}
-use Rattle.model.specs.Records.{degree, indices, afterCheck, checksIn, afterChecks, judgeCheck, judgeChecks}
+use Rattle.model.specs.Records.{degree, checksIn, afterChecks, judgeCheck, judgeChecks}
 use Rattle.model.proofs.Accepted.{SoundRecord, record-sound, length-numbers}
 use Rattle.records.specs.Judged.{Judged}
 use Rattle.records.proofs.Walk.{judge-refused, judge-passed, checks-next, after-next}

@@ -1,18 +1,17 @@
 -- `records::mark` meets its contract: what is left of the check, with what is marked. Assumes nothing.
-use mathlib.Core.Path.{_≡_, refl, sym, ap, _∙_}
-use mathlib.Core.Bool.{Bool, _||_}
-use mathlib.Core.List.{List}
-use Prim.Native.Nat.{ℕ, suc, _+_, _-_, _*_, _≤_, _<_}
+use mathlib.Core.Path.{_≡_, refl, sym, _∙_}
+use mathlib.Core.Bool.{_||_}
+use Prim.Native.Nat.{ℕ, _+_, _-_, _*_, _≤_, _<_}
 use native.Mathlib.Numerals.{add-one}
 use native.Mathlib.Omega.{arith}
 use borrow.Author.Needs.{needs}
 use lib.Dec.{eqb}
-use lib.ListN.{length, getD, drop, set, length-set, drop-of-length-le}
+use lib.ListN.{length, getD, drop, length-set, drop-of-length-le}
 use Rattle.lists.specs.Entries.{some}
-use Rattle.model.specs.Records.{twoBytes, degree, indices}
+use Rattle.model.specs.Records.{degree, indices}
 use Rattle.model.proofs.Accepted.{SoundRecord, record-sound, length-numbers}
 use Rattle.model.proofs.Sound.{rising-below}
-use Rattle.records.specs.Marks.{marked, Marks}
+use Rattle.records.specs.Marks.{marked}
 use Rattle.records.proofs.Walk.{index-at}
 use Rattle.records.proofs.Marks.{marked-set, mark-next}
 use Rattle.records.proofs.mark.Statement.{statement}

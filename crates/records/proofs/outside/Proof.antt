@@ -1,5 +1,4 @@
 -- `records::outside` meets its contract. Assumes nothing.
-use mathlib.Core.Path.{_≡_, sym}
 use borrow.Author.Tests.{lt-ltb, le-ltb}
 use Rattle.records.proofs.outside.Statement.{statement}
 use Rattle.records.proofs.outside.Tie as tie

@@ -1,17 +1,17 @@
 -- `records::read` meets its contract: the causes in their order, and the answer of an accepted code. Assumes nothing.
-use mathlib.Core.Path.{_≡_, refl, sym, ap, _∙_}
-use mathlib.Core.Bool.{Bool, not}
+use mathlib.Core.Path.{_≡_, sym, _∙_}
+use mathlib.Core.Bool.{not}
 use mathlib.Core.List.{List, [], _∷_}
-use Prim.Native.Nat.{ℕ, zero, suc, _-_, _≤_, _<_}
+use Prim.Native.Nat.{ℕ, suc, _-_}
 use native.Mathlib.Omega.{arith}
 use borrow.Author.Needs.{needs}
 use borrow.Author.Tests.{lt-ltb, le-ltb}
 use lib.Dec.{ltb}
-use lib.ListN.{length, drop}
+use lib.ListN.{drop}
 use Rattle.lists.proofs.Parts.{part-from}
 use Rattle.model.specs.Causes.{_if_, firstOf}
 use Rattle.model.specs.Code.{triples}
-use Rattle.model.specs.Records.{bitCount, checkCount, checksIn, codeOf, judgeHeader, judgeChecks, covered, judge}
+use Rattle.model.specs.Records.{bitCount, checkCount, codeOf, judgeHeader, judgeChecks, covered, judge}
 use Rattle.model.proofs.Accepted.{SoundHeader, header-sound}
 use Rattle.records.specs.Judged.{Judged}
 use Rattle.records.proofs.Answers.{refused-told, code-told}

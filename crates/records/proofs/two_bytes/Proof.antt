@@ -1,9 +1,6 @@
 -- `records::two_bytes` meets its contract. Assumes nothing.
-use mathlib.Core.Path.{_≡_}
-use Prim.Native.Nat.{_+_}
 use native.Mathlib.Nat.{add-zero}
 use native.Mathlib.Omega.{arith}
-use lib.ListN.{getD}
 use lib.Seq.{getD-drop}
 use Rattle.model.specs.Records.{twoBytes}
 use borrow.Author.Needs.{needs}
