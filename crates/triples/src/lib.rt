@@ -106,10 +106,8 @@ fn write_counts(triples: &[u16], total: usize, variables: usize, counts: &mut [u
     ensures { λ _. ⌜ now (counts .exit) ≡ over variables (occurrences (now (triples .entry)) total) (now (counts .entry)) ⌝ }
 {
     clear(counts, variables);
-    for t in 0..total {
-        count(triples, 3 * t, counts);
-        count(triples, 3 * t + 1, counts);
-        count(triples, 3 * t + 2, counts);
+    for i in 0..3 * total {
+        count(triples, i, counts);
     }
 }
 
