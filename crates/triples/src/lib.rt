@@ -8,7 +8,7 @@ ghost use Rattle.model.specs.Records.{degree, indices, codeOf, judge};
 ghost use Rattle.model.specs.Sound.{SoundCheck};
 ghost use Rattle.model.specs.Splitting.{queue, systemOf};
 ghost use Rattle.model.specs.TripleRule.{items};
-ghost use Rattle.model.specs.Iteration.{occurrences, countsOf};
+ghost use Rattle.model.specs.Iteration.{occurrences};
 ghost use Rattle.model.specs.Calls.{splitter};
 ghost use Rattle.triples.specs.Splits.{counted, Written, Splits};
 use model::Reading;
@@ -49,7 +49,13 @@ fn write_check(s: &[u8], next: usize, out: &mut [u16])
     let d = records::degree(s);
     for t in 0..d - 2 {
         let third = if t < d - 3 { d + t } else { 2 * t + 2 };
-        put(out, 3 * t, item(s, next, 2 * t), item(s, next, 2 * t + 1), item(s, next, third));
+        put(
+            out,
+            3 * t,
+            item(s, next, 2 * t),
+            item(s, next, 2 * t + 1),
+            item(s, next, third),
+        );
     }
 }
 
@@ -112,7 +118,13 @@ fn write_counts(triples: &[u16], total: usize, variables: usize, counts: &mut [u
 }
 
 // The triples and the counts of an accepted code, in lists with room for them.
-pub fn write_system(code: &[u8], total: usize, variables: usize, triples: &mut [u16], counts: &mut [u16])
+pub fn write_system(
+    code: &[u8],
+    total: usize,
+    variables: usize,
+    triples: &mut [u16],
+    counts: &mut [u16],
+)
     requires { ⌜ judge (now code) ≡ 0 ⌝ }
     requires { ⌜ (total ≡ systemOf (codeOf (now code)) .triples) × (variables ≡ systemOf (codeOf (now code)) .variables) ⌝ }
     requires { ⌜ (3 * total ≤ length (now triples)) × (variables ≤ length (now counts)) ⌝ }

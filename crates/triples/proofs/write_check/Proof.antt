@@ -83,11 +83,11 @@ third c =
     let d = c .before .before .before in
     let t = c .before .before .loop .t in
     ⊎-elim (λ w.
-        let e : c .if1 .third ≡ length (check d) + t = omega (arith, sized d) in
-        (omega (arith, sized d), third-made (check d) _ (rule d) t (inside (c .before)) (omega (arith, sized d)) ∙ rw e))
+    let e : c .if1 .third ≡ length (check d) + t = omega (arith, sized d) in
+    (omega (arith, sized d), third-made (check d) _ (rule d) t (inside (c .before)) (omega (arith, sized d)) ∙ rw e))
     (λ w.
-        let e : c .if1 .third ≡ 2 * t + 2 = omega (arith, sized d) in
-        (omega (arith, sized d), third-left (check d) _ (rule d) t (inside (c .before)) (omega (arith, sized d)) ∙ rw e))
+    let e : c .if1 .third ≡ 2 * t + 2 = omega (arith, sized d) in
+    (omega (arith, sized d), third-left (check d) _ (rule d) t (inside (c .before)) (omega (arith, sized d)) ∙ rw e))
     (c .if1 .came)
 
 mul-put : tie.Need-mul-put Inv-loop μ-loop
@@ -129,8 +129,7 @@ loop-again c =
     let x = y .before in
     let j = x .before .before in
     let l = j .before .before in
-    let d = l .before in
-    (
+    let d = l .before in (
       omega arith,
       rw (p .put .ensures, l .loop .inv .1) (triple-next (check d) _ (rule d) (l .loop .t) (inside (j .before)) _ _ _ _ (omega (arith, sized d, inside (j .before), d .before .before .before .pre .1 .1 .1)) (x .item .ensures) (y .item2 .ensures) (z .item3 .ensures ∙ sym (third j .1))),
     )

@@ -50,7 +50,7 @@ below c = c .before .before .before .before .before .before .before .before .pre
 few : (c : tie.In-loop Inv-loop μ-loop)
     → let a = c .before .before .before .before .before .before .before .before .args in
     getD (c .before .loop .counts) (getD (a .triples .now) (c .before .loop .i) 0) 0 < 65535
-few c = 
+few c =
     let l = c .before .loop in
     let a = c .before .before .before .before .before .before .before .before .args in
     let v = getD (a .triples .now) (l .i) 0 in
