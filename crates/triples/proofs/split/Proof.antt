@@ -6,6 +6,7 @@ use Prim.Native.Nat.{ℕ, zero, suc, _*_, _<_}
 use native.Mathlib.Omega.{arith}
 use borrow.Author.Needs.{needs}
 use borrow.Author.Tests.{lt-ltb, le-ltb}
+use lib.ListN.{length}
 use Rattle.model.specs.Causes.{short}
 use Rattle.model.specs.Code.{triples, variables}
 use Rattle.model.specs.Records.{codeOf, judge}
@@ -62,19 +63,26 @@ mul-if1 c = omega (arith, read (c .before))
 returns : tie.Need-returns
 returns c =
     let r = read (c .before .before) in
-    no-room _ _ _ (r .judged) (rw (← r .triples, lt-ltb _ _ (c .if1 .taken)))
+    let a = c .before .before .before .before .before .before .before .before .args in
+    no-room _ _ _ (r .judged) (rw (lt-ltb (length (a .triples .now)) (3 * triples (codeOf (a .code .now))) (omega (arith, r .triples))))
 
 returns-2 : tie.Need-returns-2
 returns-2 c =
-    let r = read (c .before .before .before) in
-    no-room _ _ _ (r .judged) (rw (← r .triples, le-ltb _ _ (c .before .if1 .left), ← r .variables, lt-ltb _ _ (c .if2 .taken)))
+    let e = c .before in
+    let r = read (e .before .before) in
+    let a = e .before .before .before .before .before .before .before .before .args in
+    no-room _ _ _ (r .judged)
+    (rw (
+      le-ltb (length (a .triples .now)) (3 * triples (codeOf (a .code .now))) (omega (arith, r .triples)),
+      lt-ltb (length (a .counts .now)) (variables (codeOf (a .code .now))) (omega (arith, r)),
+    ))
 
 write-system-requires : tie.Need-write-system-requires
 unfolding systemOf
 write-system-requires c κs =
     let e = c .before .before in
     let r = read (e .before .before .before) in
-    (r .judged, ((r .triples, r .variables), (e .before .if1 .left, e .if2 .left)))
+    (r .judged, ((r .triples, r .variables), (omega arith, omega (arith, r))))
 
 returns-3 : tie.Need-returns-3
 returns-3 c =
@@ -94,7 +102,13 @@ returns-4 c =
     let w = c .before .before .before .before in
     let e = w .before .before .before in
     let r = read (e .before .before .before) in
-    room _ _ _ (r .judged) _ _ (rw (← r .triples, le-ltb _ _ (e .before .if1 .left), ← r .variables, le-ltb _ _ (e .if2 .left))) (w .write-system .ensures)
+    let a = e .before .before .before .before .before .before .before .before .before .args in
+    room _ _ _ (r .judged) _ _
+    (rw (
+      le-ltb (length (a .triples .now)) (3 * triples (codeOf (a .code .now))) (omega (arith, r .triples, e .before .if1 .left)),
+      le-ltb (length (a .counts .now)) (variables (codeOf (a .code .now))) (omega (arith, r .variables, e .if2 .left)),
+    ))
+    (w .write-system .ensures)
 
 pub split-spec : {M : Type 1} → statement M
 split-spec =

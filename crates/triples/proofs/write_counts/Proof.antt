@@ -45,7 +45,7 @@ long c =
 below : (c : tie.In-loop Inv-loop μ-loop)
     → let a = c .before .before .before .before .before .before .before .before .args in
     getD (a .triples .now) (c .before .loop .i) 0 < a .variables
-below c = c .before .before .before .before .before .before .before .before .pre .1 (c .before .loop .i) (c .loop-test .taken)
+below c = c .before .before .before .before .before .before .before .before .pre .1 (c .before .loop .i) (omega arith)
 
 few : (c : tie.In-loop Inv-loop μ-loop)
     → let a = c .before .before .before .before .before .before .before .before .args in
