@@ -67,24 +67,22 @@ module _ (b old : List ℕ) (judged : judge b ≡ 0) (fits : 3 * triples (codeOf
           long = length-numbers (degree rest) (drop 3 rest);
         }
 
-    pub going-next : (d : ℕ) (k : List ℕ) → j < checkCount b → d ≡ degree rest → k ≡ written (queue (turns (indices rest)) (indices rest) next) (drop done ts)
-        → Going b old (take done ts ++ (k ++ drop (length ts - done) (drop done ts))) (drop (3 + 2 * d) rest) (next + (d - 3)) (done + 3 * (d - 2)) (j + 1)
+    pub going-next : (d : ℕ) (k : List ℕ) (next′ done′ : ℕ) → j < checkCount b → d ≡ degree rest → k ≡ written (queue (turns (indices rest)) (indices rest) next) (drop done ts)
+        → next′ ≡ next + turns (indices rest) → done′ ≡ done + 3 * tripleCount (indices rest)
+        → Going b old (take done ts ++ (k ++ drop (length ts - done) (drop done ts))) (drop (3 + 2 * d) rest) next′ done′ (j + 1)
     unfolding triplesFrom
-    going-next d k h e w =
-        let a = going-at h in
+    going-next d k next′ done′ h e w n m =
         let c = indices rest in
         let q = queue (turns c) c next in
         let r = here _ _ _ j rest h (g .walk) in
-        let long = triple-rule next next c (a .check) (omega arith) .long in
-        let more : done + 3 * (d - 2) ≡ done + length q = omega (arith, a .least, a .long) in
-        let aux : next + turns c ≡ next + (d - 3) = omega (arith, a .long) in
+        let more : done′ ≡ done + length q = omega (arith, triple-rule next next c (going-at h .check) (omega arith) .long) in
         let left : drop done (members-of b) ≡ q ++ triplesFrom (drop (j + 1) (checks-of b)) (next + turns c) = g .left ∙ rw (r .checks) in
         record {
           walk = rw e (r .next);
           above = omega (arith, g .above);
-          auxiliaries = omega (arith, g .auxiliaries, ap (total turns) (r .checks), aux);
-          entries = omega (arith, g .entries, ap (total tripleCount) (r .checks), a .least, a .long);
-          left = rw (more, ← aux) (sym (drop-drop (length q) done (members-of b)) ∙ ap (drop (length q)) left ∙ drop-append-seam q _);
+          auxiliaries = omega (arith, g .auxiliaries, ap (total turns) (r .checks));
+          entries = omega (arith, g .entries, ap (total tripleCount) (r .checks));
+          left = rw (more, n) (sym (drop-drop (length q) done (members-of b)) ∙ ap (drop (length q)) left ∙ drop-append-seam q _);
           filled = rw more (begun-next done (members-of b) q _ old ts k (omega (arith, length-members, g .entries)) left (g .filled) w);
         }
 

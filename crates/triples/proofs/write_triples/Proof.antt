@@ -130,7 +130,9 @@ loop-again c =
     let l = t .before .loop in
     let s = t .before .before .before .before .before .before .before in
     rw (part-from (3 + 2 * d .degree .result) (l .rest .now))
-    (going-next _ _ (s .pre .0) (s .pre .1) _ _ _ _ _ (l .inv) (d .degree .result) _ (more t) (d .degree .ensures .0) (rw (part-from (l .done) (l .triples)) at (w .write-check .ensures)))
+    (going-next _ _ (s .pre .0) (s .pre .1) _ _ _ _ _ (l .inv) (d .degree .result) _ _ _ (more t) (d .degree .ensures .0)
+    (rw (part-from (l .done) (l .triples)) at (w .write-check .ensures))
+    (omega (arith, check-at t .long, d .degree .ensures .0)) (omega (arith, check-at t .least, check-at t .long, d .degree .ensures .0)))
 
 same-length : tie.Need-same-length Inv-loop μ-loop
 same-length c = long (c .before)
