@@ -8,6 +8,7 @@ use native.Mathlib.Omega.{arith}
 use lib.Dec.{T}
 use lib.ListN.{length, getD, drop, drop-of-length-le}
 use lib.Seq.{drop-cons}
+use Rattle.lists.specs.Tabulated.{tab}
 use Rattle.lists.specs.Entries.{every, some, total, first}
 
 -- ---- every
@@ -67,6 +68,11 @@ module _ {A : Type 0} (f : A → Bool) where
       by false p e zero h ih = p
       by false p e (suc i) h ih = ih i d e (omega arith)
       by true p e i h ih = absurd (subst T e tt)
+
+-- tests that agree on the entries
+pub every-same : {A : Type 0} (n : ℕ) (h : ℕ → A) (f g : A → Bool) → ((i : ℕ) → i < n → f (h i) ≡ g (h i)) → every f (tab n h) ≡ every g (tab n h)
+every-same zero h f g e = refl
+every-same (suc n) h f g e = rw (e 0 (omega arith), every-same n (λ i. h (suc i)) f g (λ i l. e (suc i) (omega arith)))
 
 -- ---- total
 module _ {A : Type 0} where

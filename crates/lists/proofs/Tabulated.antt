@@ -73,6 +73,17 @@ module _ {ℓ} {A : Type ℓ} where
       ∙ over-sets k (suc n) f old (omega arith)
       ∙ ap (λ (j : ℕ). over j f old) m
 
+  -- three of them
+  pub over-three : (n : ℕ) (f : ℕ → A) (old : List A) (x y z : A) → n + 3 ≤ length old → f n ≡ x → f (n + 1) ≡ y → f (n + 2) ≡ z
+      → set (set (set (over n f old) n x) (n + 1) y) (n + 2) z ≡ over (n + 3) f old
+  over-three n f old x y z h p q r =
+      ap (λ (l : List A). set (set l (n + 1) y) (n + 2) z) (to n (n + 1) x (omega arith) (omega arith) p)
+      ∙ ap (λ (l : List A). set l (n + 2) z) (to (n + 1) (n + 2) y (omega arith) (omega arith) q)
+      ∙ to (n + 2) (n + 3) z (omega arith) (omega arith) r
+    where
+      to : (n m : ℕ) (x : A) → m ≡ suc n → n < length old → f n ≡ x → set (over n f old) n x ≡ over m f old
+      to n m x e h p = over-next n f old x h p ∙ ap (λ (k : ℕ). over k f old) (sym e)
+
   -- one store among what is filled changes one entry of the function
   pub over-set : (n : ℕ) (f g : ℕ → A) (old : List A) (v : ℕ) (x : A) → v < n → g v ≡ x → ((u : ℕ) → u < n → u ≢ v → g u ≡ f u)
       → set (over n f old) v x ≡ over n g old

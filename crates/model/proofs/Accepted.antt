@@ -14,7 +14,7 @@ use Rattle.lists.proofs.Entries.{every-at}
 use Rattle.model.specs.Causes.{_if_, short, outside}
 use Rattle.model.specs.Code.{Code, triples}
 use Rattle.model.specs.Records.{twoBytes, numbers, bitCount, checkCount, degree, indices, afterCheck, checksIn, afterChecks, codeOf, judgeHeader, judgeIndices, judgeCheck, judgeChecks, covered, judge}
-use Rattle.model.specs.Sound.{Rising, SoundChecks, Sound}
+use Rattle.model.specs.Sound.{Rising, SoundCheck, SoundChecks, Sound}
 use Rattle.model.proofs.Causes.{clear, unless, within}
 
 -- ---- the header
@@ -71,6 +71,11 @@ record-sound n s h =
     let i = indices-sound n (degree s) 0 (drop 3 s) (x .1 .1 .1 .1 .0) in
     record { room = omega (arith, i .0, length-drop 3 s); least = d .0; most = d .1; rising = i .1 }
 
+pub check-sound : (n : ℕ) (s : List ℕ) → SoundRecord n s → SoundCheck n (indices s)
+check-sound n s r =
+    let e = length-numbers (degree s) (drop 3 s) in
+    record { least = omega (arith, r .least); most = omega (arith, r .most); rising = r .rising }
+
 -- ---- all check records
 pub length-checks : (m : ℕ) (s : List ℕ) → length (checksIn m s) ≡ m
 unfolding checksIn
@@ -82,9 +87,7 @@ unfolding judgeChecks checksIn
 checks-sound n zero s h = tt
 checks-sound n (suc m) s h =
     let x = clear (judgeCheck n s ∷ judgeChecks n m (afterCheck s) ∷ []) h in
-    let r = record-sound n s (x .0) in
-    let e = length-numbers (degree s) (drop 3 s) in
-    (record { least = omega (arith, r .least); most = omega (arith, r .most); rising = r .rising }, checks-sound n m (afterCheck s) (x .1 .0))
+    (check-sound n s (record-sound n s (x .0)), checks-sound n m (afterCheck s) (x .1 .0))
 
 -- ---- the code
 pub record SoundBytes (s : List ℕ) : Type 0 where

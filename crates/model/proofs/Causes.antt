@@ -1,4 +1,4 @@
--- What the number 0 says of a list of causes. Assumes nothing.
+-- Lists of causes: the first that holds, and what the number 0 says. Assumes nothing.
 use mathlib.Core.Path.{_≡_, refl, subst}
 use mathlib.Core.Bool.{Bool, true, false, _||_}
 use mathlib.Core.List.{List, [], _∷_}
@@ -7,6 +7,11 @@ use native.Mathlib.Omega.{arith}
 use lib.Dec.{T, ltb}
 use borrow.Author.Tests.{ltb-false}
 use Rattle.model.specs.Causes.{_if_, firstOf, outside}
+
+-- the last cause decides alone
+pub only : (c : ℕ) → firstOf (c ∷ []) ≡ c
+only zero = refl
+only (suc c) = refl
 
 -- none of the causes holds
 abbrev pub Clear : List ℕ → Type 0

@@ -25,6 +25,10 @@ rising-apart n low (x ∷ l) r i zero h k = absurd (omega arith)
 rising-apart n low (x ∷ l) r zero (suc j) h k = rising-from n (suc x) l (r .2) j (omega arith)
 rising-apart n low (x ∷ l) r (suc i) (suc j) h k = rising-apart n (suc x) l (r .2) i j (omega arith) (omega arith)
 
+pub rising-more : (n m low : ℕ) (l : List ℕ) → n ≤ m → Rising n low l → Rising m low l
+rising-more n m low [] h r = tt
+rising-more n m low (x ∷ l) h r = (r .0, omega (arith, r .1), rising-more n m (suc x) l h (r .2))
+
 -- ---- the checks
 pub sound-at : (n : ℕ) (l : List (List ℕ)) → SoundChecks n l → (j : ℕ) → j < length l → SoundCheck n (getD l j [])
 sound-at n [] s j h = absurd (omega arith)

@@ -1,0 +1,33 @@
+-- Parts of a slice, as a loan gives them, and a list that is written part by part. Assumes nothing.
+use mathlib.Core.Path.{_≡_, sym, ap, _∙_}
+use mathlib.Core.List.{List, [], _++_, append-assoc, append-nil}
+use Prim.Native.Nat.{ℕ, _+_, _-_, _≤_}
+use native.Mathlib.Omega.{arith}
+use lib.ListN.{length, take, drop, length-append, length-drop, drop-of-length-le}
+use lib.Seq.{take-all, take-length, take-at, drop-at, take-add, take-append-seam, drop-drop, length-take-le}
+use Rattle.lists.specs.Tabulated.{written}
+
+module _ {A : Type 0} where
+  -- `&s[k..]`
+  pub part-from : (k : ℕ) (l : List A) → take (length l - k) (drop k l) ≡ drop k l
+  part-from k l = take-all (length l - k) (drop k l) (omega (arith, length-drop k l))
+
+  -- the first n entries are l's, the rest is old
+  abbrev pub begun : ℕ → List A → List A → List A
+  begun n l old = take n l ++ drop n old
+
+  pub length-begun : (n : ℕ) (l old : List A) → n ≤ length l → n ≤ length old → length (begun n l old) ≡ length old
+  length-begun n l old h k = length-append (take n l) (drop n old) ∙ omega (arith, length-take-le n l h, length-drop n old)
+
+  pub begun-all : (l old : List A) → begun (length l) l old ≡ written l old
+  begun-all l old = rw (take-length l)
+
+  -- the next part p, written to what was left of the list, which then comes back
+  pub begun-next : (n : ℕ) (l p r old s k : List A) → n ≤ length l → drop n l ≡ p ++ r → s ≡ begun n l old → k ≡ written p (drop n s)
+      → take n s ++ (k ++ drop (length s - n) (drop n s)) ≡ begun (n + length p) l old
+  begun-next n l p r old s k h e b w =
+      let long = length-take-le n l h in
+      let none : drop (length s - n) (drop n s) ≡ [] = drop-of-length-le (drop n s) {i = length s - n} (omega (arith, length-drop n s)) in
+      let more : take (length p) (drop n l) ≡ p = ap (take (length p)) e ∙ take-append-seam p r in
+      rw (none, append-nil k, w, b, take-at (take n l) (drop n old) n long, drop-at (take n l) (drop n old) n long, take-add n (length p) l, more, drop-drop (length p) n old)
+      (sym (append-assoc (take n l) p (drop (n + length p) old)))

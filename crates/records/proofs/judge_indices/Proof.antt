@@ -1,0 +1,103 @@
+-- `records::judge_indices` meets its contract: what is left to read decides. Assumes nothing.
+use mathlib.Core.Path.{_≡_, refl}
+use mathlib.Core.List.{List, [], _∷_}
+use Prim.Native.Nat.{ℕ, zero, suc, _+_, _-_, _<_}
+use native.Mathlib.Numerals.{add-one}
+use native.Mathlib.Omega.{arith}
+use borrow.Author.Needs.{needs}
+use borrow.Author.Tests.{lt-ltb, le-ltb, le-leb, lt-leb}
+use lib.Dec.{ltb, leb}
+use lib.ListN.{drop}
+use Rattle.lists.proofs.Parts.{part-from}
+use Rattle.model.specs.Causes.{_if_, firstOf, short}
+use Rattle.model.specs.Records.{twoBytes, judgeIndices}
+use Rattle.model.proofs.Causes.{only}
+use Rattle.records.proofs.judge_indices.Statement.{statement}
+use Rattle.records.proofs.judge_indices.Tie as tie
+
+abbrev Inv-loop : tie.InvT-loop
+Inv-loop s degree bits rest₀ left₀ low₀ rest left low = judgeIndices bits degree 0 s ≡ judgeIndices bits left low rest
+
+abbrev μ-loop : tie.MeasureT-loop
+μ-loop s degree bits rest₀ left₀ low₀ rest left low = left
+
+-- one index, of which there is another
+next : (n d low : ℕ) (s : List ℕ) → 0 < d → judgeIndices n d low s
+    ≡ firstOf (1 if short 2 s ∷ 5 if leb n (twoBytes s) ∷ 6 if ltb (twoBytes s) low ∷ judgeIndices n (d - 1) (twoBytes s + 1) (drop 2 s) ∷ [])
+unfolding judgeIndices
+next n zero low s h = absurd (omega arith)
+next n (suc d) low s h = let e : suc d - 1 ≡ d = omega arith in rw (add-one (twoBytes s), e)
+
+loop-holds : tie.Need-loop-holds Inv-loop μ-loop
+loop-holds c = refl
+
+returns : tie.Need-returns Inv-loop μ-loop
+returns c =
+    let l = c .before .before in
+    rw (l .loop .inv, next _ _ _ _ (c .before .loop-test .taken), lt-ltb _ 2 (c .if1 .taken))
+
+two-bytes-requires : tie.Need-two-bytes-requires Inv-loop μ-loop
+two-bytes-requires c κs = search needs
+
+returns-2 : tie.Need-returns-2 Inv-loop μ-loop
+returns-2 c =
+    let w = c .before in
+    let t = w .before .before in
+    rw (t .before .loop .inv, next _ _ _ _ (t .loop-test .taken), le-ltb _ 2 (w .before .if1 .left), ← w .two-bytes .ensures .0, le-leb (t .before .before .before .args .bits) (w .two-bytes .result) (omega arith))
+
+returns-3 : tie.Need-returns-3 Inv-loop μ-loop
+returns-3 c =
+    let w = c .before .before in
+    let t = w .before .before in
+    rw (t .before .loop .inv, next _ _ _ _ (t .loop-test .taken), le-ltb _ 2 (w .before .if1 .left), ← w .two-bytes .ensures .0, lt-leb _ _ (c .before .if2 .left), lt-ltb _ _ (c .if3 .taken))
+
+add-low : tie.Need-add-low Inv-loop μ-loop
+add-low c = omega arith
+
+sub-rest : tie.Need-sub-rest Inv-loop μ-loop
+sub-rest c = search needs
+
+part-rest-start : tie.Need-part-rest-start Inv-loop μ-loop
+part-rest-start c = search needs
+
+part-rest-end : tie.Need-part-rest-end Inv-loop μ-loop
+part-rest-end c = search needs
+
+sub-left : tie.Need-sub-left Inv-loop μ-loop
+sub-left c = search needs
+
+loop-less : tie.Need-loop-less Inv-loop μ-loop
+loop-less c = search needs
+
+loop-again : tie.Need-loop-again Inv-loop μ-loop
+loop-again c =
+    let w = c .before .before .before in
+    let t = w .before .before in
+    rw (part-from 2 (t .before .loop .rest .now), t .before .loop .inv, next _ _ _ _ (t .loop-test .taken), le-ltb _ 2 (w .before .if1 .left), ← w .two-bytes .ensures .0, lt-leb _ _ (c .before .before .if2 .left), le-ltb _ _ (c .before .if3 .left)) (only _)
+
+returns-4 : tie.Need-returns-4 Inv-loop μ-loop
+unfolding judgeIndices
+returns-4 c =
+    let l = c .before in
+    let e : l .loop .left ≡ 0 = omega arith in
+    rw (l .loop .inv, e)
+
+pub judge-indices-spec : {M : Type 1} → statement M
+judge-indices-spec =
+    tie.close
+    (tie.spec
+    Inv-loop
+    μ-loop
+    loop-holds
+    returns
+    two-bytes-requires
+    returns-2
+    returns-3
+    add-low
+    sub-rest
+    part-rest-start
+    part-rest-end
+    sub-left
+    loop-less
+    loop-again
+    returns-4)

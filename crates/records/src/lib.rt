@@ -1,0 +1,225 @@
+// The reader of code records (document 01, 'Code records').
+ghost use mathlib.Core.Path.{_≡_};
+ghost use Prim.Native.Nat.{_+_, _-_, _≤_, _<_};
+ghost use lib.ListN.{length, drop};
+ghost use Rattle.lists.specs.Tabulated.{tab};
+ghost use Rattle.lists.specs.Entries.{every};
+ghost use Rattle.model.specs.Causes.{outside};
+ghost use Rattle.model.specs.Records.{twoBytes, degree, indices, checksIn, covered, judgeHeader, judgeIndices, judgeCheck, judgeChecks};
+ghost use Rattle.model.specs.Calls.{readingTold, reader};
+ghost use Rattle.records.specs.Judged.{Judged};
+ghost use Rattle.records.specs.Marks.{marked, Marks};
+use model::Reading;
+
+fn wide(x: u8) -> usize
+    ensures { λ r. ⌜ (r ≡ x) × (r ≤ 255) ⌝ }
+{
+    x as usize
+}
+
+fn outside(low: usize, high: usize, x: usize) -> bool
+    ensures { λ r. ⌜ r ≡ outside low high x ⌝ }
+{
+    x < low || high < x
+}
+
+// The two-byte number at `at`.
+pub fn two_bytes(s: &[u8], at: usize) -> usize
+    requires { ⌜ at + 2 ≤ length (now s) ⌝ }
+    ensures { λ r. ⌜ (r ≡ twoBytes (drop at (now (s .entry)))) × (r ≤ 65535) ⌝ }
+{
+    256 * wide(s[at]) + wide(s[at + 1])
+}
+
+// The degree of the check record that `s` begins with.
+pub fn degree(s: &[u8]) -> usize
+    requires { ⌜ 3 ≤ length (now s) ⌝ }
+    ensures { λ r. ⌜ (r ≡ degree (now (s .entry))) × (r ≤ 255) ⌝ }
+{
+    wide(s[2])
+}
+
+// The cause in the header that `s` begins with, 0 for none.
+pub fn judge_header(s: &[u8]) -> u32
+    ensures { λ r. ⌜ r ≡ judgeHeader (now (s .entry)) ⌝ }
+{
+    let len = s.len();
+    if len < 2 {
+        return 1;
+    }
+    if two_bytes(s, 0) != 0x4c48 {
+        return 2;
+    }
+    if len < 4 {
+        return 1;
+    }
+    if outside(3, 4096, two_bytes(s, 2)) {
+        return 3;
+    }
+    if len < 6 {
+        return 1;
+    }
+    if outside(1, 2048, two_bytes(s, 4)) {
+        return 3;
+    }
+    0
+}
+
+// The first cause among the indices that `s` begins with, 0 for none.
+fn judge_indices(s: &[u8], degree: usize, bits: usize) -> u32
+    ensures { λ r. ⌜ r ≡ judgeIndices bits degree 0 (now (s .entry)) ⌝ }
+{
+    let mut rest = s;
+    let mut left = degree;
+    let mut low = 0usize;
+    while 0 < left {
+        if rest.len() < 2 {
+            return 1;
+        }
+        let index = two_bytes(rest, 0);
+        if bits <= index {
+            return 5;
+        }
+        if index < low {
+            return 6;
+        }
+        low = index + 1;
+        rest = &rest[2..];
+        left -= 1;
+    }
+    0
+}
+
+// The first cause in the check record that `s` begins with, 0 for none.
+pub fn judge_check(s: &[u8], bits: usize) -> u32
+    ensures { λ r. ⌜ r ≡ judgeCheck bits (now (s .entry)) ⌝ }
+{
+    let len = s.len();
+    if len < 2 {
+        return 1;
+    }
+    if two_bytes(s, 0) != 0x4c43 {
+        return 2;
+    }
+    if len < 3 {
+        return 1;
+    }
+    let d = degree(s);
+    if outside(3, 32, d) {
+        return 4;
+    }
+    judge_indices(&s[3..], d, bits)
+}
+
+// What the judgement of check records finds: the first cause, or 0; how many triples they have, and how many bytes follow them.
+struct Judgement {
+    cause: u32,
+    triples: usize,
+    after: usize,
+}
+
+// The judgement of the check records that `s` begins with.
+fn judge_checks(s: &[u8], bits: usize, checks: usize) -> Judgement
+    requires { ⌜ checks ≤ 2048 ⌝ }
+    ensures { λ r. ⌜ Judged bits checks (now (s .entry)) (r .cause) (r .triples) (r .after) ⌝ }
+{
+    let mut rest = s;
+    let mut left = checks;
+    let mut triples = 0usize;
+    while 0 < left {
+        let cause = judge_check(rest, bits);
+        if cause != 0 {
+            return Judgement {
+                cause,
+                triples: 0,
+                after: 0,
+            };
+        }
+        let d = degree(rest);
+        triples += d - 2;
+        rest = &rest[3 + 2 * d..];
+        left -= 1;
+    }
+    Judgement {
+        cause: 0,
+        triples,
+        after: rest.len(),
+    }
+}
+
+// A mark at each bit of the check record that `s` begins with.
+fn mark(s: &[u8], bits: usize, seen: &mut [u8; 4096])
+    requires { ⌜ bits ≤ 4096 ⌝ }
+    requires { ⌜ judgeCheck bits (now s) ≡ 0 ⌝ }
+    ensures { λ _. ⌜ Marks (indices (now (s .entry))) (now (seen .entry)) (now (seen .exit)) ⌝ }
+{
+    let d = degree(s);
+    for i in 0..d {
+        let index = two_bytes(s, 3 + 2 * i);
+        seen[index] = 1;
+    }
+}
+
+// Whether each entry from the first to `last` has a mark.
+fn all_marked(seen: &[u8; 4096], last: usize) -> bool
+    requires { ⌜ last < 4096 ⌝ }
+    ensures { λ r. ⌜ r ≡ every (marked (now (seen .entry))) (tab (last + 1) (λ b. b)) ⌝ }
+{
+    let mut b = 0usize;
+    while b <= last {
+        if seen[b] == 0 {
+            return false;
+        }
+        b += 1;
+    }
+    true
+}
+
+// Whether each bit lies in some of the check records that `s` begins with.
+fn covers(s: &[u8], bits: usize, checks: usize) -> bool
+    requires { ⌜ (3 ≤ bits) × (bits ≤ 4096) ⌝ }
+    requires { ⌜ judgeChecks bits checks (now s) ≡ 0 ⌝ }
+    ensures { λ r. ⌜ r ≡ covered (record { bits = bits; checks = checksIn checks (now (s .entry)) }) ⌝ }
+{
+    let mut seen = [0u8; 4096];
+    let mut rest = s;
+    for j in 0..checks {
+        mark(rest, bits, &mut seen);
+        let d = degree(rest);
+        rest = &rest[3 + 2 * d..];
+    }
+    all_marked(&seen, bits - 1)
+}
+
+// The reader: n, m and the number of triples of a sound code, or the first cause.
+pub fn read(code: &[u8]) -> Reading
+    ensures { λ r. ⌜ readingTold r ≡ reader (now (code .entry)) ⌝ }
+{
+    let cause = judge_header(code);
+    if cause != 0 {
+        return Reading::Refused(cause);
+    }
+    let bits = two_bytes(code, 2);
+    let checks = two_bytes(code, 4);
+    let found = judge_checks(&code[6..], bits, checks);
+    let next = found.cause;
+    if next != 0 {
+        return Reading::Refused(next);
+    }
+    let after = found.after;
+    let triples = found.triples;
+    if 0 < after {
+        return Reading::Refused(9);
+    }
+    if 8192 < triples {
+        return Reading::Refused(7);
+    }
+    if !covers(&code[6..], bits, checks) {
+        return Reading::Refused(8);
+    }
+    Reading::Code {
+        bits,
+        checks,
+        triples,
+    }
+}

@@ -1,0 +1,43 @@
+-- Counts that grow with the triples. Assumes nothing.
+use mathlib.Core.Path.{_≡_, refl, sym}
+use mathlib.Core.Bool.{Bool, true, false}
+use mathlib.Core.List.{List}
+use Prim.Native.Nat.{ℕ, zero, suc, _+_, _*_, _≤_, _<_}
+use native.Mathlib.Omega.{arith}
+use native.Mathlib.Numerals.{add-one, add-two}
+use lib.Dec.{eqb}
+use lib.ListN.{getD}
+use borrow.Author.Tests.{eq-eqb, ne-eqb}
+use Rattle.integers.specs.Sum.{sumℕ}
+use Rattle.integers.proofs.Sums.{sumℕ-bound}
+use Rattle.lists.specs.Tabulated.{over}
+use Rattle.lists.proofs.Tabulated.{over-in, over-set}
+use Rattle.model.specs.Causes.{_if_}
+use Rattle.model.specs.Iteration.{occurrences}
+use Rattle.triples.specs.Splits.{counted}
+
+pub count-next : (n : ℕ) (f : ℕ → ℕ) (old : List ℕ) (v : ℕ) → v < n → counted (over n f old) v ≡ over n (λ u. f u + 1 if eqb v u) old
+count-next n f old v h =
+    over-set n f (λ u. f u + 1 if eqb v u) old v (getD (over n f old) v 0 + 1) h
+    (rw (over-in n f old v 0 h, eq-eqb v v refl))
+    (λ u l p. rw (ne-eqb v u (λ e. p (sym e))) (omega arith))
+
+-- how often v stands in the first n entries
+abbrev pub hits : List ℕ → ℕ → ℕ → ℕ
+hits ts n v = sumℕ n (λ i. 1 if eqb (getD ts i 0) v)
+
+pub hits-most : (ts : List ℕ) (n v : ℕ) → hits ts n v ≤ n
+hits-most ts n v = omega (arith, sumℕ-bound n 1 (λ i. 1 if eqb (getD ts i 0) v) (λ i h. one (eqb (getD ts i 0) v)))
+  where
+    one : (b : Bool) → 1 if b ≤ 1
+    one true = omega arith
+    one false = omega arith
+
+-- and in t triples
+pub hits-triples : (ts : List ℕ) (t v : ℕ) → hits ts (3 * t) v ≡ occurrences ts t v
+unfolding occurrences
+hits-triples ts zero v = refl
+hits-triples ts (suc t) v =
+    let e : 3 * suc t ≡ suc (suc (suc (3 * t))) = omega arith in
+    let z : 3 * t + 0 ≡ 3 * t = omega arith in
+    rw (e, hits-triples ts t v, z, add-one (3 * t), add-two (3 * t)) (omega arith)

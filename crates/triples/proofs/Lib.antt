@@ -1,0 +1,4 @@
+pub mod Items
+pub mod Writing
+pub mod Counting
+pub mod Members

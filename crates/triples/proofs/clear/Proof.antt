@@ -1,0 +1,66 @@
+-- `triples::clear` meets its contract: what is filled so far. Assumes nothing.
+use mathlib.Core.Path.{_≡_, refl, ap, _∙_}
+use Prim.Native.Nat.{ℕ, _-_, _≤_}
+use native.Mathlib.Numerals.{add-one}
+use native.Mathlib.Omega.{arith}
+use lib.ListN.{length}
+use Rattle.lists.specs.Tabulated.{over}
+use Rattle.lists.proofs.Tabulated.{over-next, length-over}
+use Rattle.triples.proofs.clear.Statement.{statement}
+use Rattle.triples.proofs.clear.Tie as tie
+
+abbrev none : ℕ → ℕ
+none v = 0
+
+abbrev Inv-loop : tie.InvT-loop
+Inv-loop counts₀ n v₀ counts v = (v ≤ n) × (counts ≡ over v none counts₀)
+
+abbrev μ-loop : tie.MeasureT-loop
+μ-loop counts₀ n v₀ counts v = n - v
+
+loop-holds : tie.Need-loop-holds Inv-loop μ-loop
+loop-holds c = (omega arith, refl)
+
+long : (c : tie.At-loop Inv-loop μ-loop) → length (c .loop .counts) ≡ length (c .before .args .counts .now)
+long c = ap length (c .loop .inv .1) ∙ length-over (c .loop .v) none (c .before .args .counts .now) (omega arith)
+
+mul-counts : tie.Need-mul-counts Inv-loop μ-loop
+mul-counts c = omega arith
+
+slice-write-counts : tie.Need-slice-write-counts Inv-loop μ-loop
+slice-write-counts c = omega (arith, long (c .before))
+
+add-v : tie.Need-add-v Inv-loop μ-loop
+add-v c = omega arith
+
+loop-less : tie.Need-loop-less Inv-loop μ-loop
+loop-less c = omega arith
+
+loop-again : tie.Need-loop-again Inv-loop μ-loop
+loop-again c =
+    let l = c .before .loop in
+    (omega arith, rw (l .inv .1, add-one (l .v)) (over-next (l .v) none _ 0 (omega arith) refl))
+
+same-length : tie.Need-same-length Inv-loop μ-loop
+same-length c = long (c .before)
+
+returns : tie.Need-returns Inv-loop μ-loop
+returns c =
+    let l = c .before in
+    let e : l .loop .v ≡ l .before .args .n = omega arith in
+    rw (← e) (l .loop .inv .1)
+
+pub clear-spec : {M : Type 1} → statement M
+clear-spec =
+    tie.close
+    (tie.spec
+    Inv-loop
+    μ-loop
+    loop-holds
+    mul-counts
+    slice-write-counts
+    add-v
+    loop-less
+    loop-again
+    same-length
+    returns)

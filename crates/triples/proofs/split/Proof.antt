@@ -1,0 +1,129 @@
+-- `triples::split` meets its contract: the causes in their order, and the lists of an accepted code. Assumes nothing.
+use mathlib.Core.Path.{_≡_, refl, sym, ap, _∙_}
+use mathlib.Core.Bool.{true, false, _||_}
+use mathlib.Core.List.{List}
+use Prim.Native.Nat.{ℕ, zero, suc, _*_, _<_}
+use native.Mathlib.Omega.{arith}
+use borrow.Author.Needs.{needs}
+use borrow.Author.Tests.{lt-ltb, le-ltb}
+use lib.ListN.{length}
+use Rattle.model.specs.Causes.{short}
+use Rattle.model.specs.Code.{triples, variables}
+use Rattle.model.specs.Records.{codeOf, judge}
+use Rattle.model.specs.Splitting.{systemOf}
+use Rattle.model.specs.Calls.{readingTold, splitter}
+use Rattle.records.proofs.Answers.{Read, told-code, told-refused}
+use Rattle.triples.specs.Splits.{Written, Splits}
+use Rattle.triples.proofs.split.Statement.{statement}
+use Rattle.triples.proofs.split.Tie as tie
+
+-- ---- the definition, by the causes in their order
+module _ (b ts cs : List ℕ) where
+  refused : (c : ℕ) → judge b ≡ c → 0 < c → Splits (splitter b ts cs) c ts cs
+  unfolding splitter
+  refused zero e h = absurd (omega arith)
+  refused (suc c) e h = rw e (record { answer = refl; triples-after = refl; counts-after = refl })
+
+  module _ (judged : judge b ≡ 0) where
+    no-room : (short (3 * triples (codeOf b)) ts || short (variables (codeOf b)) cs) ≡ true → Splits (splitter b ts cs) 10 ts cs
+    unfolding splitter
+    no-room e = rw (judged, e) (record { answer = refl; triples-after = refl; counts-after = refl })
+
+    room : (l k : List ℕ) → (short (3 * triples (codeOf b)) ts || short (variables (codeOf b)) cs) ≡ false → Written b ts cs l k → Splits (splitter b ts cs) 0 l k
+    unfolding splitter
+    room l k e w = rw (judged, e) (record { answer = refl; triples-after = w .members; counts-after = w .occurring })
+
+read-requires : tie.Need-read-requires
+read-requires c κs = search needs
+
+enum-known-reading : tie.Need-enum-known-reading
+enum-known-reading c = search needs
+
+enum-known-reading-2 : tie.Need-enum-known-reading-2
+enum-known-reading-2 c = search needs
+
+-- ---- an accepted code
+read : (c : tie.After-reading2)
+    → let g = c .reading2 .given .0 in
+    Read (c .before .before .before .before .before .before .args .code .now) (g .0) (g .1 .0) (g .1 .1 .0)
+read c =
+    let g = c .reading2 .given in
+    told-code _ (g .0 .0) (g .0 .1 .0) (g .0 .1 .1 .0) (ap readingTold (sym (g .1)) ∙ c .before .before .read .ensures)
+
+add-variables : tie.Need-add-variables
+add-variables c = omega (arith, read (c .before))
+
+sub-variables : tie.Need-sub-variables
+sub-variables c = omega (arith, read (c .before))
+
+mul-if1 : tie.Need-mul-if1
+mul-if1 c = omega (arith, read (c .before))
+
+-- ---- the answers
+returns : tie.Need-returns
+returns c =
+    let r = read (c .before .before) in
+    let a = c .before .before .before .before .before .before .before .before .args in
+    no-room _ _ _ (r .judged) (rw (lt-ltb (length (a .triples .now)) (3 * triples (codeOf (a .code .now))) (omega (arith, r .triples))))
+
+returns-2 : tie.Need-returns-2
+returns-2 c =
+    let e = c .before in
+    let r = read (e .before .before) in
+    let a = e .before .before .before .before .before .before .before .before .args in
+    no-room _ _ _ (r .judged)
+    (rw (
+      le-ltb (length (a .triples .now)) (3 * triples (codeOf (a .code .now))) (omega (arith, r .triples)),
+      lt-ltb (length (a .counts .now)) (variables (codeOf (a .code .now))) (omega (arith, r)),
+    ))
+
+write-system-requires : tie.Need-write-system-requires
+unfolding systemOf
+write-system-requires c κs =
+    let e = c .before .before in
+    let r = read (e .before .before .before) in
+    (r .judged, ((r .triples, r .variables), (omega arith, omega (arith, r))))
+
+returns-3 : tie.Need-returns-3
+returns-3 c =
+    let r = c .before in
+    let g = r .reading .given in
+    let e = told-refused _ (g .0 .0) (ap readingTold (sym (g .1)) ∙ r .before .before .read .ensures) in
+    refused _ _ _ _ (e .0) (e .1)
+
+same-length : tie.Need-same-length
+same-length c = search needs
+
+same-length-2 : tie.Need-same-length-2
+same-length-2 c = search needs
+
+returns-4 : tie.Need-returns-4
+returns-4 c =
+    let w = c .before .before .before .before in
+    let e = w .before .before .before in
+    let r = read (e .before .before .before) in
+    let a = e .before .before .before .before .before .before .before .before .before .args in
+    room _ _ _ (r .judged) _ _
+    (rw (
+      le-ltb (length (a .triples .now)) (3 * triples (codeOf (a .code .now))) (omega (arith, r .triples, e .before .if1 .left)),
+      le-ltb (length (a .counts .now)) (variables (codeOf (a .code .now))) (omega (arith, r .variables, e .if2 .left)),
+    ))
+    (w .write-system .ensures)
+
+pub split-spec : {M : Type 1} → statement M
+split-spec =
+    tie.close
+    (tie.spec
+    read-requires
+    enum-known-reading
+    enum-known-reading-2
+    add-variables
+    sub-variables
+    mul-if1
+    returns
+    returns-2
+    write-system-requires
+    returns-3
+    same-length
+    same-length-2
+    returns-4)
