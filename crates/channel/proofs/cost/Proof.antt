@@ -6,7 +6,7 @@ use borrow.Author.Tests.{le-leb, lt-leb}
 use lib.IntN.{pos}
 use mir.Syntax.{w16}
 use mir.Val.{toZ}
-use Rattle.integers.proofs.Machine.{Worth, unsigned, opposite, fits, stored, fits-abs}
+use Rattle.integers.proofs.Machine.{Worth, unsigned, negative, fits, stored, fits-abs}
 use Rattle.model.specs.Channel.{costOfBits}
 use Rattle.channel.proofs.cost.Statement.{statement}
 use Rattle.channel.proofs.cost.Tie as tie
@@ -24,7 +24,7 @@ cast-size : tie.Need-cast-size
 cast-size c = fits-abs 32767 tt (size-is c .within)
 
 sub-result : tie.Need-sub-result
-sub-result c = fits (opposite (size-is (c .before))) w16 tt
+sub-result c = fits (negative (size-is (c .before))) w16 tt
 
 returns : tie.Need-returns
 unfolding costOfBits
@@ -32,7 +32,7 @@ returns c = rw (lt-leb _ _ (c .if1 .taken)) (size-is (c .before) .is ∙ ap pos 
 
 returns-2 : tie.Need-returns-2
 unfolding costOfBits
-returns-2 c = rw (le-leb _ _ (c .if1 .left), ← c .before .rounded .ensures) (stored (opposite (size-is (c .before))) w16 tt .is)
+returns-2 c = rw (le-leb _ _ (c .if1 .left), ← c .before .rounded .ensures) (stored (negative (size-is (c .before))) w16 tt .is)
 
 pub cost-spec : {M : Type 1} → statement M
 cost-spec = tie.close (tie.spec float-to-bits-bits rounded-requires cast-size sub-result returns returns-2)
