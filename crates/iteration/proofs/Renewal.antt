@@ -13,6 +13,7 @@ use Rattle.integers.specs.Sum.{sumℕ}
 use Rattle.integers.proofs.Sums.{sumℕ-same, sumℕ-begin}
 use Rattle.integers.proofs.Linear.{about, abs-difference}
 use Rattle.lists.specs.Tabulated.{tab, over}
+use Rattle.lists.proofs.Tests.{and-left, and-false}
 use Rattle.lists.proofs.Tabulated.{length-tab, getD-tab, tab-same, tab-getD, length-over, over-in, over-out, over-sets, over-same, over-self, over-whole, tab-over}
 use Rattle.model.specs.Iteration.{at, sumAt, row, slack, multiplier, renewed, renewedAt}
 use Rattle.model.specs.Causes.{_if_}
@@ -20,7 +21,6 @@ use Rattle.model.specs.Run.{squareOfChange, changes, settledBy}
 use Rattle.model.specs.Bounds.{RowsWithin}
 use Rattle.model.specs.Splitting.{member}
 use Rattle.model.proofs.Causes.{within}
-use Rattle.model.proofs.Products.{and-left}
 use Rattle.model.proofs.Bounds.{rowSum-bound, renewed-multiplier, renewed-slack, multiplier-change, changes-bound}
 use Rattle.model.proofs.Rows.{renewed-at}
 use Rattle.iteration.proofs.Sums.{reached}
@@ -28,10 +28,6 @@ use Rattle.iteration.proofs.Sums.{reached}
 -- ---- the test of a loop that goes on while t is below n and neither total exceeds x
 pub going : (t n a b x : ℕ) → ((ltb t n && leb a x) && leb b x) ≡ true → t < n
 going t n a b x h = ltb-true t n (and-left (ltb t n) (leb a x) (and-left (ltb t n && leb a x) (leb b x) h))
-
-and-false : (s u : Bool) → (s && u) ≡ false → u ≡ true → s ≡ false
-and-false true u h e = sym e ∙ h
-and-false false u h e = refl
 
 pub ended : (t n a b x : ℕ) → ((ltb t n && leb a x) && leb b x) ≡ false → a ≤ x → b ≤ x → n ≤ t
 ended t n a b x h p q = ltb-false t n (and-false (ltb t n) (leb a x) (and-false (ltb t n && leb a x) (leb b x) h (le-leb b x q)) (le-leb a x p))

@@ -11,3 +11,4 @@
 pub mod Tabulated
 pub mod Entries
 pub mod Parts
+pub mod Tests

@@ -6,7 +6,7 @@ use Prim.Native.Nat.{ℕ, zero, suc, _+_, _-_, _≤_, _<_}
 use native.Mathlib.Numerals.{add-one}
 use native.Mathlib.Omega.{arith}
 use lib.IntN.{ℤ}
-use lib.ListN.{length, getD, drop, set, length-append, length-drop, length-map, drop-of-length-le, List·getD-append}
+use lib.ListN.{length, getD, drop, set, replicate, length-append, length-drop, length-map, drop-of-length-le, List·getD-append}
 use lib.Seq.{getD-drop, getD-append-add, drop-at, sets, set-append-left}
 use mir.Facts.{toZ-ofZ}
 use mir.Syntax.{Width}
@@ -29,6 +29,10 @@ module _ {ℓ} {A : Type ℓ} where
   tab-same (suc n) f g h = ap₂ _∷_ (h 0 (omega arith)) (tab-same n (λ k. f (suc k)) (λ k. g (suc k)) (λ i l. h (suc i) (omega arith)))
 
   -- a list is given by its entries
+  pub tab-replicate : (n : ℕ) (x : A) → tab n (λ _. x) ≡ replicate n x
+  tab-replicate zero x = refl
+  tab-replicate (suc n) x = ap (λ l. x ∷ l) (tab-replicate n x)
+
   pub tab-getD : (l : List A) (d : A) → tab (length l) (λ i. getD l i d) ≡ l
   tab-getD [] d = refl
   tab-getD (x ∷ l) d = ap (_∷_ x) (tab-getD l d)

@@ -5,6 +5,7 @@ use mathlib.Core.List.{List, [], _∷_, map}
 use lib.IntN.{ℤ, pos, negℤ}
 use lib.Ieee.{Float, nan, inf, fin, binary32, neg, toBits}
 use lib.ListN.{length, length-map}
+use Rattle.lists.proofs.Tests.{and-left, and-right}
 use Rattle.lists.specs.Tabulated.{written}
 use Rattle.lists.specs.Entries.{every, some}
 use Rattle.lists.proofs.Entries.{every-some}
@@ -14,7 +15,7 @@ use Rattle.model.specs.Reflection.{turned}
 use Rattle.model.specs.Channel.{finite, inRange, costOfBits, costOf}
 use Rattle.model.specs.Calls.{channelFront}
 use Rattle.model.specs.ChannelClaims.{ChannelClaims, ofSingles}
-use Rattle.model.proofs.Products.{and-left, and-right, product-number, product-single, cost-negated}
+use Rattle.model.proofs.Products.{product-number, product-single, cost-negated}
 use Rattle.model.proofs.Values.{cost-rounded}
 
 infinite : (s : Bool) → costOfBits (toBits binary32 (inf s)) ≡ turned (1 if s) (pos 32767)

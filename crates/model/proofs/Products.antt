@@ -9,6 +9,7 @@ use lib.Ieee.{Float, nan, inf, fin, Format, binary32, up, down, unlike, neg, mul
 use lib.Ieee.Bits.{toBits-lt, is-true}
 use lib.Ieee.Fits.{mul-fits, neg-fits}
 use borrow.Author.Tests.{le-leb, lt-leb}
+use Rattle.lists.proofs.Tests.{and-left, and-right}
 use Rattle.model.specs.declared.Erasure.{Erasure}
 use Rattle.model.specs.declared.Channel.{Channel}
 use Rattle.model.specs.declared.Channel.the-variants.{Gaussian, Hard, Erasing}
@@ -19,14 +20,6 @@ use Rattle.model.proofs.Floats.{above-zero, below-zero, size-not-below,
 -- the cost of a product
 abbrev cost : Float → ℤ
 cost y = costOfBits (toBits binary32 y)
-
-pub and-left : (a b : Bool) → (a && b) ≡ true → a ≡ true
-and-left true b h = refl
-and-left false b h = h
-
-pub and-right : (a b : Bool) → (a && b) ≡ true → b ≡ true
-and-right true b h = h
-and-right false b h = cc
 
 pub scale-finite : (x : Float) → scaleInRange x ≡ true → finite x ≡ true
 scale-finite x = and-right (lt zeroFloat x) (finite x)
