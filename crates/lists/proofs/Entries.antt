@@ -5,7 +5,8 @@ use mathlib.Core.List.{List, [], _∷_, _++_}
 use Prim.Native.Nat.{ℕ, zero, suc, _+_, _≤_, _<_}
 use native.Mathlib.Numerals.{add-one}
 use native.Mathlib.Omega.{arith}
-use lib.Dec.{T}
+use borrow.Author.Tests.{ltb-true, ltb-false}
+use lib.Dec.{T, ltb}
 use lib.ListN.{length, getD, drop, drop-of-length-le}
 use lib.Seq.{drop-cons}
 use Rattle.lists.specs.Tabulated.{tab}
@@ -97,6 +98,13 @@ first-at (suc n) f (suc i) l h e = rw (h 0 (omega arith)) (ap suc (first-at n (�
 pub first-none : (n : ℕ) (f : ℕ → Bool) → ((j : ℕ) → j < n → f j ≡ false) → first n f ≡ n
 first-none zero f h = refl
 first-none (suc n) f h = rw (h 0 (omega arith)) (ap suc (first-none n (λ i. f (suc i)) (λ j k. h (suc j) (omega arith))))
+
+pub first-next : (f : ℕ → Bool) (i : ℕ) → ((j : ℕ) → j < i → f j ≡ false) → f i ≡ false → (j : ℕ) → j < i + 1 → f j ≡ false
+first-next f i h e j l = by (ltb j i) refl
+  where
+    by : (t : Bool) → ltb j i ≡ t → f j ≡ false
+    by true p = h j (ltb-true j i p)
+    by false p = let same : j ≡ i = omega (arith, ltb-false j i p) in ap f same ∙ e
 
 pub first-same : (n : ℕ) (f g : ℕ → Bool) → ((i : ℕ) → i < n → f i ≡ g i) → first n f ≡ first n g
 first-same zero f g h = refl
