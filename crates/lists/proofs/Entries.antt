@@ -89,6 +89,14 @@ module _ {A : Type 0} where
   total-same f g e [] = refl
   total-same f g e (x ∷ l) = rw (e x, total-same f g e l)
 
+-- ---- what holds below i, and at i
+pub below-next : (P : ℕ → Type 0) (i : ℕ) → ((j : ℕ) → j < i → P j) → P i → (j : ℕ) → j < i + 1 → P j
+below-next P i h e j l = by (ltb j i) refl
+  where
+    by : (t : Bool) → ltb j i ≡ t → P j
+    by true p = h j (ltb-true j i p)
+    by false p = let same : i ≡ j = omega (arith, ltb-false j i p) in subst P same e
+
 -- ---- first
 pub first-at : (n : ℕ) (f : ℕ → Bool) (i : ℕ) → i < n → ((j : ℕ) → j < i → f j ≡ false) → f i ≡ true → first n f ≡ i
 first-at zero f i l h e = absurd (omega arith)
@@ -98,13 +106,6 @@ first-at (suc n) f (suc i) l h e = rw (h 0 (omega arith)) (ap suc (first-at n (�
 pub first-none : (n : ℕ) (f : ℕ → Bool) → ((j : ℕ) → j < n → f j ≡ false) → first n f ≡ n
 first-none zero f h = refl
 first-none (suc n) f h = rw (h 0 (omega arith)) (ap suc (first-none n (λ i. f (suc i)) (λ j k. h (suc j) (omega arith))))
-
-pub first-next : (f : ℕ → Bool) (i : ℕ) → ((j : ℕ) → j < i → f j ≡ false) → f i ≡ false → (j : ℕ) → j < i + 1 → f j ≡ false
-first-next f i h e j l = by (ltb j i) refl
-  where
-    by : (t : Bool) → ltb j i ≡ t → f j ≡ false
-    by true p = h j (ltb-true j i p)
-    by false p = let same : j ≡ i = omega (arith, ltb-false j i p) in ap f same ∙ e
 
 pub first-same : (n : ℕ) (f g : ℕ → Bool) → ((i : ℕ) → i < n → f i ≡ g i) → first n f ≡ first n g
 first-same zero f g h = refl

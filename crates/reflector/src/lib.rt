@@ -1,10 +1,12 @@
 // The cost reflector (document 01, 'Channel front'): costs, negated where a word has 1.
 ghost use mathlib.Core.Path.{_≡_};
 ghost use mathlib.Core.Bool.{false};
-ghost use Prim.Native.Nat.{_≤_};
+ghost use Prim.Native.Nat.{ℕ, _≤_};
+ghost use lib.IntN.{natAbs};
 ghost use lib.ListN.{length};
 ghost use Rattle.lists.specs.Entries.{some};
 ghost use Rattle.lists.specs.Tabulated.{written};
+ghost use Rattle.model.specs.Iteration.{at};
 ghost use Rattle.model.specs.Calls as calls;
 ghost use Rattle.model.specs.Calls.{forbidden, notBinary};
 ghost use Rattle.model.specs.Reflection as reflection;
@@ -15,9 +17,10 @@ fn is_forbidden(cost: i16) -> bool
     cost == -32768
 }
 
-// Whether some cost is -32,768. All are looked at, without a branch.
+// Whether some cost is -32,768; where none is, all have a negative. All are looked at, without a branch.
 pub fn some_forbidden(costs: &[i16]) -> bool
     ensures { λ r. ⌜ r ≡ some forbidden (now (costs .entry)) ⌝ }
+    ensures { λ r. ⌜ (r ≡ false → (v : ℕ) → natAbs (at (now (costs .entry)) v) ≤ 32767) ⌝ }
 {
     let mut found = false;
     let mut i = 0;

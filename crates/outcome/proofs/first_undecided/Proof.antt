@@ -8,7 +8,7 @@ use lib.Dec.{eqb}
 use lib.IntN.{ℤ, natAbs}
 use mir.Syntax.{w16}
 use Rattle.integers.proofs.Machine.{kept}
-use Rattle.lists.proofs.Entries.{first-at, first-none, first-next}
+use Rattle.lists.proofs.Entries.{below-next, first-at, first-none}
 use Rattle.model.specs.Iteration.{at}
 use Rattle.outcome.proofs.first_undecided.Statement.{statement}
 use Rattle.outcome.proofs.first_undecided.Tie as tie
@@ -56,7 +56,7 @@ loop-again : tie.Need-loop-again Inv-loop μ-loop
 loop-again c =
     let z = c .before in
     let v = l z .loop .v in
-    (omega (arith, z .before .before .loop-test .taken), first-next (f z) v (l z .loop .inv .1) (sym (test z) ∙ c .if1 .left))
+    (omega (arith, z .before .before .loop-test .taken), below-next (λ u. f z u ≡ false) v (l z .loop .inv .1) (sym (test z) ∙ c .if1 .left))
 
 returns-2 : tie.Need-returns-2 Inv-loop μ-loop
 returns-2 c =

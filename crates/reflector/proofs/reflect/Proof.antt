@@ -15,7 +15,7 @@ equal : (c : tie.Else1) → let s = c .before .before in eqb (length (s .args .w
 equal c = eq-eqb _ _ (c .if1 .left)
 
 allowed : (c : tie.Else2) → some forbidden (c .before .before .before .before .args .costs .now) ≡ false
-allowed c = sym (c .before .some-forbidden .ensures) ∙ c .if2 .left
+allowed c = sym (c .before .some-forbidden .ensures .0) ∙ c .if2 .left
 
 binary : (c : tie.Else3) → some notBinary (c .before .before .before .before .before .before .args .word .now) ≡ false
 binary c = sym (c .before .some-not-binary .ensures) ∙ c .if3 .left
@@ -29,7 +29,7 @@ some-forbidden-requires c κs = search needs
 
 returns-2 : tie.Need-returns-2
 unfolding reflector
-returns-2 c = rw (equal (c .before .before), sym (c .before .some-forbidden .ensures) ∙ c .if2 .taken) (refl, refl)
+returns-2 c = rw (equal (c .before .before), sym (c .before .some-forbidden .ensures .0) ∙ c .if2 .taken) (refl, refl)
 
 some-not-binary-requires : tie.Need-some-not-binary-requires
 some-not-binary-requires c κs = search needs
