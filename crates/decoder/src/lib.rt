@@ -2,8 +2,9 @@
 ghost use mathlib.Core.Path.{_≡_};
 ghost use mathlib.Core.Bool.{false, _||_};
 ghost use mathlib.Core.List.{[], _∷_};
-ghost use Prim.Native.Nat.{_*_, _≤_};
+ghost use Prim.Native.Nat.{ℕ, _*_, _≤_};
 ghost use lib.Dec.{ltb};
+ghost use lib.IntN.{natAbs};
 ghost use lib.ListN.{length};
 ghost use Rattle.lists.specs.Tabulated.{written};
 ghost use Rattle.lists.specs.Entries.{some};
@@ -12,7 +13,7 @@ ghost use Rattle.model.specs.Causes.{_if_, firstOf};
 ghost use Rattle.model.specs.Code as Code;
 ghost use Rattle.model.specs.Records.{codeOf, judge};
 ghost use Rattle.model.specs.Splitting.{systemOf};
-ghost use Rattle.model.specs.Iteration.{countsOf};
+ghost use Rattle.model.specs.Iteration.{at, countsOf};
 ghost use Rattle.model.specs.Run as Run;
 ghost use Rattle.model.specs.Calls as Calls;
 ghost use Rattle.model.specs.Calls.{unequal, forbidden, decodingTold, decodedBy, decoder};
@@ -57,6 +58,7 @@ fn no_room(bits: usize, total: usize, variables: usize, room: Room) -> bool
 // The first of 11, 12, 13 and 10, or 0.
 fn cause(settings: Settings, costs: &[i16], bits: usize, short: bool) -> u32
     ensures { λ r. ⌜ r ≡ firstOf (11 if Calls.wild settings ∷ 12 if unequal (now (costs .entry)) bits ∷ 13 if some forbidden (now (costs .entry)) ∷ 10 if short ∷ []) ⌝ }
+    ensures { λ r. ⌜ (r ≡ 0 → (v : ℕ) → natAbs (at (now (costs .entry)) v) ≤ 32767) ⌝ }
 {
     if wild(settings) {
         return 11;
@@ -75,7 +77,7 @@ fn cause(settings: Settings, costs: &[i16], bits: usize, short: bool) -> u32
 // The triples and the counts of the code are written, and its system is run.
 fn run_system(code: &[u8], settings: Settings, costs: &[i16], total: usize, variables: usize, triples: &mut [u16], counts: &mut [u16], sums: &mut [i64], values: &mut [i16], rows: &mut [i32]) -> Ending
     requires { ⌜ (judge (now code) ≡ 0) × (total ≡ Code.triples (codeOf (now code))) × (variables ≡ Code.variables (codeOf (now code))) ⌝ }
-    requires { ⌜ (Calls.wild settings ≡ false) × (some forbidden (now costs) ≡ false) ⌝ }
+    requires { ⌜ (Calls.wild settings ≡ false) × ((v : ℕ) → natAbs (at (now costs) v) ≤ 32767) ⌝ }
     requires { ⌜ (3 * total ≤ length (now triples)) × (variables ≤ length (now counts)) ⌝ }
     requires { ⌜ (variables ≤ length (now sums)) × (variables ≤ length (now values)) × (4 * total ≤ length (now rows)) ⌝ }
     ensures { λ _. ⌜ (let g = systemOf (codeOf (now (code .entry))) in
