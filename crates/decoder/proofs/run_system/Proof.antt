@@ -171,6 +171,7 @@ returns c =
         lent-back (a .variables) _ (r .last .1 .1 .1 .1 .1 .0) (a .sums .now) (ap (λ (x : Ended). x .last .sums) e) (r .kept .1 .1 .1 .1 .1 .0 ∙ sums-long w),
         lent-back (a .variables) _ (r .last .1 .1 .1 .1 .1 .1 .0) (a .values .now) (ap (λ (x : Ended). x .last .values) e) (r .kept .1 .1 .1 .1 .1 .1 .0 ∙ n-is w),
         lent-back (4 * a .total) _ (r .last .1 .1 .1 .1 .1 .1 .1 .0) (a .rows .now) (ap (λ (x : Ended). x .last .rows) e) (r .kept .1 .1 .1 .1 .1 .1 .1 .0 ∙ rows-long w),
+        ap (λ (x : Ended). length (x .last .values)) (sym e) ∙ r .kept .1 .1 .1 .1 .1 .1 .0 ∙ n-is w,
       ),
     )
 
