@@ -6,15 +6,14 @@ use Prim.Native.Nat.{ℕ, _+_, _-_, _*_}
 use native.Mathlib.Omega.{arith}
 use borrow.Author.Needs.{needs}
 use borrow.Author.Tests.{ltb-false}
-use lib.Dec.{T}
 use Rattle.lists.specs.Entries.{some}
 use Rattle.model.specs.Calls.{wild, unequal, forbidden, readingTold, Lists, noRoom}
 use Rattle.model.specs.Causes.{_if_, firstOf, short}
 use Rattle.model.specs.Records.{codeOf}
 use Rattle.model.specs.Code.{Code, triples}
 use Rattle.model.proofs.Causes.{Clear, clear, unless, or-false}
-use Rattle.records.proofs.Answers.{Read, told-code}
-use Rattle.decoder.proofs.Decoded.{after-judgement, refused}
+use Rattle.records.proofs.Answers.{Read, told-code, told-refused}
+use Rattle.decoder.proofs.Decoded.{after-judgement, unsound, refused, accepted-is}
 use Rattle.decoder.proofs.decode.Statement.{statement}
 use Rattle.decoder.proofs.decode.Tie as tie
 
@@ -89,14 +88,14 @@ module _ (q : tie.After-cause) where
   abbrev l : Lists
   l = lists found
 
-  -- the test of the lists' lengths, for n bits, T triples and V variables
+  -- the test of the lists' lengths, for n bits, x triples and y variables
   abbrev tooShort : ℕ → ℕ → ℕ → Bool
-  tooShort n T V = short (3 * T) (l .triples) || (short V (l .counts) || (short V (l .sums) || (short V (l .values) || (short (4 * T) (l .rows) || short n (l .word)))))
+  tooShort n x y = short (3 * x) (l .triples) || (short y (l .counts) || (short y (l .sums) || (short y (l .values) || (short (4 * x) (l .rows) || short n (l .word)))))
 
   short-is : q .before .no-room .result ≡ noRoom k l
-  short-is = q .before .no-room .ensures ∙ ap₂ (λ (n T : ℕ). tooShort n T vars) (read found .bits) (read found .triples) ∙ ap (tooShort (k .bits) (triples k)) (read found .variables)
+  short-is = q .before .no-room .ensures ∙ ap₂ (λ (n x : ℕ). tooShort n x vars) (read found .bits) (read found .triples) ∙ ap (tooShort (k .bits) (triples k)) (read found .variables)
 
-  causes : Bool → ℕ → List ℕ
+  abbrev causes : Bool → ℕ → List ℕ
   causes r n = 11 if wild (s .args .settings) ∷ 12 if unequal (s .args .costs .now) n ∷ 13 if some forbidden (s .args .costs .now) ∷ 10 if r ∷ []
 
   cause-is : q .cause .result ≡ after-judgement (s .args .code .now) (s .args .settings) (s .args .costs .now) l
@@ -113,7 +112,7 @@ module _ (c : tie.Else1) where
   none = clear (causes (c .before) (c .before .before .no-room .result) (bits (c .before))) (sym (c .before .cause .ensures .0) ∙ c .if1 .left)
 
   room : tooShort (c .before) (bits (c .before)) (total (c .before)) (vars (c .before)) ≡ false
-  room = sym (c .before .before .no-room .ensures) ∙ unless 9 (c .before .before .no-room .result) (none .3)
+  room = sym (c .before .before .no-room .ensures) ∙ unless 9 (c .before .before .no-room .result) (none .1 .1 .1 .0)
 
 decode-accepted-requires : tie.Need-decode-accepted-requires
 decode-accepted-requires c κs =
@@ -137,7 +136,14 @@ decode-accepted-requires c κs =
     )
 
 returns-2 : tie.Need-returns-2
-returns-2 c = ?
+returns-2 c =
+    let r = c .before in
+    let g = r .reading .given in
+    let a = c .before .before .before .before .before .before .before .before .args in
+    let e = told-refused (a .code .now) (g .0 .0) (ap readingTold (sym (g .1)) ∙ r .before .before .read .ensures) in
+    unsound (a .code .now) (a .settings) (a .costs .now)
+    (record { triples = a .triples .now; counts = a .counts .now; sums = a .sums .now; values = a .values .now; rows = a .rows .now; word = a .word .now })
+    (g .0 .0) (e .0) (e .1)
 
 same-length : tie.Need-same-length
 same-length c = search needs
@@ -158,7 +164,12 @@ same-length-6 : tie.Need-same-length-6
 same-length-6 c = search needs
 
 returns-3 : tie.Need-returns-3
-returns-3 c = ?
+returns-3 c =
+    let d = c .before .before .before .before .before .before .before .before .before in
+    let e = d .before .before .before .before .before .before .before in
+    let q = e .before in
+    d .decode-accepted .ensures
+    ∙ accepted-is (s q .args .code .now) (s q .args .settings) (s q .args .costs .now) (l q) (read (found q) .judged) (sym (e .if1 .left) ∙ cause-is q)
 
 pub decode-spec : {M : Type 1} → statement M
 decode-spec =
