@@ -54,47 +54,63 @@ cast-first : tie.Need-cast-first Inv-loop μ-loop
 cast-first c = search needs
 
 mul-item-2 : tie.Need-mul-item-2 Inv-loop μ-loop
-mul-item-2 c = ?
+mul-item-2 c = omega (arith, sized (c .before .before .before))
 
 add-item : tie.Need-add-item Inv-loop μ-loop
-add-item c = ?
+add-item c = omega (arith, sized (c .before .before .before))
 
 item-requires-2 : tie.Need-item-requires-2 Inv-loop μ-loop
-item-requires-2 c κs = ?
+item-requires-2 c κs = omega (arith, sized (c .before .before .before))
 
 cast-second : tie.Need-cast-second Inv-loop μ-loop
 cast-second c = search needs
 
 slice-read-parity : tie.Need-slice-read-parity Inv-loop μ-loop
-slice-read-parity c = ?
+slice-read-parity c =
+    let i = c .before .before in
+    let l = i .before .before in
+    let s = l .before .before .before .before in
+    omega (arith, l .loop .inv .1 .long, i .item .ensures, sized (l .before), item-below _ _ (s .pre .1 .0) (2 * l .loop .t) (l .loop .t) (omega (arith, sized (l .before))) (omega (arith, sized (l .before))))
 
 slice-read-parity-2 : tie.Need-slice-read-parity-2 Inv-loop μ-loop
-slice-read-parity-2 c = ?
+slice-read-parity-2 c =
+    let i = c .before .before in
+    let l = i .before .before .before in
+    let s = l .before .before .before .before in
+    omega (arith, l .loop .inv .1 .long, i .item2 .ensures, sized (l .before), item-below _ _ (s .pre .1 .0) (2 * l .loop .t + 1) (l .loop .t) (omega (arith, sized (l .before))) (omega (arith, sized (l .before))))
 
 parity-requires : tie.Need-parity-requires Inv-loop μ-loop
 parity-requires c κs = search needs
 
 -- ---- a turn, and the whole
 add-point : tie.Need-add-point Inv-loop μ-loop
-add-point c = ?
+add-point c = omega (arith, sized (c .before .before .before .before .before .before .before))
 
 slice-write-point : tie.Need-slice-write-point Inv-loop μ-loop
-slice-write-point c = ?
+slice-write-point c = let l = c .before .before .before .before .before .before in omega (arith, l .loop .inv .1 .long, sized (l .before))
 
 add-t : tie.Need-add-t Inv-loop μ-loop
-add-t c = ?
+add-t c = omega (arith, sized (c .before .before .before .before .before .before .before))
 
 loop-less : tie.Need-loop-less Inv-loop μ-loop
-loop-less c = ?
+loop-less c = omega arith
 
 loop-again : tie.Need-loop-again Inv-loop μ-loop
-loop-again c = ?
+loop-again c =
+    let j = c .before .before .before in
+    let i = j .before in
+    let l = i .before .before in
+    let s = l .before .before .before .before in
+    (omega arith, made-next _ _ (s .pre .1 .0) _ _ _ (s .pre .1 .1 .1) (l .loop .inv .1) _ _ _ (omega (arith, sized (l .before))) (i .item .ensures) (j .item2 .ensures) (c .parity .ensures))
 
 same-length : tie.Need-same-length Inv-loop μ-loop
 same-length c = c .before .loop .inv .1 .long
 
 returns : tie.Need-returns Inv-loop μ-loop
-returns c = ?
+returns c =
+    let l = c .before in
+    let s = l .before .before .before .before in
+    made-all _ _ (s .pre .1 .0) _ _ _ (s .pre .1 .1 .1) (l .loop .inv .1) (omega (arith, sized (l .before))) (omega (arith, sized (l .before)))
 
 pub write-auxiliaries-spec : {M : Type 1} → statement M
 write-auxiliaries-spec =
