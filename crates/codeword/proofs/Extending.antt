@@ -113,30 +113,37 @@ pub record Going (b w old point rest : List ℕ) (next j : ℕ) : Type 0 where
   pub left : extend (triplesFrom (drop j (checks-of b)) next) (take next point) ≡ pointOf (codeOf b) w
 
 -- the check at hand
-pub record At (old rest : List ℕ) (next : ℕ) : Type 0 where
+pub record At (lent rest : List ℕ) (next : ℕ) : Type 0 where
   pub room : 3 + 2 * degree rest ≤ length rest
   pub least : 3 ≤ degree rest
   pub most : degree rest ≤ 32
   pub check : SoundCheck next (indices rest)
   pub low : next ≤ 12288
-  pub short : next + turns (indices rest) ≤ length old
+  pub short : next + turns (indices rest) ≤ length lent
   pub long : length (indices rest) ≡ degree rest
 
-module _ (b w old : List ℕ) (judged : judge b ≡ 0) (fits : variables (codeOf b) ≤ length old) where
-  pub going-start : (point : List ℕ) → length w ≡ bitCount b → point ≡ written w old → Going b w old point (drop 6 b) (length w) 0
+-- `old` is the lent list with the word copied to it
+module _ (b w old lent : List ℕ) (judged : judge b ≡ 0) (word-long : length w ≡ codeOf b .bits) (fits : variables (codeOf b) ≤ length lent) (copied : old ≡ written w lent) where
+  old-long : length old ≡ length lent
+  old-long = rw copied (length-written w lent (omega arith))
+
+  pub going-start : Going b w old old (drop 6 b) (length w) 0
   unfolding codeOf systemOf
-  going-start point e p =
+  going-start =
       record {
         walk = walk-start _ _ _ (bytes-sound b judged .checks);
         above = omega arith;
-        auxiliaries = rw e;
-        long = rw p (length-written w old (omega arith));
-        kept = rw (p, drop-at w (drop (length w) old) (length w) refl);
-        left = rw (p, take-at w (drop (length w) old) (length w) refl, e);
+        auxiliaries = rw word-long;
+        long = refl;
+        kept = refl;
+        left = rw (copied, take-at w (drop (length w) lent) (length w) refl, word-long);
       }
 
   module _ (point rest : List ℕ) (next j : ℕ) (g : Going b w old point rest next j) where
-    pub going-at : j < checkCount b → At old rest next
+    pub long-now : length point ≡ length lent
+    long-now = g .long ∙ old-long
+
+    pub going-at : j < checkCount b → At lent rest next
     unfolding codeOf
     going-at h =
         let r = here _ _ _ j rest h (g .walk) in
@@ -162,7 +169,7 @@ module _ (b w old : List ℕ) (judged : judge b ≡ 0) (fits : variables (codeOf
         let r = here _ _ _ j rest h (g .walk) in
         let a = going-at h in
         let E = extend (queue (turns c) c next) (take next point) in
-        let long : length E ≡ k = omega (arith, sym (ap length p) ∙ l, length-append E (drop k point), length-drop k point, a .short, g .long) in
+        let long : length E ≡ k = omega (arith, sym (ap length p) ∙ l, length-append E (drop k point), length-drop k point, a .short, long-now) in
         let left : extend (queue (turns c) c next ++ triplesFrom (drop (j + 1) (checks-of b)) k) (take next point) ≡ pointOf (codeOf b) w
         = ap (λ (x : List (List ℕ)). extend (triplesFrom x next) (take next point)) (sym (r .checks)) ∙ g .left in
         record {
@@ -175,10 +182,13 @@ module _ (b w old : List ℕ) (judged : judge b ≡ 0) (fits : variables (codeOf
               (sym (extend-append (tripleCount c) (queue (turns c) c next) _ (take next point) (triple-rule next next c (a .check) (omega arith) .long)) ∙ left);
         }
 
-    pub going-end : checkCount b ≤ j → point ≡ written (pointOf (codeOf b) w) old
-    unfolding triplesFrom extend
+    pub going-end : checkCount b ≤ j → point ≡ written (pointOf (codeOf b) w) lent
+    unfolding triplesFrom extend codeOf
     going-end h =
         let none = drop-of-length-le (checks-of b) {i = j} (omega (arith, length-checks (checkCount b) (drop 6 b))) in
         let whole : take next point ≡ pointOf (codeOf b) w = ap (λ (x : List (List ℕ)). extend (triplesFrom x next) (take next point)) (sym none) ∙ g .left in
-        let long : length (pointOf (codeOf b) w) ≡ next = sym (ap length whole) ∙ length-take-le next point (omega (arith, g .auxiliaries, g .long)) in
-        rw (long, ← whole, ← g .kept) (sym (take-append-drop next point))
+        let long : length (pointOf (codeOf b) w) ≡ next = sym (ap length whole) ∙ length-take-le next point (omega (arith, g .auxiliaries, long-now)) in
+        let more : next ≡ length w + (next - length w) = omega (arith, g .above) in
+        let behind : drop next old ≡ drop next lent
+        = rw more (kept-more (length w) (next - length w) old lent (rw copied (drop-at w (drop (length w) lent) (length w) refl))) in
+        rw (long, ← whole, ← behind, ← g .kept) (sym (take-append-drop next point))
