@@ -26,6 +26,10 @@ word-long n w h =
     let x = clear (12 if unequal w n ∷ 15 if some notBinary w ∷ []) h in
     eqb-true (length w) n (not-false _ (unless 11 _ (x .0)))
 
+-- of the extension: no room for the point
+abbrev pub no-room : List ℕ → List ℕ → List ℕ
+no-room b p = 10 if short (variables (codeOf b)) p ∷ []
+
 module _ (b w : List ℕ) where
   abbrev pub causes : List ℕ → ℕ
   causes l = firstOf (judge b ∷ 12 if unequal w (codeOf b .bits) ∷ 15 if some notBinary w ∷ l)
@@ -71,18 +75,15 @@ module _ (b w : List ℕ) where
 
   -- ---- and of the point
   module _ (p : List ℕ) where
-    abbrev pub causes-with-room : ℕ
-    causes-with-room = causes (10 if short (variables (codeOf b)) p ∷ [])
-
     abbrev pub Told : Verdict → List ℕ → Type 0
     Told v q = _≡_ {A = Extended} (record { outcome = verdictTold v; point = q }) (extension b w p)
 
-    pub extend-refused : (c : ℕ) → causes-with-room ≡ c → (c ≡ 0 → ⊥) → Told (Verdict.Refused c) p
+    pub extend-refused : (c : ℕ) → causes (no-room b p) ≡ c → (c ≡ 0 → ⊥) → Told (Verdict.Refused c) p
     unfolding extension
     extend-refused zero e h = absurd (h refl)
     extend-refused (suc c) e h = rw e
 
-    pub extend-passed : (v : Verdict) (q : List ℕ) → causes-with-room ≡ 0 → verdictTold v ≡ tested (codeOf b) w
+    pub extend-passed : (v : Verdict) (q : List ℕ) → causes (no-room b p) ≡ 0 → verdictTold v ≡ tested (codeOf b) w
         → q ≡ accepted (verdictTold v .number) (written (pointOf (codeOf b) w) p) p → Told v q
     unfolding extension
     extend-passed v q e t r = rw (e, ← t, r)

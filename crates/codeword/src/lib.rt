@@ -14,7 +14,8 @@ ghost use Rattle.model.specs.Words.{odd, firstOdd};
 ghost use Rattle.model.specs.Points as points;
 ghost use Rattle.model.specs.Points.{pointOf};
 ghost use Rattle.model.specs.Calls.{unequal, notBinary, verdictTold, codewordTest, Extended, extension};
-use model::{Reading, Verdict};
+use model::Reading;
+use model::Verdict;
 
 // Whether the word's sum over the check record that `s` begins with is odd.
 fn is_odd(s: &[u8], word: &[u8]) -> bool
