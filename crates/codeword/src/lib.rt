@@ -79,10 +79,10 @@ pub fn test(code: &[u8], word: &[u8]) -> Verdict
                 return Verdict::Refused(cause);
             }
             let j = first_odd(code, checks, word);
-            if j < checks {
-                Verdict::Odd(j)
-            } else {
+            if checks <= j {
                 Verdict::Codeword
+            } else {
+                Verdict::Odd(j)
             }
         }
     }

@@ -65,12 +65,12 @@ returns-2 c =
 returns-3 : tie.Need-returns-3
 returns-3 c =
     let k = c .before .before in
-    odd-told _ _ _ (read (k .before .before .before) .checks) _ (c .before .first-odd .ensures) (c .if2 .taken) ∙ accepted k
+    even-told _ _ _ (read (k .before .before .before) .checks) _ (c .before .first-odd .ensures) (c .if2 .taken) ∙ accepted k
 
 returns-4 : tie.Need-returns-4
 returns-4 c =
     let k = c .before .before in
-    even-told _ _ _ (read (k .before .before .before) .checks) _ (c .before .first-odd .ensures) (c .if2 .left) ∙ accepted k
+    odd-told _ _ _ (read (k .before .before .before) .checks) _ (c .before .first-odd .ensures) (c .if2 .left) ∙ accepted k
 
 pub test-spec : {M : Type 1} → statement M
 test-spec =

@@ -1,13 +1,11 @@
 -- `codeword::write_auxiliaries` meets its contract: the auxiliaries so far, and the triples that are left. Assumes nothing.
 use mathlib.Core.Path.{_≡_, sym, _∙_}
 use mathlib.Core.List.{List}
-use Prim.Native.Nat.{ℕ, _+_, _-_, _*_, _≤_, _<_}
+use Prim.Native.Nat.{ℕ, _+_, _-_, _*_, _≤_}
 use native.Mathlib.Omega.{arith}
 use borrow.Author.Needs.{needs}
-use lib.ListN.{length, getD}
-use Rattle.model.specs.Code.{turns}
+use lib.ListN.{length}
 use Rattle.model.specs.Records.{indices}
-use Rattle.model.specs.TripleRule.{items}
 use Rattle.model.proofs.Accepted.{length-numbers}
 use Rattle.codeword.proofs.Extending.{Made, made-none, item-below, made-next, made-all}
 use Rattle.codeword.proofs.write_auxiliaries.Statement.{statement}
