@@ -1,1 +1,6 @@
+//! Two decoders to measure against: a plain one, as a good engineer would
+//! first write it, and one tuned for x86-64.
 
+pub mod plain;
+
+pub use plain::Plain;
