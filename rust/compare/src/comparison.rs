@@ -1,7 +1,7 @@
 //! The comparison itself: every case of a family, every answer and list.
 
 use crate::case::Case;
-use crate::families::{all, Family};
+use crate::families::{all, Effort};
 use crate::outcome::outcome;
 use crate::tally::Tally;
 use interface::Library;
@@ -31,32 +31,23 @@ impl fmt::Debug for Failure {
     }
 }
 
-/// Compares a library with the reference on one family.
-pub fn compare(
-    library: &dyn Library,
-    family: &Family,
-    tally: &mut Tally,
-) -> Result<(), Box<Failure>> {
-    family.visit(|seed, case| {
-        let expected = outcome(&Reference, &case);
-        tally.add(&case, &expected);
-        match outcome(library, &case).difference(&expected) {
-            None => Ok(()),
-            Some(difference) => Err(Box::new(Failure {
-                family: family.name,
-                seed,
-                case,
-                difference,
-            })),
-        }
-    })
-}
-
-/// Compares a library with the reference on every family.
-pub fn compare_all(library: &dyn Library) -> Result<Tally, Box<Failure>> {
+/// Compares a library with the reference on every case; counts what was met.
+pub fn compare_all(library: &dyn Library, effort: Effort) -> Result<Tally, Box<Failure>> {
     let mut tally = Tally::default();
     for family in all() {
-        compare(library, &family, &mut tally)?;
+        family.visit(effort, |seed, case| {
+            let expected = outcome(&Reference, &case);
+            tally.add(&case, &expected);
+            match outcome(library, &case).difference(&expected) {
+                None => Ok(()),
+                Some(difference) => Err(Box::new(Failure {
+                    family: family.name,
+                    seed,
+                    case,
+                    difference,
+                })),
+            }
+        })?;
     }
     Ok(tally)
 }

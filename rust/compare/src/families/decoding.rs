@@ -17,6 +17,7 @@ pub fn families() -> Vec<Family> {
         Family::listed("settings at the edges", edge_settings),
         Family::random("runs on tiny codes", 4_000, tiny_run),
         Family::random("runs on small codes", 2_000, small_run),
+        Family::random("lists of other lengths", 600, other_lengths),
         Family::random("totals equal to the tolerance", 600, exact_tolerance),
         Family::random("runs on middle codes", 100, middle_run),
         Family::random("noisy codewords", 60, noisy_codeword),
@@ -116,6 +117,16 @@ fn small_run(random: &mut Random) -> Case {
         _ => small_code(random),
     };
     run_of(random, code)
+}
+
+/// One list shorter than needed or longer, the others exact.
+fn other_lengths(random: &mut Random) -> Case {
+    let code = tiny_code(random);
+    let mut draft = Draft::random(random, code);
+    let list = random.below(6);
+    let room = draft.room[list];
+    draft.room[list] = random.pick(&[room - 1, room - 1, 0, room + 1, room + 1_000]);
+    draft.case(Entry::Decode)
 }
 
 /// A tolerance equal to the larger total of some iteration, or one less.

@@ -22,6 +22,13 @@ pub struct Family {
     pub cases: Cases,
 }
 
+/// How many random cases a family has: its count, or many times that.
+#[derive(Clone, Copy, Debug, PartialEq, Eq)]
+pub enum Effort {
+    Quick,
+    Full,
+}
+
 /// The seed from which every family's seeds come.
 pub const SEED: u64 = 0x5749_4441_4742_4531;
 
@@ -50,14 +57,22 @@ impl Family {
     }
 
     /// Hands each case with its seed to `visit` until that fails.
-    pub fn visit<E>(&self, mut visit: impl FnMut(u64, Case) -> Result<(), E>) -> Result<(), E> {
+    pub fn visit<E>(
+        &self,
+        effort: Effort,
+        mut visit: impl FnMut(u64, Case) -> Result<(), E>,
+    ) -> Result<(), E> {
         match self.cases {
             Cases::Listed(cases) => (0..)
                 .zip(cases())
                 .try_for_each(|(place, case)| visit(place, case)),
             Cases::Random { count, make } => {
                 let first = self.first_seed();
-                (first..first + count as u64)
+                let times = match effort {
+                    Effort::Quick => 1,
+                    Effort::Full => 8,
+                };
+                (first..first + times * count as u64)
                     .try_for_each(|seed| visit(seed, make(&mut Random::new(seed))))
             }
         }

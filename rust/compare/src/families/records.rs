@@ -30,22 +30,26 @@ fn exact_split(code: &Code) -> Case {
     }
 }
 
+/// A call of every entry with these records, else fit for this code.
+fn calls(code: &Code, records: &[u8]) -> Vec<Case> {
+    let mut draft = Draft::random(&mut Random::new(0), code.clone());
+    draft.records = records.to_vec();
+    draft.settings.limit = 2;
+    ENTRIES.map(|entry| draft.case(entry)).to_vec()
+}
+
 fn every_cut() -> Vec<Case> {
     let mut random = Random::new(1);
-    let codes = [
+    let mut cases = Vec::new();
+    for code in [
         one_check(3),
         tiny_code(&mut random),
         small_code(&mut random),
-    ];
-    let mut cases = Vec::new();
-    for code in codes
-        .map(|code| records(&code))
-        .iter()
-        .chain([&records(&training_code())])
-    {
-        for length in 0..=code.len() {
-            let code = code[..length].to_vec();
-            cases.push(Case::Read { code });
+        training_code(),
+    ] {
+        let records = records(&code);
+        for length in 0..=records.len() {
+            cases.extend(calls(&code, &records[..length]));
         }
     }
     cases
@@ -78,7 +82,8 @@ fn edges() -> Vec<Case> {
         code[8] = first;
         codes.push(code);
     }
-    codes.into_iter().map(|code| Case::Read { code }).collect()
+    let of_each = |code: Vec<u8>| calls(&one_check(3), &code);
+    codes.into_iter().flat_map(of_each).collect()
 }
 
 fn every_degree() -> Vec<Case> {
@@ -141,15 +146,13 @@ fn largest() -> Vec<Case> {
             triples,
         };
         let code = random_code(&mut random, shape);
-        let mut after = records(&code);
-        after.push(b'L');
-        let mut unused = records(&code);
+        let whole = records(&code);
+        let after = [&whole[..], b"L"].concat();
+        let mut unused = whole.clone();
         unused[2..4].copy_from_slice(&(bits as u16 + 1).to_be_bytes());
-        let cut = records(&code)[..after.len() - 2].to_vec();
-        for code in [records(&code), after, unused, cut] {
-            cases.push(Case::Read { code });
+        for records in [&whole[..], &after, &unused, &whole[..whole.len() - 1]] {
+            cases.extend(calls(&code, records));
         }
-        cases.push(exact_split(&code));
     }
     cases
 }
