@@ -1,8 +1,6 @@
 //! The compiled library and its frame program.
 
-use interface::{
-    Channel, Erasing, Library, Lists, PlaceAnswer, ReadAnswer, RunAnswer, Settings,
-};
+use interface::{Channel, Erasing, Library, Lists, PlaceAnswer, ReadAnswer, RunAnswer, Settings};
 use std::env;
 use std::io::Write;
 use std::path::{Path, PathBuf};
@@ -118,7 +116,9 @@ fn run_program(program: &Path, input: &[u8]) -> Vec<u8> {
     let (first, second) = input.split_at(input.len() / 3);
     let output = thread::scope(|scope| {
         scope.spawn(move || {
-            let _ = stdin.write_all(first).and_then(|()| stdin.write_all(second));
+            let _ = stdin
+                .write_all(first)
+                .and_then(|()| stdin.write_all(second));
         });
         child.wait_with_output().expect("the program runs")
     });

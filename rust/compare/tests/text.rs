@@ -10,7 +10,9 @@ fn cases_survive_their_text() {
         let result = family.visit(Effort::Quick, |seed, case| {
             let line = case.to_string();
             // Compared as text: a NaN differs from itself.
-            let again: Case = line.parse().map_err(|error| format!("{seed:#x}: {error}"))?;
+            let again: Case = line
+                .parse()
+                .map_err(|error| format!("{seed:#x}: {error}"))?;
             count += 1;
             if again.to_string() == line {
                 Ok(())

@@ -2,5 +2,7 @@
 //! first write it, and one tuned for x86-64.
 
 pub mod plain;
+pub mod tuned;
 
 pub use plain::Plain;
+pub use tuned::Tuned;

@@ -9,6 +9,7 @@ const UNIT: i64 = 16384;
 
 /// What a run reads.
 pub struct Task<'a> {
+    pub code: &'a Code,
     pub settings: Settings,
     pub costs: &'a [i16],
     pub triples: &'a [u16],
@@ -79,6 +80,7 @@ pub fn decode_accepted(
     let (triples, variables) = (code.triples(), code.variables());
     fill(code, lists.triples, lists.counts);
     let task = Task {
+        code,
         settings,
         costs,
         triples: &lists.triples[..3 * triples],
@@ -114,7 +116,12 @@ fn write_word(code: &Code, values: &[i16], word: &mut [u8]) -> (u32, usize) {
 
 pub fn run(task: &Task, state: &mut State) -> (u32, bool) {
     state.rows.fill(0);
-    for k in 1.. {
+    run_on(task, state, 0)
+}
+
+/// Goes on with a run whose rows stand after so many iterations.
+pub fn run_on(task: &Task, state: &mut State, done: u32) -> (u32, bool) {
+    for k in done + 1.. {
         add_rows(task, state);
         renew_values(task, state);
         let (multipliers, slacks) = renew_rows(task, state);
