@@ -63,28 +63,30 @@ fn run_tuned(task: &Task, state: &mut State) -> (u32, bool) {
     }
     let layout = Layout::of(task.code, task.counts);
     let mut work = Work::new(&layout, task);
-    let mut k = 0;
+    let (mut k, mut largest) = (0, 65536);
     loop {
         // An auxiliary lies in two triples.
-        let safe = safe_iterations(most.max(2), work.largest());
+        let safe = safe_iterations(most.max(2), largest);
         if safe == 0 {
-            work.write(task, state);
+            work.write(state);
             return run_on(task, state, k);
         }
         for _ in 0..safe {
             work.renew_bits();
-            let settled = work.renew_blocks(task.settings.tolerance);
+            let settled = work.renew_checks(task.settings.tolerance);
             k += 1;
             if settled || k == task.settings.limit {
-                work.write(task, state);
+                work.write(state);
                 return (k, settled);
             }
         }
+        largest = work.largest();
     }
 }
 
 /// Iterations for which every S of so many triples stays exact: a share is at
-/// most twice the largest size of an s, which grows by at most 32,768.
+/// most twice the largest size of an s, which is 65,536 at first or whenever no
+/// s is larger, and grows by at most 32,768.
 fn safe_iterations(count: usize, largest: usize) -> usize {
     (EXACT / (2 * count)).saturating_sub(largest) / 32768
 }

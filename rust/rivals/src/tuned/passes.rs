@@ -1,12 +1,12 @@
 //! The two passes of an iteration, four lanes at a time.
 
 use std::arch::x86_64::*;
+use std::mem::MaybeUninit;
 
-/// The lists of one block of four checks.
-pub struct Block<'a> {
+/// The lists of the blocks of one class, each block's vectors together.
+pub struct Blocks<'a> {
     pub rows: &'a mut [__m128],
-    pub gathers: &'a [[u16; 4]],
-    pub shares: &'a mut [__m128],
+    pub slots: &'a mut [__m128],
     pub sums: &'a [__m128],
     pub next_sums: &'a mut [__m128],
 }
@@ -76,113 +76,152 @@ unsafe fn auxiliary_value(sum: __m128, factor: __m128d) -> __m128 {
     limited(_mm_mul_pd(low, factor), _mm_mul_pd(high, factor))
 }
 
-/// c of the bits of one class: `degree` shares a bit.
+/// c of the bits of one class, each in `count` checks.
 pub fn renew_bits(
-    degree: usize,
+    count: usize,
     factor: f64,
-    slots: &[u16],
-    shares: &[f32],
+    places: &[u16],
+    slots: &mut [f32],
     offsets: &[f64],
     sums: &mut [__m128],
     values: &mut [__m128],
 ) {
     unsafe {
-        match degree {
-            1 => renew_groups(1, factor, slots, shares, offsets, sums, values),
-            2 => renew_groups(2, factor, slots, shares, offsets, sums, values),
-            3 => renew_groups(3, factor, slots, shares, offsets, sums, values),
-            4 => renew_groups(4, factor, slots, shares, offsets, sums, values),
-            _ => renew_groups(degree, factor, slots, shares, offsets, sums, values),
+        match count {
+            1 => renew_groups(1, factor, places, slots, offsets, sums, values),
+            2 => renew_groups(2, factor, places, slots, offsets, sums, values),
+            3 => renew_groups(3, factor, places, slots, offsets, sums, values),
+            4 => renew_groups(4, factor, places, slots, offsets, sums, values),
+            _ => renew_groups(count, factor, places, slots, offsets, sums, values),
         }
     }
 }
 
+/// Takes the shares out of the slots and puts c into them.
 #[inline(always)]
 unsafe fn renew_groups(
-    degree: usize,
+    count: usize,
     factor: f64,
-    slots: &[u16],
-    shares: &[f32],
+    places: &[u16],
+    slots: &mut [f32],
     offsets: &[f64],
     sums: &mut [__m128],
     values: &mut [__m128],
 ) {
     let factor = _mm_set1_pd(factor);
     for group in 0..values.len() {
-        let sum = |lane: usize| {
-            let start = (4 * group + lane) * degree;
-            let mut sum = 0.0;
-            for slot in start..start + degree {
-                sum += *shares.get_unchecked(usize::from(*slots.get_unchecked(slot)));
-            }
-            sum
+        let place = |lane: usize, check: usize| {
+            usize::from(*places.get_unchecked((4 * group + lane) * count + check))
         };
-        let (first, second) = ([sum(0), sum(1)], [sum(2), sum(3)]);
-        let sum = _mm_set_ps(second[1], second[0], first[1], first[0]);
+        let mut lanes = [0.0; 4];
+        for (lane, sum) in lanes.iter_mut().enumerate() {
+            *sum = *slots.get_unchecked(place(lane, 0));
+            for check in 1..count {
+                *sum += *slots.get_unchecked(place(lane, check));
+            }
+        }
+        let sum = _mm_setr_ps(lanes[0], lanes[1], lanes[2], lanes[3]);
         let offset = offsets.as_ptr().add(4 * group);
         let low = _mm_mul_pd(_mm_cvtps_pd(sum), factor);
         let high = _mm_mul_pd(_mm_cvtps_pd(_mm_movehl_ps(sum, sum)), factor);
         let low = _mm_add_pd(low, _mm_loadu_pd(offset));
         let high = _mm_add_pd(high, _mm_loadu_pd(offset.add(2)));
+        let value = values.get_unchecked_mut(group);
         *sums.get_unchecked_mut(group) = sum;
-        *values.get_unchecked_mut(group) = limited(low, high);
+        *value = limited(low, high);
+        let lanes = *(value as *const __m128).cast::<[f32; 4]>();
+        for (lane, value) in lanes.into_iter().enumerate() {
+            for check in 0..count {
+                *slots.get_unchecked_mut(place(lane, check)) = value;
+            }
+        }
     }
 }
 
-/// s of the rows of one block, and what they add to every S.
-pub fn renew_block<const COUNTING: bool>(
+/// s of the rows of a class of checks, and what they add to every S. Adds to
+/// the totals until one exceeds the tolerance.
+pub fn renew_checks(
     degree: usize,
-    block: Block,
-    values: &[f32],
+    blocks: Blocks,
     factor: f64,
+    tolerance: f64,
     totals: &mut Totals,
 ) {
     unsafe {
         match degree {
-            3 => renew_checks::<COUNTING>(3, block, values, factor, totals),
-            4 => renew_checks::<COUNTING>(4, block, values, factor, totals),
-            5 => renew_checks::<COUNTING>(5, block, values, factor, totals),
-            6 => renew_checks::<COUNTING>(6, block, values, factor, totals),
-            7 => renew_checks::<COUNTING>(7, block, values, factor, totals),
-            8 => renew_checks::<COUNTING>(8, block, values, factor, totals),
-            _ => renew_checks::<COUNTING>(degree, block, values, factor, totals),
+            3 => renew_blocks(3, blocks, factor, tolerance, totals),
+            4 => renew_blocks(4, blocks, factor, tolerance, totals),
+            5 => renew_blocks(5, blocks, factor, tolerance, totals),
+            6 => renew_blocks(6, blocks, factor, tolerance, totals),
+            7 => renew_blocks(7, blocks, factor, tolerance, totals),
+            8 => renew_blocks(8, blocks, factor, tolerance, totals),
+            _ => renew_blocks(degree, blocks, factor, tolerance, totals),
         }
     }
 }
 
 #[inline(always)]
-unsafe fn renew_checks<const COUNTING: bool>(
+unsafe fn renew_blocks(
     degree: usize,
-    block: Block,
-    values: &[f32],
+    blocks: Blocks,
+    factor: f64,
+    tolerance: f64,
+    totals: &mut Totals,
+) {
+    let number = blocks.slots.len() / degree;
+    let mut block = Block {
+        rows: blocks.rows.as_mut_ptr(),
+        slots: blocks.slots.as_mut_ptr(),
+        sums: blocks.sums.as_ptr(),
+        next_sums: blocks.next_sums.as_mut_ptr(),
+    };
+    let mut counted = 0;
+    while counted < number && totals.within(tolerance) {
+        renew_block::<true>(degree, &mut block, factor, totals);
+        counted += 1;
+    }
+    for _ in counted..number {
+        renew_block::<false>(degree, &mut block, factor, totals);
+    }
+}
+
+/// Where the vectors of a block start.
+struct Block {
+    rows: *mut __m128,
+    slots: *mut __m128,
+    sums: *const __m128,
+    next_sums: *mut __m128,
+}
+
+/// Takes c of the bits out of the slots, puts their shares into them, and goes
+/// to the next block. With a degree known to the compiler every loop is written
+/// out and the arrays become registers.
+#[allow(clippy::needless_range_loop)]
+#[inline(always)]
+unsafe fn renew_block<const COUNTING: bool>(
+    degree: usize,
+    block: &mut Block,
     factor: f64,
     totals: &mut Totals,
 ) {
     let factor = _mm_set1_pd(factor);
-    let zero = _mm_setzero_ps();
     // c of the items; what the triple that uses an item adds to its S; and
     // what the triple that makes an auxiliary adds.
-    let mut items = [zero; 61];
-    let mut used = [zero; 61];
-    let mut made = [zero; 30];
+    let mut items = [MaybeUninit::<__m128>::uninit(); 61];
+    let mut used = [MaybeUninit::<__m128>::uninit(); 61];
+    let mut made = [MaybeUninit::<__m128>::uninit(); 30];
     for place in 0..degree {
-        let bits = *block.gathers.get_unchecked(place);
-        let value = |lane: usize| *values.get_unchecked(usize::from(bits[lane]));
-        items[place] = _mm_set_ps(value(3), value(2), value(1), value(0));
+        items[place].write(*block.slots.add(place));
     }
     for place in 0..degree - 3 {
-        items[degree + place] = auxiliary_value(*block.sums.get_unchecked(place), factor);
+        items[degree + place].write(auxiliary_value(*block.sums.add(place), factor));
     }
     for triple in 0..degree - 2 {
         let third = (degree + triple).min(2 * degree - 4);
-        let rows = block
-            .rows
-            .as_mut_ptr()
-            .add(4 * triple)
-            .cast::<[__m128; 4]>();
-        let values = [items[2 * triple], items[2 * triple + 1], items[third]];
+        let places = [2 * triple, 2 * triple + 1, third];
+        let rows = block.rows.add(4 * triple).cast::<[__m128; 4]>();
         let old = *rows;
-        let new = renewed(old, values);
+        let new = renewed(old, places.map(|place| items[place].assume_init()));
         *rows = new;
         if COUNTING {
             for row in 0..4 {
@@ -190,21 +229,28 @@ unsafe fn renew_checks<const COUNTING: bool>(
             }
         }
         let shares = shares_of(new);
-        used[2 * triple] = shares[0];
-        used[2 * triple + 1] = shares[1];
+        used[2 * triple].write(shares[0]);
+        used[2 * triple + 1].write(shares[1]);
         if triple < degree - 3 {
-            made[triple] = shares[2];
+            made[triple].write(shares[2]);
         } else {
-            used[2 * degree - 4] = shares[2];
+            used[2 * degree - 4].write(shares[2]);
         }
     }
     for place in 0..degree {
-        *block.shares.get_unchecked_mut(place) = used[place];
+        *block.slots.add(place) = used[place].assume_init();
     }
     for place in 0..degree - 3 {
-        let sum = _mm_add_ps(used[degree + place], made[place]);
-        *block.next_sums.get_unchecked_mut(place) = sum;
+        let sum = _mm_add_ps(
+            used[degree + place].assume_init(),
+            made[place].assume_init(),
+        );
+        *block.next_sums.add(place) = sum;
     }
+    block.rows = block.rows.add(4 * (degree - 2));
+    block.slots = block.slots.add(degree);
+    block.sums = block.sums.add(degree - 3);
+    block.next_sums = block.next_sums.add(degree - 3);
 }
 
 /// The new s of a triple's four rows.
@@ -238,4 +284,36 @@ unsafe fn shares_of(rows: [__m128; 4]) -> [__m128; 3] {
         _mm_add_ps(outer_change, inner_change),
         _mm_sub_ps(outer_change, inner_change),
     ]
+}
+
+/// Writes the rows of a block to the checks whose first triples these are.
+pub fn write_rows(from: &[__m128], triples: &[usize], rows: &mut [i32]) {
+    for (place, vectors) in from.chunks_exact(4).enumerate() {
+        let [mut a, mut b, mut c, mut d] = [vectors[0], vectors[1], vectors[2], vectors[3]];
+        unsafe { _MM_TRANSPOSE4_PS(&mut a, &mut b, &mut c, &mut d) };
+        for (&triple, lane) in triples.iter().zip([a, b, c, d]) {
+            let start = 4 * (triple + place);
+            let to = &mut rows[start..start + 4];
+            unsafe { _mm_storeu_si128(to.as_mut_ptr().cast(), _mm_cvttps_epi32(lane)) };
+        }
+    }
+}
+
+/// Writes S and c of the auxiliaries of a block.
+pub fn write_auxiliaries(
+    from: &[__m128],
+    factor: f64,
+    firsts: &[usize],
+    sums: &mut [i64],
+    values: &mut [i16],
+) {
+    for (place, &sum) in from.iter().enumerate() {
+        let lanes = |vector: __m128| unsafe { std::mem::transmute::<__m128, [f32; 4]>(vector) };
+        let value = unsafe { auxiliary_value(sum, _mm_set1_pd(factor)) };
+        let both = lanes(sum).into_iter().zip(lanes(value));
+        for (&first, (sum, value)) in firsts.iter().zip(both) {
+            sums[first + place] = sum as i64;
+            values[first + place] = value as i16;
+        }
+    }
 }
