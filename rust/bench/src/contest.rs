@@ -5,7 +5,7 @@ use interface::{Library, Lists, RunAnswer};
 use rivals::{Plain, Tuned};
 use std::time::Instant;
 
-const ROUNDS: usize = 9;
+const ROUNDS: usize = 15;
 
 pub struct Contest {
     decoders: Vec<(&'static str, Box<dyn Library>)>,
@@ -16,7 +16,7 @@ pub struct ContestResult {
     pub iterations: u64,
     pub settled: usize,
     pub right: usize,
-    /// The least and the middle number of seconds of all rounds.
+    /// Seconds for all frames: each frame's least, and its middle, of all rounds.
     pub seconds: Vec<(f64, f64)>,
 }
 
@@ -78,19 +78,25 @@ impl Contest {
     pub fn run(&mut self, scenario: &Scenario) -> ContestResult {
         let mut result = self.agreed(scenario);
         let mut lent = Lent::new(scenario);
-        let mut times = vec![Vec::new(); self.decoders.len()];
+        let frames = scenario.frames.len();
+        let mut times = vec![vec![Vec::new(); frames]; self.decoders.len()];
         for _ in 0..ROUNDS {
             for ((_, library), times) in self.decoders.iter().zip(&mut times) {
-                let start = Instant::now();
-                for frame in 0..scenario.frames.len() {
+                for (frame, times) in times.iter_mut().enumerate() {
+                    let start = Instant::now();
                     lent.decode(library.as_ref(), scenario, frame);
+                    times.push(start.elapsed().as_secs_f64());
                 }
-                times.push(start.elapsed().as_secs_f64());
             }
         }
-        for mut times in times {
-            times.sort_by(f64::total_cmp);
-            result.seconds.push((times[0], times[ROUNDS / 2]));
+        for times in &mut times {
+            let mut sums = (0.0, 0.0);
+            for times in times {
+                times.sort_by(f64::total_cmp);
+                sums.0 += times[0];
+                sums.1 += times[ROUNDS / 2];
+            }
+            result.seconds.push(sums);
         }
         result
     }

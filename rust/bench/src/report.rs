@@ -5,7 +5,7 @@ use crate::scenario::{Scenario, SCALE, SETTINGS};
 
 pub fn settings() {
     println!(
-        "W {}, A {}, K {}, X {}, Gaussian scale {SCALE}; the least time of interleaved rounds",
+        "W {}, A {}, K {}, X {}, Gaussian scale {SCALE}; the least time of each frame in interleaved rounds",
         SETTINGS.weight, SETTINGS.ratio, SETTINGS.limit, SETTINGS.tolerance
     );
 }

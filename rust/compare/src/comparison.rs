@@ -11,6 +11,7 @@ use std::fmt;
 /// A case on which a library differs from the reference.
 pub struct Failure {
     pub family: &'static str,
+    /// The seed of a random case, the place of a listed one.
     pub seed: u64,
     pub case: Case,
     pub difference: String,

@@ -1,6 +1,7 @@
 //! Counts of what the compared cases met, so that no comparison is empty.
 
 use crate::case::{Case, DecodeCase};
+use crate::families::SEED;
 use crate::outcome::Outcome;
 use reference::iteration::{Iterate, Problem, Totals, UNIT};
 use reference::records::read_code;
@@ -133,7 +134,7 @@ impl Tally {
         run(problem, limit, tolerance, &mut |_, iterate, totals| {
             for (event, happens) in quotient_events(problem, iterate)
                 .into_iter()
-                .chain(row_events(problem, iterate))
+                .chain(row_events(iterate))
                 .chain(total_events(totals, tolerance.into()))
             {
                 *met.entry(event).or_default() |= happens;
@@ -171,7 +172,11 @@ impl Tally {
             .iter()
             .map(|(what, count)| format!("{what}: {count}"))
             .collect();
-        format!("{} cases; {}", self.cases, counts.join(", "))
+        format!(
+            "seed {SEED:#x}, {} cases; {}",
+            self.cases,
+            counts.join(", ")
+        )
     }
 }
 
@@ -197,7 +202,7 @@ fn quotient_events(problem: &Problem, iterate: &Iterate) -> [(&'static str, bool
     ]
 }
 
-fn row_events(_: &Problem, iterate: &Iterate) -> [(&'static str, bool); 2] {
+fn row_events(iterate: &Iterate) -> [(&'static str, bool); 2] {
     let rows = || iterate.rows.iter().flatten();
     [
         ("multiplier above zero", rows().any(|&s| s > 0)),

@@ -7,6 +7,7 @@ use compare::faults::{Fault, Faulty, ALL};
 use compare::outcome::{outcome, Outcome};
 use compare::reflections::check_reflections;
 use reference::Reference;
+use std::cell::Cell;
 use std::collections::BTreeMap;
 use std::convert::Infallible;
 use std::panic;
@@ -29,9 +30,26 @@ fn expected() -> Expected {
     expected
 }
 
+thread_local! {
+    /// Whether panics of this thread are expected.
+    static QUIET: Cell<bool> = const { Cell::new(false) };
+}
+
+fn keep_quiet_panics_unprinted() {
+    let print = panic::take_hook();
+    panic::set_hook(Box::new(move |info| {
+        if !QUIET.get() {
+            print(info);
+        }
+    }));
+}
+
 /// Whether a library goes wrong on a case; a panic counts.
 fn goes_wrong(library: Faulty, case: &Case, expected: &Outcome) -> bool {
-    match panic::catch_unwind(|| outcome(&library, case)) {
+    QUIET.set(true);
+    let found = panic::catch_unwind(|| outcome(&library, case));
+    QUIET.set(false);
+    match found {
         Ok(found) => found.difference(expected).is_some(),
         Err(_) => true,
     }
@@ -40,23 +58,20 @@ fn goes_wrong(library: Faulty, case: &Case, expected: &Outcome) -> bool {
 #[test]
 fn every_fault_is_caught() {
     let expected = expected();
-    panic::set_hook(Box::new(|_| ()));
+    keep_quiet_panics_unprinted();
     let mut missed = Vec::new();
     for (entries, faults) in ALL {
         for fault in *faults {
             for entry in *entries {
-                let cases = &expected[entry];
-                let wrong = |(case, expected): &&(Case, Outcome)| {
-                    goes_wrong(Faulty(*fault), case, expected)
-                };
-                match cases.iter().position(|pair| wrong(&pair)) {
+                let mut cases = expected[entry].iter();
+                let wrong = |(case, due): &(Case, Outcome)| goes_wrong(Faulty(*fault), case, due);
+                match cases.position(wrong) {
                     Some(place) => println!("{fault:?}: {entry} case {place}"),
                     None => missed.push(format!("{fault:?} in {entry}")),
                 }
             }
         }
     }
-    let _ = panic::take_hook();
     assert!(missed.is_empty(), "not caught: {missed:?}");
 }
 

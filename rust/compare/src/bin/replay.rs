@@ -23,6 +23,7 @@ fn replay(library: &dyn Library, line: &str) -> Result<(), String> {
     let case: Case = line.parse()?;
     let expected = outcome(&Reference, &case);
     println!("expected {:?}", expected.fields);
+    print!("{}", String::from_utf8_lossy(&expected.text));
     match outcome(library, &case).difference(&expected) {
         None => Ok(()),
         Some(difference) => Err(difference),

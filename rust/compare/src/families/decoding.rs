@@ -15,14 +15,14 @@ pub fn families() -> Vec<Family> {
     vec![
         Family::listed("grid of small costs", grid),
         Family::listed("settings at the edges", edge_settings),
-        Family::random("runs on tiny codes", 4_000, tiny_run),
-        Family::random("runs on small codes", 2_000, small_run),
+        Family::random("runs on tiny codes", 6_000, tiny_run),
+        Family::random("runs on small codes", 4_000, small_run),
         Family::random("lists of other lengths", 600, other_lengths),
-        Family::random("totals equal to the tolerance", 600, exact_tolerance),
-        Family::random("runs on middle codes", 100, middle_run),
-        Family::random("noisy codewords", 60, noisy_codeword),
-        Family::random("long runs", 40, long_run),
-        Family::random("runs on large codes", 8, large_run),
+        Family::random("totals equal to the tolerance", 1_200, exact_tolerance),
+        Family::random("runs on middle codes", 200, middle_run),
+        Family::random("noisy codewords", 100, noisy_codeword),
+        Family::random("long runs", 100, long_run),
+        Family::random("runs on large codes", 10, large_run),
         Family::listed("runs at the limits", limits),
     ]
 }
@@ -156,9 +156,14 @@ fn middle_run(random: &mut Random) -> Case {
     run_of(random, code)
 }
 
-/// A regular code, settings that decode, and noise that it can bear or not.
+/// A code that corrects errors, settings that decode, and noise that it can
+/// bear or not.
 fn noisy_codeword(random: &mut Random) -> Case {
-    let code = regular_code(random, 60, 3, 6);
+    let code = match random.below(40) {
+        0 => regular_code(random, 1_008, 3, 6),
+        1..=5 => training_code(),
+        _ => regular_code(random, 60, 3, 6),
+    };
     let codeword = Codewords::of(&code).random(random);
     let noise = random.pick(&[400.0, 700.0, 1_000.0]);
     let costs = codeword.iter().map(|&bit| {
@@ -167,7 +172,8 @@ fn noisy_codeword(random: &mut Random) -> Case {
     });
     let costs = costs.collect();
     let tolerance = random.pick(&[10_000, 10_000_000]);
-    exact_case(&code, settings(1_000, 150, 200, tolerance), costs)
+    let weight = random.pick(&[1_000, 8_000]);
+    exact_case(&code, settings(weight, 150, 200, tolerance), costs)
 }
 
 fn long_run(random: &mut Random) -> Case {
