@@ -102,10 +102,15 @@ impl State {
         let mut rows = self.rows[place];
         for (s, signs) in rows.iter_mut().zip(signs) {
             let values = self.triples[place].map(|variable| self.values[variable]);
-            let sum = signs[0] * values[0] + signs[1] * values[1] + signs[2] * values[2];
+            let mut sum = signs[0] * values[0] + signs[1] * values[1] + signs[2] * values[2];
+            if self.faulty.has(TripleSumsIn16Bits) {
+                sum = i64::from(sum as i16);
+            }
             *s = (*s).max(0) + sum - UNIT;
-            if self.faulty.has(FreshMultiplier) {
-                *s = (*s).max(0) + sum - UNIT;
+            match self.faulty.0 {
+                FreshMultiplier => *s = (*s).max(0) + sum - UNIT,
+                RowsIn16Bits => *s = i64::from(*s as i16),
+                _ => (),
             }
         }
         rows

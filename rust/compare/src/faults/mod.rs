@@ -68,7 +68,8 @@ faults! {
         ValueNotLimited, ValueLimitedOneLower, NoPenaltyOnAuxiliaries, RatioIgnored,
         RowsRenewedEarly, FreshMultiplier, ChangedRowOrder, SumsScaled,
         SumsOfNextIteration, SquaresIn32Bits, TotalsTogether, OnlyMultipliers, OnlySlacks,
-        OnlyFirstTriple;
+        OnlyFirstTriple,
+        TripleSumsIn16Bits, RowsIn16Bits;
     // The run and its reading.
     ["decode"]:
         ToleranceExcluded, NotSettledAtLimit, LimitOneMore, LimitOneLess, OneTrueIteration,
