@@ -136,7 +136,7 @@ fn repeated_place(sockets: &[usize], row: usize) -> Option<usize> {
     })
 }
 
-/// The 96-bit training code, grown from a prototype with circulants of 16.
+/// The 96-bit training code: three rows of six circulants of 16.
 pub fn training_code() -> Code {
     const BLANK: usize = 255;
     const SIZE: usize = 16;

@@ -1,7 +1,7 @@
 //! Counts of what the compared cases met, so that no comparison is empty.
 
 use crate::case::{Case, DecodeCase};
-use crate::families::SEED;
+use crate::families::seed;
 use crate::outcome::Outcome;
 use reference::iteration::{Iterate, Problem, Totals, UNIT};
 use reference::records::read_code;
@@ -172,11 +172,8 @@ impl Tally {
             .iter()
             .map(|(what, count)| format!("{what}: {count}"))
             .collect();
-        format!(
-            "seed {SEED:#x}, {} cases; {}",
-            self.cases,
-            counts.join(", ")
-        )
+        let counts = counts.join(", ");
+        format!("seed {}, {} cases; {counts}", seed(), self.cases)
     }
 }
 

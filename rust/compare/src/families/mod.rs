@@ -8,6 +8,7 @@ mod words;
 
 use crate::case::Case;
 use crate::random::Random;
+use std::env;
 
 pub enum Cases {
     Listed(fn() -> Vec<Case>),
@@ -29,8 +30,16 @@ pub enum Effort {
     Full,
 }
 
-/// The seed from which every family's seeds come.
-pub const SEED: u64 = 0x5749_4441_4742_4531;
+const SEED: u64 = 0x5749_4441_4742_4531;
+
+/// The seed from which every family's seeds come: always the same, unless
+/// COMPARE_SEED holds another number.
+pub fn seed() -> u64 {
+    match env::var("COMPARE_SEED") {
+        Ok(number) => number.parse().expect("COMPARE_SEED is a number"),
+        Err(_) => SEED,
+    }
+}
 
 impl Family {
     fn listed(name: &'static str, cases: fn() -> Vec<Case>) -> Family {

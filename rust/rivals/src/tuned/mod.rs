@@ -2,8 +2,11 @@
 //! hold whole numbers exactly, a reciprocal instead of a division, and totals
 //! only until one of them exceeds the tolerance.
 
+mod bits;
+mod checks;
+mod lanes;
 mod layout;
-mod passes;
+mod lists;
 mod work;
 
 use crate::plain::run::{decode, run, run_on, State, Task};

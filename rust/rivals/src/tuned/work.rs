@@ -1,7 +1,11 @@
 //! The lists of a tuned run. Every number in them is whole.
 
+use super::bits::renew_bits;
+use super::checks::{renew_checks, Blocks};
+use super::lanes::Totals;
 use super::layout::{Layout, NO_TRIPLE};
-use super::passes::{renew_bits, renew_checks, write_auxiliaries, write_rows, Blocks, Totals};
+use super::lists::{write_auxiliaries, write_rows};
+
 use crate::plain::run::{State, Task};
 use std::arch::x86_64::{__m128, _mm_setr_ps, _mm_setzero_ps};
 
