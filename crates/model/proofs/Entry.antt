@@ -3,26 +3,33 @@ use mathlib.Core.Bool.{Bool, true, false, not, cond, _&&_}
 use mathlib.Core.List.{List, [], _∷_}
 use mathlib.Core.Logic.{_⊎_, inl, inr}
 use mathlib.Core.Path.{_≡_, refl, sym, ap, ap₂, _∙_, subst}
-use Prim.Native.Nat.{ℕ, zero, suc, _≤_, _<_}
+use Prim.Native.Nat.{ℕ, zero, suc, _+_, _*_, _≤_, _<_}
 use native.Mathlib.Nat.{le-trans}
 use native.Mathlib.Omega.{arith}
+use borrow.Author.Tests.{eqb-true, not-false}
 use lib.Dec.{leb, ltb, eqb}
-use lib.IntN.{ℤ}
-use lib.ListN.{length, getD, drop}
+use lib.IntN.{ℤ, pos}
+use lib.ListN.{length, getD, take, drop, length-replicate}
+use lib.Seq.{take-at}
 use Rattle.lists.specs.Entries.{some}
 use Rattle.lists.specs.Tabulated.{written}
+use Rattle.lists.proofs.Tabulated.{length-tab, written-in}
 use Rattle.quotient.specs.Quotient.{quotient}
-use Rattle.model.specs.Iteration.{slack, multiplier, State, iterate}
-use Rattle.model.specs.Calls.{wild, unequal, forbidden, Lists, noRoom, decoderCause, decodedBy, decoder}
+use Rattle.model.specs.Iteration.{at, slack, multiplier, sumOf, renewedAt, State, sumsOf, rowsOf, valueOf, valuesOf, iterate}
+use Rattle.model.specs.Calls.{wild, unequal, forbidden, Lists, Decoded, noRoom, decoderCause, decodedBy, decoder}
+use Rattle.model.specs.Reflection.{turned, reflect, sumOfWords}
+use Rattle.model.specs.Claims.{ReflectedRun}
 use Rattle.model.specs.Causes.{_if_, firstOf, short, outside}
 use Rattle.model.specs.Run.{changes, settledBy, start, Ended, after, runFrom, run}
-use Rattle.model.specs.Words.{wordOf, firstUndecided, firstOdd, Outcome, tested, outcome}
+use Rattle.model.specs.Words.{entry, bitOf, wordOf, firstUndecided, firstOdd, Outcome, tested, outcome}
 use Rattle.model.specs.Records.{twoBytes, bitCount, checkCount, degree, afterCheck, afterChecks, codeOf, judgeHeader, judgeIndices, judgeCheck, judgeChecks, covered, judge}
-use Rattle.model.specs.Code.{Code, triples}
-use Rattle.model.specs.Entry.{causesOf, Refused, Ran, Course, Iterated}
+use Rattle.model.specs.Points.{Codeword, pointOf}
+use Rattle.model.specs.Code.{Code, triples, variables}
+use Rattle.model.specs.Entry.{causesOf, Refused, Ran, Course, Iterated, ReflectedCalls, EveryCall}
 use Rattle.model.specs.Splitting.{System, systemOf}
 use Rattle.model.proofs.Runs.{stops, goes-on}
-use Rattle.model.proofs.Rows.{none}
+use Rattle.model.proofs.Causes.{Clear, clear, unless}
+use Rattle.model.proofs.Demand3.{demand-3}
 use Rattle.model.specs.declared.Settings.{Settings}
 
 -- ---- the first cause
@@ -241,3 +248,93 @@ module _ (b : List ℕ) (o : Settings) (costs : List ℤ) (l : Lists) (h : decod
     values = ap (λ (a : State). written (a .values) (l .values)) last-is;
     rows = ap (λ (a : State). written (a .rows) (l .rows)) last-is;
   })
+
+-- ---- reflected calls
+module _ (g : System) (o : Settings) (costs : List ℤ) where
+  record Long (a : State) : Type 0 where
+    pub sums : length (a .sums) ≡ g .variables
+    pub values : length (a .values) ≡ g .variables
+    pub rows : length (a .rows) ≡ 4 * g .triples
+
+  long : (i : ℕ) → Long (after quotient g o costs i (start g))
+  unfolding after start iterate sumsOf valuesOf rowsOf
+  long zero = record { sums = length-replicate (g .variables) (pos 0); values = length-replicate (g .variables) (pos 0); rows = length-replicate (4 * g .triples) (pos 0) }
+  long (suc i) =
+      let a = after quotient g o costs i (start g) in
+      record {
+        sums = length-tab (g .variables) (sumOf (g .members) (g .triples) (a .rows));
+        values = length-tab (g .variables) (valueOf quotient g o costs (sumsOf g (a .rows)));
+        rows = length-tab (4 * g .triples) (renewedAt (g .members) (a .rows) (valuesOf quotient g o costs (sumsOf g (a .rows))));
+      }
+
+  last-long : Long (run quotient g o costs .last)
+  last-long = let c = course g o costs (o .limit) 0 (start g) in subst Long (sym (c .last)) (long (c .steps))
+
+module _ (b w : List ℕ) (o : Settings) (costs : List ℤ) (l m : Lists) (h : decoderCause b o costs l ≡ 0) (h′ : decoderCause b o (reflect w costs) m ≡ 0) (c : Codeword (codeOf b) w) where
+  abbrev code : Code
+  code = codeOf b
+
+  abbrev sys : System
+  sys = systemOf code
+
+  abbrev end : Ended
+  end = run quotient sys o costs
+
+  abbrev end′ : Ended
+  end′ = run quotient sys o (reflect w costs)
+
+  none : Clear (causesOf b o costs l)
+  none = clear (causesOf b o costs l) (sym (cause-is b o costs l) ∙ h)
+
+  fits : length costs ≡ code .bits
+  fits = eqb-true (length costs) (code .bits) (not-false (eqb (length costs) (code .bits)) (unless 11 (unequal costs (code .bits)) (none .1 .1 .0)))
+
+  both : ReflectedRun code o costs w (o .limit) 0 (start sys) (start sys)
+  both = let r = demand-3 b (none .0) .reflects w c in r .whole o costs fits (o .limit) 0 (start sys) (start sys) (r .begun)
+
+  same-answer : decodedBy code end′ m .answer ≡ decodedBy code end l .answer
+  unfolding decodedBy
+  same-answer =
+      ap (λ (x : Outcome). record { number = x .number; place = x .place; k = end′ .k; settled = end′ .settled }) (both .answer)
+      ∙ ap₂ (λ (x y : ℕ). record { number = outcome code (end .last .values) .number; place = outcome code (end .last .values) .place; k = x; settled = y }) (both .count) (both .settled)
+
+  -- an entry of a list that was written
+  in-list : (new old : List ℤ) (n i : ℕ) → length new ≡ n → i < n → at (written new old) i ≡ at new i
+  in-list new old n i e k = written-in new old i (pos 0) (omega arith)
+
+  word-long : (z : List ℤ) → length (wordOf code z) ≡ code .bits
+  unfolding wordOf
+  word-long z = length-tab (code .bits) (λ v. bitOf (at z v))
+
+  taken : (z : List ℤ) (old : List ℕ) → take (code .bits) (written (wordOf code z) old) ≡ wordOf code z
+  taken z old = take-at (wordOf code z) (drop (length (wordOf code z)) old) (code .bits) (word-long z)
+
+  related : ReflectedCalls b w (decodedBy code end l) (decodedBy code end′ m)
+  unfolding decodedBy systemOf
+  related =
+      let long = last-long sys o costs in
+      let long′ = last-long sys o (reflect w costs) in
+      let x = pointOf code w in
+      record {
+        answer = same-answer;
+        values = λ v k. in-list (end′ .last .values) (m .values) (variables code) v (long′ .values) k ∙ both .last .values v
+            ∙ ap (turned (entry x v)) (sym (in-list (end .last .values) (l .values) (variables code) v (long .values) k));
+        sums = λ v k. in-list (end′ .last .sums) (m .sums) (variables code) v (long′ .sums) k ∙ both .last .sums v
+            ∙ ap (turned (entry x v)) (sym (in-list (end .last .sums) (l .sums) (variables code) v (long .sums) k));
+        rows = λ t r q i j k op. in-list (end′ .last .rows) (m .rows) (4 * triples code) (4 * t + q) (long′ .rows) (omega arith) ∙ both .last .rows t r q i j k op
+            ∙ sym (in-list (end .last .rows) (l .rows) (4 * triples code) (4 * t + r) (long .rows) (omega arith));
+        word = λ z.
+            rw (both .answer, z) (taken (end′ .last .values) (m .word) ∙ both .word z ∙ ap (sumOfWords w) (sym (taken (end .last .values) (l .word))));
+      }
+
+  pub reflected-calls : ReflectedCalls b w (decoder b o costs l) (decoder b o (reflect w costs) m)
+  reflected-calls = rw (ran-is b o costs l h, ran-is b o (reflect w costs) m h′) related
+
+-- ---- of every call that meets the decoder's contract, which is the equation d ≡ decoder b o costs l
+pub every-call : (b : List ℕ) (o : Settings) (costs : List ℤ) (l : Lists) (d : Decoded) → d ≡ decoder b o costs l → EveryCall b o costs l d
+every-call b o costs l d meets = record {
+  refused = λ c h. subst (Refused b o costs l) (sym meets) (refused b o costs l c h);
+  ran = λ h. subst (Ran b o costs l) (sym meets) (ran b o costs l h);
+  iterated = λ h. subst (Iterated b o costs l) (sym meets) (iterated b o costs l h);
+  reflected = λ w m e meets′ h h′ c. rw (meets, meets′) (reflected-calls b w o costs l m h h′ c);
+}

@@ -9,13 +9,13 @@ use Rattle.lists.specs.Entries.{some}
 use Rattle.lists.specs.Tabulated.{written}
 use Rattle.quotient.specs.Quotient.{quotient}
 use Rattle.model.specs.Iteration.{at, row, State}
-use Rattle.model.specs.Calls.{wild, unequal, forbidden, Lists, Decoded, noRoom}
-use Rattle.model.specs.Reflection.{turned, sumOfWords, Opposite}
+use Rattle.model.specs.Calls.{wild, unequal, forbidden, Lists, Decoded, noRoom, decoderCause, decoder}
+use Rattle.model.specs.Reflection.{turned, reflect, sumOfWords, Opposite}
 use Rattle.model.specs.Causes.{_if_}
 use Rattle.model.specs.Run.{settledBy, start, Ended, after, run}
 use Rattle.model.specs.Words.{entry, outcome}
 use Rattle.model.specs.Records.{codeOf, judge}
-use Rattle.model.specs.Points.{pointOf}
+use Rattle.model.specs.Points.{Codeword, pointOf}
 use Rattle.model.specs.Code.{triples, variables}
 use Rattle.model.specs.Splitting.{System, systemOf}
 use Rattle.model.specs.declared.Settings.{Settings}
@@ -71,3 +71,12 @@ pub record ReflectedCalls (b w : List ℕ) (d e : Decoded) : Type 0 where
   pub rows : (t r q : ℕ) → t < triples (codeOf b) → r < 4 → q < 4 → Opposite (pointOf (codeOf b) w) (systemOf (codeOf b) .members) t r q
       → row (e .lists .rows) t q ≡ row (d .lists .rows) t r
   pub word : d .answer .number ≡ 0 → take (codeOf b .bits) (e .lists .word) ≡ sumOfWords w (take (codeOf b .bits) (d .lists .word))
+
+-- ---- all of it, of a call whose answer and lists are d
+pub record EveryCall (b : List ℕ) (o : Settings) (costs : List ℤ) (l : Lists) (d : Decoded) : Type 0 where
+  pub refused : (c : ℕ) → decoderCause b o costs l ≡ suc c → Refused b o costs l d
+  pub ran : decoderCause b o costs l ≡ 0 → Ran b o costs l d
+  pub iterated : decoderCause b o costs l ≡ 0 → Iterated b o costs l d
+  -- and of a second call, with the costs that w reflects and lists m of its own, which gave e
+  pub reflected : (w : List ℕ) (m : Lists) (e : Decoded) → e ≡ decoder b o (reflect w costs) m → decoderCause b o costs l ≡ 0 → decoderCause b o (reflect w costs) m ≡ 0
+      → Codeword (codeOf b) w → ReflectedCalls b w d e
