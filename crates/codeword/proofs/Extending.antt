@@ -32,7 +32,7 @@ drop-triple ts t h =
     let e : 3 * (t + 1) ≡ suc (suc (suc n)) = omega arith in
     rw (z, e, add-one n, add-two n, drop-cons ts n 0 (omega arith), drop-cons ts (suc n) 0 (omega arith), drop-cons ts (suc (suc n)) 0 (omega arith))
 
-pub extend-append : (n : ℕ) (ts rest p : List ℕ) → length ts ≡ 3 * n → extend (ts ++ rest) p ≡ extend rest (extend ts p)
+extend-append : (n : ℕ) (ts rest p : List ℕ) → length ts ≡ 3 * n → extend (ts ++ rest) p ≡ extend rest (extend ts p)
 unfolding extend
 extend-append zero [] rest p h = refl
 extend-append zero (x ∷ ts) rest p h = absurd (omega arith)
