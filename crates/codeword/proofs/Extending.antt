@@ -9,20 +9,19 @@ use borrow.Author.Tests.{lt-ltb, le-ltb}
 use lib.ListN.{length, getD, take, drop, set, length-set, length-append, length-drop, take-append-drop, drop-of-length-le}
 use lib.Seq.{drop-cons, drop-drop, take-at, drop-at, take-suc-set, drop-set-lt, length-take-le, getD-take}
 use Rattle.lists.specs.Tabulated.{written}
-use Rattle.lists.specs.Entries.{total}
 use Rattle.lists.proofs.Tabulated.{length-written}
 use Rattle.model.specs.Code.{turns, tripleCount, variables}
-use Rattle.model.specs.Records.{bitCount, checkCount, degree, indices, afterCheck, checksIn, codeOf, judge}
+use Rattle.model.specs.Records.{checkCount, indices, afterCheck, codeOf, judge}
 use Rattle.model.specs.Sound.{SoundCheck}
 use Rattle.model.specs.Splitting.{queue, triplesFrom, systemOf, member}
 use Rattle.model.specs.TripleRule.{items, TripleRule}
 use Rattle.model.specs.Words.{entry}
 use Rattle.model.specs.Points.{extend, pointOf}
-use Rattle.model.proofs.Accepted.{accepted, bytes-sound, check-sound, length-numbers, length-checks}
 use Rattle.model.proofs.Points.{extend-made, extend-kept}
-use Rattle.model.proofs.Sound.{rising-below, rising-more, variables-most}
+use Rattle.model.proofs.Sound.{rising-below}
 use Rattle.model.proofs.TripleRule.{triple-rule}
-use Rattle.records.proofs.Walk.{Walk, walk-start, here}
+use Rattle.records.proofs.Walk.{here}
+use Rattle.triples.proofs.Auxiliaries.{checks-of, Numbered, numbered-start, numbered-at, numbered-next, none-left}
 use Rattle.triples.proofs.Items.{item-bit, item-auxiliary}
 
 -- ---- the triples of a list, one after another
@@ -33,7 +32,7 @@ drop-triple ts t h =
     let e : 3 * (t + 1) ≡ suc (suc (suc n)) = omega arith in
     rw (z, e, add-one n, add-two n, drop-cons ts n 0 (omega arith), drop-cons ts (suc n) 0 (omega arith), drop-cons ts (suc (suc n)) 0 (omega arith))
 
-pub extend-append : (n : ℕ) (ts rest p : List ℕ) → length ts ≡ 3 * n → extend (ts ++ rest) p ≡ extend rest (extend ts p)
+extend-append : (n : ℕ) (ts rest p : List ℕ) → length ts ≡ 3 * n → extend (ts ++ rest) p ≡ extend rest (extend ts p)
 unfolding extend
 extend-append zero [] rest p h = refl
 extend-append zero (x ∷ ts) rest p h = absurd (omega arith)
@@ -101,26 +100,11 @@ module _ (c : List ℕ) (a : ℕ) (sound : SoundCheck a c) where
         rw (← whole, ← e, ← m .kept) (sym (take-append-drop k point))
 
 -- ---- all checks: check j is next, at `rest`, and `next` is its first auxiliary
-abbrev pub checks-of : List ℕ → List (List ℕ)
-checks-of b = checksIn (checkCount b) (drop 6 b)
-
 pub record Going (b w old point rest : List ℕ) (next j : ℕ) : Type 0 where
-  pub walk : Walk (bitCount b) (checkCount b) (drop 6 b) j rest
-  pub above : bitCount b ≤ next
-  pub auxiliaries : next + total turns (drop j (checks-of b)) ≡ variables (codeOf b)
+  pub numbered : Numbered b rest next j
   pub long : length point ≡ length old
   pub kept : drop next point ≡ drop next old
   pub left : extend (triplesFrom (drop j (checks-of b)) next) (take next point) ≡ pointOf (codeOf b) w
-
--- the check at hand
-pub record At (lent rest : List ℕ) (next : ℕ) : Type 0 where
-  pub room : 3 + 2 * degree rest ≤ length rest
-  pub least : 3 ≤ degree rest
-  pub most : degree rest ≤ 32
-  pub check : SoundCheck next (indices rest)
-  pub low : next ≤ 12288
-  pub short : next + turns (indices rest) ≤ length lent
-  pub long : length (indices rest) ≡ degree rest
 
 -- `old` is the lent list with the word copied to it
 module _ (b w old lent : List ℕ) (judged : judge b ≡ 0) (word-long : length w ≡ codeOf b .bits) (fits : variables (codeOf b) ≤ length lent) (copied : old ≡ written w lent) where
@@ -131,9 +115,7 @@ module _ (b w old lent : List ℕ) (judged : judge b ≡ 0) (word-long : length 
   unfolding codeOf systemOf
   going-start =
       record {
-        walk = walk-start _ _ _ (bytes-sound b judged .checks);
-        above = omega arith;
-        auxiliaries = rw word-long;
+        numbered = rw word-long (numbered-start b judged);
         long = refl;
         kept = refl;
         left = rw (copied, take-at w (drop (length w) lent) (length w) refl, word-long);
@@ -143,22 +125,6 @@ module _ (b w old lent : List ℕ) (judged : judge b ≡ 0) (word-long : length 
     pub long-now : length point ≡ length lent
     long-now = g .long ∙ old-long
 
-    pub going-at : j < checkCount b → At lent rest next
-    unfolding codeOf
-    going-at h =
-        let r = here _ _ _ j rest h (g .walk) in
-        let c = check-sound _ rest (r .sound) in
-        let t = ap (total turns) (r .checks) in
-        record {
-          room = r .sound .room;
-          least = r .sound .least;
-          most = r .sound .most;
-          check = record { least = c .least; most = c .most; rising = rising-more (bitCount b) next 0 (indices rest) (g .above) (c .rising) };
-          low = omega (arith, g .auxiliaries, variables-most (codeOf b) (accepted b judged), accepted b judged .bits-most, accepted b judged .triples-most);
-          short = omega (arith, g .auxiliaries);
-          long = length-numbers (degree rest) (drop 3 rest);
-        }
-
     pub going-next : (q t : List ℕ) (next′ : ℕ) → j < checkCount b → t ≡ afterCheck rest → next′ ≡ next + turns (indices rest) → length q ≡ length point
         → q ≡ extend (queue (turns (indices rest)) (indices rest) next) (take next point) ++ drop (next + turns (indices rest)) point
         → Going b w old q t next′ (j + 1)
@@ -166,16 +132,14 @@ module _ (b w old lent : List ℕ) (judged : judge b ≡ 0) (word-long : length 
     going-next q t next′ h e n l p =
         let c = indices rest in
         let k = next + turns c in
-        let r = here _ _ _ j rest h (g .walk) in
-        let a = going-at h in
+        let r = here _ _ _ j rest h (g .numbered .walk) in
+        let a = numbered-at b judged rest next j (g .numbered) h in
         let E = extend (queue (turns c) c next) (take next point) in
-        let long : length E ≡ k = omega (arith, sym (ap length p) ∙ l, length-append E (drop k point), length-drop k point, a .short, long-now) in
+        let long : length E ≡ k = omega (arith, sym (ap length p) ∙ l, length-append E (drop k point), length-drop k point, a .last, long-now) in
         let left : extend (queue (turns c) c next ++ triplesFrom (drop (j + 1) (checks-of b)) k) (take next point) ≡ pointOf (codeOf b) w
         = ap (λ (x : List (List ℕ)). extend (triplesFrom x next) (take next point)) (sym (r .checks)) ∙ g .left in
         record {
-          walk = rw e (r .next);
-          above = omega (arith, g .above);
-          auxiliaries = omega (arith, g .auxiliaries, ap (total turns) (r .checks));
+          numbered = numbered-next b judged rest next j (g .numbered) t next′ h e n;
           long = l ∙ g .long;
           kept = rw (n, p, drop-at E (drop k point) k long) (kept-more next (turns c) point old (g .kept));
           left = rw (n, p, take-at E (drop k point) k long)
@@ -185,10 +149,9 @@ module _ (b w old lent : List ℕ) (judged : judge b ≡ 0) (word-long : length 
     pub going-end : checkCount b ≤ j → point ≡ written (pointOf (codeOf b) w) lent
     unfolding triplesFrom extend codeOf
     going-end h =
-        let none = drop-of-length-le (checks-of b) {i = j} (omega (arith, length-checks (checkCount b) (drop 6 b))) in
-        let whole : take next point ≡ pointOf (codeOf b) w = ap (λ (x : List (List ℕ)). extend (triplesFrom x next) (take next point)) (sym none) ∙ g .left in
-        let long : length (pointOf (codeOf b) w) ≡ next = sym (ap length whole) ∙ length-take-le next point (omega (arith, g .auxiliaries, long-now)) in
-        let more : next ≡ length w + (next - length w) = omega (arith, g .above) in
+        let whole : take next point ≡ pointOf (codeOf b) w = ap (λ (x : List (List ℕ)). extend (triplesFrom x next) (take next point)) (sym (none-left b j h)) ∙ g .left in
+        let long : length (pointOf (codeOf b) w) ≡ next = sym (ap length whole) ∙ length-take-le next point (omega (arith, g .numbered .auxiliaries, long-now)) in
+        let more : next ≡ length w + (next - length w) = omega (arith, g .numbered .above) in
         let behind : drop next old ≡ drop next lent
         = rw more (kept-more (length w) (next - length w) old lent (rw copied (drop-at w (drop (length w) lent) (length w) refl))) in
         rw (long, ← whole, ← behind, ← g .kept) (sym (take-append-drop next point))

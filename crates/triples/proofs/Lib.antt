@@ -1,4 +1,5 @@
 pub mod Items
+pub mod Auxiliaries
 pub mod Writing
 pub mod Counting
 pub mod Members

@@ -1,12 +1,10 @@
 -- `codeword::write_auxiliaries` meets its contract: the auxiliaries so far, and the triples that are left. Assumes nothing.
-use mathlib.Core.Path.{_≡_, sym, _∙_}
 use mathlib.Core.List.{List}
 use Prim.Native.Nat.{ℕ, _+_, _-_, _*_, _≤_}
 use native.Mathlib.Omega.{arith}
 use borrow.Author.Needs.{needs}
-use lib.ListN.{length}
 use Rattle.model.specs.Records.{indices}
-use Rattle.model.proofs.Accepted.{length-numbers}
+use Rattle.triples.proofs.Auxiliaries.{Sized, size}
 use Rattle.codeword.proofs.Extending.{Made, made-none, item-below, made-next, made-all}
 use Rattle.codeword.proofs.write_auxiliaries.Statement.{statement}
 use Rattle.codeword.proofs.write_auxiliaries.Tie as tie
@@ -24,16 +22,8 @@ degree-requires c κs = omega arith
 abbrev check : tie.After-degree Inv-loop μ-loop → List ℕ
 check c = indices (c .before .before .before .args .s .now)
 
-record Sized (d : ℕ) (c : List ℕ) : Type 0 where
-  least : 3 ≤ d
-  most : d ≤ 32
-  long : length c ≡ d
-
 sized : (c : tie.After-degree Inv-loop μ-loop) → Sized (c .degree .result) (check c)
-sized c =
-    let k = c .before .before .before .pre .1 .0 in
-    let e : length (check c) ≡ c .degree .result = length-numbers _ _ ∙ sym (c .degree .ensures .0) in
-    record { least = omega (arith, k .least); most = omega (arith, k .most); long = e }
+sized c = let s = c .before .before .before in size (s .args .next) (s .args .s .now) _ (s .pre .1 .0) (c .degree .ensures .0)
 
 sub-t-end : tie.Need-sub-t-end Inv-loop μ-loop
 sub-t-end c = omega (arith, sized c)

@@ -6,7 +6,8 @@ use lib.ListN.{length}
 use Rattle.lists.proofs.Parts.{part-from}
 use Rattle.model.specs.Records.{checkCount}
 use Rattle.model.proofs.Accepted.{SoundHeader, bytes-sound}
-use Rattle.codeword.proofs.Extending.{Going, At, going-start, long-now, going-at, going-next, going-end}
+use Rattle.triples.proofs.Auxiliaries.{At, numbered-at}
+use Rattle.codeword.proofs.Extending.{Going, going-start, long-now, going-next, going-end}
 use Rattle.codeword.proofs.write_point.Statement.{statement}
 use Rattle.codeword.proofs.write_point.Tie as tie
 
@@ -51,12 +52,10 @@ long c =
 more : (c : tie.In-loop Inv-loop μ-loop) → c .before .loop .j < checkCount (c .before .before .before .before .before .before .before .before .before .before .before .args .code .now)
 more c = omega (arith, c .loop-test .taken, c .before .before .before .two-bytes .ensures .0)
 
-check-at : (c : tie.In-loop Inv-loop μ-loop) → At (c .before .before .before .before .before .before .before .before .before .before .before .args .point .now) (c .before .loop .rest .now) (c .before .loop .next)
+check-at : (c : tie.In-loop Inv-loop μ-loop) → At (c .before .before .before .before .before .before .before .before .before .before .before .args .code .now) (c .before .loop .rest .now) (c .before .loop .next)
 check-at c =
     let l = c .before in
-    let k = l .before .before .before .before .before in
-    let s = k .before .before .before .before .before in
-    going-at _ _ _ _ (s .pre .0) (s .pre .1 .0) (s .pre .1 .1) (k .copy .ensures) _ _ _ _ (l .loop .inv) (more c)
+    numbered-at _ (l .before .before .before .before .before .before .before .before .before .before .pre .0) _ _ _ (l .loop .inv .numbered) (more c)
 
 degree-requires : tie.Need-degree-requires Inv-loop μ-loop
 degree-requires c κs = omega (arith, check-at c .room)
@@ -64,7 +63,7 @@ degree-requires c κs = omega (arith, check-at c .room)
 write-auxiliaries-requires : tie.Need-write-auxiliaries-requires Inv-loop μ-loop
 write-auxiliaries-requires c κs =
     let a = check-at (c .before .before) in
-    (a .room, (a .check, (a .low, omega (arith, a .short, long (c .before .before .before)))))
+    (a .room, (a .check, (a .low, omega (arith, a .last, long (c .before .before .before), c .before .before .before .before .before .before .before .before .before .before .before .before .before .pre .1 .1))))
 
 sub-next : tie.Need-sub-next Inv-loop μ-loop
 sub-next c = omega (arith, check-at (c .before .before .before .before .before), c .before .before .before .before .degree .ensures)

@@ -11,8 +11,8 @@ use Rattle.model.specs.Code.{turns, tripleCount}
 use Rattle.model.specs.Records.{degree, indices}
 use Rattle.model.specs.Splitting.{queue}
 use Rattle.model.specs.TripleRule.{items, TripleRule}
-use Rattle.model.proofs.Accepted.{length-numbers}
 use Rattle.model.proofs.TripleRule.{triple-rule}
+use Rattle.triples.proofs.Auxiliaries.{Sized, size}
 use Rattle.triples.proofs.Items.{third-made, third-left, triple-next}
 use Rattle.triples.proofs.write_check.Statement.{statement}
 use Rattle.triples.proofs.write_check.Tie as tie
@@ -37,16 +37,8 @@ check c = indices (c .before .before .before .args .s .now)
 rule : (c : tie.After-degree Inv-loop μ-loop) → TripleRule (check c) (c .before .before .before .args .next)
 rule c = let s = c .before .before .before in triple-rule (s .args .next) (s .args .next) (check c) (s .pre .1 .0) (omega arith)
 
-record Sized (d : ℕ) (c : List ℕ) : Type 0 where
-  least : 3 ≤ d
-  most : d ≤ 32
-  long : length c ≡ d
-
 sized : (c : tie.After-degree Inv-loop μ-loop) → Sized (c .degree .result) (check c)
-sized c =
-    let k = c .before .before .before .pre .1 .0 in
-    let e : length (check c) ≡ c .degree .result = length-numbers _ _ ∙ sym (c .degree .ensures .0) in
-    record { least = omega (arith, k .least); most = omega (arith, k .most); long = e }
+sized c = let s = c .before .before .before in size (s .args .next) (s .args .s .now) _ (s .pre .1 .0) (c .degree .ensures .0)
 
 sub-t-end : tie.Need-sub-t-end Inv-loop μ-loop
 sub-t-end c = omega (arith, sized c)

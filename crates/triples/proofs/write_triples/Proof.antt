@@ -1,15 +1,15 @@
 -- `triples::write_triples` meets its contract: the checks so far, and their triples. Assumes nothing.
-use mathlib.Core.Path.{_≡_, refl}
-use Prim.Native.Nat.{_+_, _-_, _*_, _<_}
+use mathlib.Core.Path.{_≡_, refl, _∙_}
+use Prim.Native.Nat.{_+_, _-_, _*_, _≤_, _<_}
 use native.Mathlib.Omega.{arith}
 use lib.ListN.{length, length-drop}
 use Rattle.lists.proofs.Parts.{part-from}
-use Rattle.model.specs.Code.{triples}
-use Rattle.model.specs.Records.{checkCount, degree, codeOf}
+use Rattle.model.specs.Code.{tripleCount, triples}
+use Rattle.model.specs.Records.{checkCount, degree, indices, codeOf}
 use Rattle.model.specs.Splitting.{systemOf}
 use Rattle.model.proofs.Accepted.{SoundHeader, bytes-sound}
-use Rattle.records.proofs.Walk.{walk-start}
-use Rattle.triples.proofs.Writing.{Going, At, length-now, going-at, going-next, going-end}
+use Rattle.triples.proofs.Auxiliaries.{At, numbered-start, numbered-at}
+use Rattle.triples.proofs.Writing.{Going, length-now, going-room, going-next, going-end}
 use Rattle.triples.proofs.write_triples.Statement.{statement}
 use Rattle.triples.proofs.write_triples.Tie as tie
 
@@ -43,7 +43,7 @@ loop-holds c =
     let s = c .before .before .before .before .before in
     let b = s .args .code .now in
     rw (part-from 6 b, c .two-bytes2 .ensures .0)
-    (record { walk = walk-start _ _ _ (bytes-sound b (s .pre .0) .checks); above = omega arith; auxiliaries = refl; entries = omega arith; left = refl; filled = refl })
+    (record { numbered = numbered-start b (s .pre .0); entries = omega arith; left = refl; filled = refl })
 
 -- the check at hand, and the list
 more : (c : tie.In-loop Inv-loop μ-loop) → c .before .loop .j < checkCount (c .before .before .before .before .before .before .before .args .code .now)
@@ -51,12 +51,20 @@ more c = omega (arith, c .loop-test .taken, c .before .before .before .before .t
 
 check-at : (c : tie.In-loop Inv-loop μ-loop)
     → let s = c .before .before .before .before .before .before .before in
-    At (s .args .code .now) (s .args .triples .now) (c .before .loop .rest .now) (c .before .loop .next) (c .before .loop .done) (c .before .loop .j)
-unfolding systemOf
+    At (s .args .code .now) (c .before .loop .rest .now) (c .before .loop .next)
 check-at c =
     let l = c .before in
     let s = l .before .before .before .before .before .before in
-    going-at _ _ (s .pre .0) (s .pre .1) _ _ _ _ _ (l .loop .inv) (more c)
+    numbered-at _ (s .pre .0) _ _ _ (l .loop .inv .numbered) (more c)
+
+room : (c : tie.In-loop Inv-loop μ-loop)
+    → let l = c .before .loop in
+    l .done + 3 * tripleCount (indices (l .rest .now)) ≤ length (c .before .before .before .before .before .before .before .args .triples .now)
+unfolding systemOf
+room c =
+    let l = c .before in
+    let s = l .before .before .before .before .before .before in
+    going-room _ _ (s .pre .0) (s .pre .1) _ _ _ _ _ (l .loop .inv) (more c)
 
 long : (c : tie.At-loop Inv-loop μ-loop) → length (c .loop .triples) ≡ length (c .before .before .before .before .before .before .args .triples .now)
 unfolding systemOf
@@ -68,22 +76,22 @@ degree-requires : tie.Need-degree-requires Inv-loop μ-loop
 degree-requires c κs = omega (arith, check-at c)
 
 mul-write-check : tie.Need-mul-write-check Inv-loop μ-loop
-mul-write-check c = omega (arith, check-at (c .before))
+mul-write-check c = omega (arith, room (c .before), long (c .before .before))
 
 sub-write-check : tie.Need-sub-write-check Inv-loop μ-loop
-sub-write-check c = omega (arith, check-at (c .before), long (c .before .before))
+sub-write-check c = omega (arith, room (c .before), long (c .before .before))
 
 part-write-check-start : tie.Need-part-write-check-start Inv-loop μ-loop
-part-write-check-start c = omega (arith, check-at (c .before), long (c .before .before))
+part-write-check-start c = omega (arith, room (c .before), long (c .before .before))
 
 part-write-check-end : tie.Need-part-write-check-end Inv-loop μ-loop
-part-write-check-end c = omega (arith, check-at (c .before), long (c .before .before))
+part-write-check-end c = omega (arith, room (c .before), long (c .before .before))
 
 write-check-requires : tie.Need-write-check-requires Inv-loop μ-loop
 write-check-requires c κs =
     let a = check-at (c .before .before) in
     let l = c .before .before .before in
-    (a .room, (a .check, (a .low, rw (part-from (l .loop .done) (l .loop .triples), length-drop (l .loop .done) (l .loop .triples)) (omega (arith, a .short, long l)))))
+    (a .room, (a .check, (a .low, rw (part-from (l .loop .done) (l .loop .triples), length-drop (l .loop .done) (l .loop .triples)) (omega (arith, room (c .before .before), long l)))))
 
 sub-done : tie.Need-sub-done Inv-loop μ-loop
 sub-done c = omega (arith, check-at (c .before .before .before .before .before), c .before .before .before .before .degree .ensures)
@@ -92,7 +100,7 @@ mul-done : tie.Need-mul-done Inv-loop μ-loop
 mul-done c = omega (arith, check-at (c .before .before .before .before .before), c .before .before .before .before .degree .ensures)
 
 add-done : tie.Need-add-done Inv-loop μ-loop
-add-done c = omega (arith, check-at (c .before .before .before .before .before), c .before .before .before .before .degree .ensures)
+add-done c = omega (arith, check-at (c .before .before .before .before .before), room (c .before .before .before .before .before), c .before .before .before .before .degree .ensures)
 
 sub-next : tie.Need-sub-next Inv-loop μ-loop
 sub-next c = omega (arith, check-at (c .before .before .before .before .before), c .before .before .before .before .degree .ensures)
@@ -129,8 +137,7 @@ loop-again c =
     let t = d .before in
     let l = t .before .loop in
     let s = t .before .before .before .before .before .before .before in
-    rw (part-from (3 + 2 * d .degree .result) (l .rest .now))
-    (going-next _ _ (s .pre .0) (s .pre .1) _ _ _ _ _ (l .inv) (d .degree .result) _ _ _ (more t) (d .degree .ensures .0)
+    (going-next _ _ (s .pre .0) (s .pre .1) _ _ _ _ _ (l .inv) _ _ _ _ (more t) (part-from (3 + 2 * d .degree .result) (l .rest .now) ∙ rw (d .degree .ensures .0))
     (rw (part-from (l .done) (l .triples)) at (w .write-check .ensures))
     (omega (arith, check-at t .long, d .degree .ensures .0)) (omega (arith, check-at t .least, check-at t .long, d .degree .ensures .0)))
 
