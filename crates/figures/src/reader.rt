@@ -2,100 +2,100 @@
 ghost use Prim.Native.Nat.{_≤_};
 use crate::codes;
 use crate::show::reading;
+use crate::show::readings;
 use crate::show::title;
 
 fn causes() {
     title(b"reader: each cause");
-    reading(b"accepted", b"LH\0\x03\0\x01LC\x03\0\0\0\x01\0\x02");
-    reading(b"no byte", b"");
-    reading(b"half a mark", b"L");
-    reading(b"n cut", b"LH\0");
-    reading(b"m cut", b"LH\0\x03\0");
-    reading(b"no check", b"LH\0\x03\0\x01");
-    reading(b"no degree", b"LH\0\x03\0\x01LC");
-    reading(b"index cut", b"LH\0\x03\0\x01LC\x03\0\0\0");
-    reading(b"one check of two", b"LH\0\x03\0\x02LC\x03\0\0\0\x01\0\x02");
-    reading(b"of the header", b"LX\0\x03\0\x01LC\x03\0\0\0\x01\0\x02");
-    reading(b"of a check", b"LH\0\x03\0\x01LX\x03\0\0\0\x01\0\x02");
-    reading(b"n = 0", b"LH\0\0\0\x01");
-    reading(b"m = 0", b"LH\0\x03\0\0");
-    reading(b"degree 0", b"LH\0\x03\0\x01LC\0");
-    reading(b"index n", b"LH\0\x03\0\x01LC\x03\0\0\0\x01\0\x03");
-    reading(b"equal index", b"LH\0\x03\0\x01LC\x03\0\0\0\x01\0\x01");
-    reading(b"lower index", b"LH\0\x03\0\x01LC\x03\0\x01\0\0\0\x02");
-    reading(b"bit 3", b"LH\0\x04\0\x01LC\x03\0\0\0\x01\0\x02");
-    reading(b"one byte", b"LH\0\x03\0\x01LC\x03\0\0\0\x01\0\x02\0");
+    readings(
+        b"accepted|LH\0\x03\0\x01LC\x03\0\0\0\x01\0\x02|\
+        no byte||\
+        half a mark|L|\
+        n cut|LH\0|\
+        m cut|LH\0\x03\0|\
+        no check|LH\0\x03\0\x01|\
+        no degree|LH\0\x03\0\x01LC|\
+        index cut|LH\0\x03\0\x01LC\x03\0\0\0|\
+        one check of two|LH\0\x03\0\x02LC\x03\0\0\0\x01\0\x02|\
+        another mark for the header|LX\0\x03\0\x01LC\x03\0\0\0\x01\0\x02|\
+        another mark for a check|LH\0\x03\0\x01LX\x03\0\0\0\x01\0\x02|\
+        n = 0|LH\0\0\0\x01|\
+        m = 0|LH\0\x03\0\0|\
+        degree 0|LH\0\x03\0\x01LC\0|\
+        index n|LH\0\x03\0\x01LC\x03\0\0\0\x01\0\x03|\
+        equal index|LH\0\x03\0\x01LC\x03\0\0\0\x01\0\x01|\
+        lower index|LH\0\x03\0\x01LC\x03\0\x01\0\0\0\x02|\
+        bit 3 in no check|LH\0\x04\0\x01LC\x03\0\0\0\x01\0\x02|\
+        a byte after the last check|LH\0\x03\0\x01LC\x03\0\0\0\x01\0\x02\0|",
+    );
 }
 
 fn cut_first() {
-    reading(b"1 before 2", b"X");
-    reading(b"1 before 8", b"LH\0\x04\0\x01LC\x03\0\0");
+    readings(
+        b"1 before 2|X|\
+        1 before 8|LH\0\x04\0\x01LC\x03\0\0|",
+    );
 }
 
 fn marks_first() {
-    reading(b"2 before 1", b"LX");
-    reading(b"2 before 3", b"LX\0\x02");
-    reading(b"2 before 4", b"LH\0\x03\0\x01LX\x02\0\0\0\x01");
-    reading(b"2 before 5", b"LH\0\x03\0\x01LX\x03\0\0\0\x01\0\x03");
-    reading(b"2 before 6", b"LH\0\x03\0\x01LX\x03\0\x01\0\0\0\x02");
-    reading(b"2 before 8", b"LH\0\x04\0\x01LX\x03\0\0\0\x01\0\x02");
-    reading(b"2 before 9", b"LH\0\x03\0\x01LX\x03\0\0\0\x01\0\x02\0");
+    readings(
+        b"2 before 1|LX|\
+        2 before 3|LX\0\x02|\
+        2 before 4|LH\0\x03\0\x01LX\x02\0\0\0\x01|\
+        2 before 5|LH\0\x03\0\x01LX\x03\0\0\0\x01\0\x03|\
+        2 before 6|LH\0\x03\0\x01LX\x03\0\x01\0\0\0\x02|\
+        2 before 8|LH\0\x04\0\x01LX\x03\0\0\0\x01\0\x02|\
+        2 before 9|LH\0\x03\0\x01LX\x03\0\0\0\x01\0\x02\0|",
+    );
 }
 
 fn sizes_first() {
-    reading(b"3 before 1", b"LH\0\x02");
-    reading(b"3 before 2", b"LH\0\x02\0\x01LX\x03\0\0\0\x01\0\x02");
-    reading(b"3 before 4", b"LH\0\x02\0\x01LC\x02\0\0\0\x01");
-    reading(b"3 before 5", b"LH\0\x02\0\x01LC\x03\0\0\0\x01\0\x02");
-    reading(b"3 before 6", b"LH\0\x02\0\x01LC\x03\0\x01\0\0\0\x01");
-    reading(b"3 before 8", b"LH\0\x03\0\0");
-    reading(b"3 before 9", b"LH\0\x03\0\0LC\x03\0\0\0\x01\0\x02");
+    readings(
+        b"3 before 1|LH\0\x02|\
+        3 before 2|LH\0\x02\0\x01LX\x03\0\0\0\x01\0\x02|\
+        3 before 4|LH\0\x02\0\x01LC\x02\0\0\0\x01|\
+        3 before 5|LH\0\x02\0\x01LC\x03\0\0\0\x01\0\x02|\
+        3 before 6|LH\0\x02\0\x01LC\x03\0\x01\0\0\0\x01|\
+        3 before 8|LH\0\x03\0\0|\
+        3 before 9|LH\0\x03\0\0LC\x03\0\0\0\x01\0\x02|",
+    );
 }
 
 fn degrees_first() {
-    reading(b"4 before 1", b"LH\0\x03\0\x01LC\x02");
-    reading(
-        b"4 before 2",
-        b"LH\0\x03\0\x02LC\x02\0\0\0\x01LX\x03\0\0\0\x01\0\x02",
+    readings(
+        b"4 before 1|LH\0\x03\0\x01LC\x02|\
+        4 before 2|LH\0\x03\0\x02LC\x02\0\0\0\x01LX\x03\0\0\0\x01\0\x02|\
+        4 before 5|LH\0\x03\0\x01LC\x02\0\0\0\x03|\
+        4 before 6|LH\0\x03\0\x01LC\x02\0\x01\0\0|\
+        4 before 8|LH\0\x04\0\x01LC\x02\0\0\0\x01|\
+        4 before 9|LH\0\x03\0\x01LC\x02\0\0\0\x01\0|",
     );
-    reading(b"4 before 5", b"LH\0\x03\0\x01LC\x02\0\0\0\x03");
-    reading(b"4 before 6", b"LH\0\x03\0\x01LC\x02\0\x01\0\0");
-    reading(b"4 before 8", b"LH\0\x04\0\x01LC\x02\0\0\0\x01");
-    reading(b"4 before 9", b"LH\0\x03\0\x01LC\x02\0\0\0\x01\0");
 }
 
 fn large_indices_first() {
-    reading(b"5 before 1", b"LH\0\x03\0\x01LC\x03\0\x03");
-    reading(
-        b"5 before 2",
-        b"LH\0\x03\0\x02LC\x03\0\0\0\x01\0\x03LX\x03\0\0\0\x01\0\x02",
+    readings(
+        b"5 before 1|LH\0\x03\0\x01LC\x03\0\x03|\
+        5 before 2|LH\0\x03\0\x02LC\x03\0\0\0\x01\0\x03LX\x03\0\0\0\x01\0\x02|\
+        5 before 4|LH\0\x03\0\x02LC\x03\0\0\0\x01\0\x03LC\x02\0\0\0\x01|\
+        5 before 6|LH\0\x03\0\x01LC\x03\0\x03\0\0\0\x01|\
+        5 before 8|LH\0\x04\0\x01LC\x03\0\0\0\x01\0\x04|\
+        5 before 9|LH\0\x03\0\x01LC\x03\0\0\0\x01\0\x03\0|",
     );
-    reading(
-        b"5 before 4",
-        b"LH\0\x03\0\x02LC\x03\0\0\0\x01\0\x03LC\x02\0\0\0\x01",
-    );
-    reading(b"5 before 6", b"LH\0\x03\0\x01LC\x03\0\x03\0\0\0\x01");
-    reading(b"5 before 8", b"LH\0\x04\0\x01LC\x03\0\0\0\x01\0\x04");
-    reading(b"5 before 9", b"LH\0\x03\0\x01LC\x03\0\0\0\x01\0\x03\0");
 }
 
 fn falling_indices_first() {
-    reading(b"6 before 1", b"LH\0\x03\0\x01LC\x03\0\x01\0\0");
-    reading(
-        b"6 before 2",
-        b"LH\0\x03\0\x02LC\x03\0\x01\0\0\0\x02LX\x03\0\0\0\x01\0\x02",
+    readings(
+        b"6 before 1|LH\0\x03\0\x01LC\x03\0\x01\0\0|\
+        6 before 2|LH\0\x03\0\x02LC\x03\0\x01\0\0\0\x02LX\x03\0\0\0\x01\0\x02|\
+        6 before 4|LH\0\x03\0\x02LC\x03\0\x01\0\0\0\x02LC\x02\0\0\0\x01|\
+        6 before 5|LH\0\x03\0\x01LC\x03\0\x01\0\0\0\x03|\
+        6 before 8|LH\0\x04\0\x01LC\x03\0\x01\0\0\0\x02|\
+        6 before 9|LH\0\x03\0\x01LC\x03\0\x01\0\0\0\x02\0|",
     );
-    reading(
-        b"6 before 4",
-        b"LH\0\x03\0\x02LC\x03\0\x01\0\0\0\x02LC\x02\0\0\0\x01",
-    );
-    reading(b"6 before 5", b"LH\0\x03\0\x01LC\x03\0\x01\0\0\0\x03");
-    reading(b"6 before 8", b"LH\0\x04\0\x01LC\x03\0\x01\0\0\0\x02");
-    reading(b"6 before 9", b"LH\0\x03\0\x01LC\x03\0\x01\0\0\0\x02\0");
 }
 
 fn bytes_after_first() {
-    reading(b"9 before 8", b"LH\0\x04\0\x01LC\x03\0\0\0\x01\0\x02\0");
+    readings(b"9 before 8|LH\0\x04\0\x01LC\x03\0\0\0\x01\0\x02\0|");
 }
 
 fn large(label: &[u8], bits: usize, last: &[u8]) {
