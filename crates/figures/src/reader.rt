@@ -1,13 +1,14 @@
 // The reader: each cause, each order between two causes that can meet, and the edges of the ranges.
 ghost use Prim.Native.Nat.{_≤_};
 use crate::codes;
+use crate::examples::Example;
+use crate::examples::each;
 use crate::show::reading;
-use crate::show::readings;
 use crate::show::title;
 
 fn causes() {
     title(b"reader: each cause");
-    readings(
+    each(
         b"accepted|LH\0\x03\0\x01LC\x03\0\0\0\x01\0\x02|\
         no byte||\
         half a mark|L|\
@@ -27,18 +28,20 @@ fn causes() {
         lower index|LH\0\x03\0\x01LC\x03\0\x01\0\0\0\x02|\
         bit 3 in no check|LH\0\x04\0\x01LC\x03\0\0\0\x01\0\x02|\
         a byte after the last check|LH\0\x03\0\x01LC\x03\0\0\0\x01\0\x02\0|",
+        Example::Reading,
     );
 }
 
 fn cut_first() {
-    readings(
+    each(
         b"1 before 2|X|\
         1 before 8|LH\0\x04\0\x01LC\x03\0\0|",
+        Example::Reading,
     );
 }
 
 fn marks_first() {
-    readings(
+    each(
         b"2 before 1|LX|\
         2 before 3|LX\0\x02|\
         2 before 4|LH\0\x03\0\x01LX\x02\0\0\0\x01|\
@@ -46,11 +49,12 @@ fn marks_first() {
         2 before 6|LH\0\x03\0\x01LX\x03\0\x01\0\0\0\x02|\
         2 before 8|LH\0\x04\0\x01LX\x03\0\0\0\x01\0\x02|\
         2 before 9|LH\0\x03\0\x01LX\x03\0\0\0\x01\0\x02\0|",
+        Example::Reading,
     );
 }
 
 fn sizes_first() {
-    readings(
+    each(
         b"3 before 1|LH\0\x02|\
         3 before 2|LH\0\x02\0\x01LX\x03\0\0\0\x01\0\x02|\
         3 before 4|LH\0\x02\0\x01LC\x02\0\0\0\x01|\
@@ -58,61 +62,71 @@ fn sizes_first() {
         3 before 6|LH\0\x02\0\x01LC\x03\0\x01\0\0\0\x01|\
         3 before 8|LH\0\x03\0\0|\
         3 before 9|LH\0\x03\0\0LC\x03\0\0\0\x01\0\x02|",
+        Example::Reading,
     );
 }
 
 fn degrees_first() {
-    readings(
+    each(
         b"4 before 1|LH\0\x03\0\x01LC\x02|\
         4 before 2|LH\0\x03\0\x02LC\x02\0\0\0\x01LX\x03\0\0\0\x01\0\x02|\
         4 before 5|LH\0\x03\0\x01LC\x02\0\0\0\x03|\
         4 before 6|LH\0\x03\0\x01LC\x02\0\x01\0\0|\
         4 before 8|LH\0\x04\0\x01LC\x02\0\0\0\x01|\
         4 before 9|LH\0\x03\0\x01LC\x02\0\0\0\x01\0|",
+        Example::Reading,
     );
 }
 
 fn large_indices_first() {
-    readings(
+    each(
         b"5 before 1|LH\0\x03\0\x01LC\x03\0\x03|\
         5 before 2|LH\0\x03\0\x02LC\x03\0\0\0\x01\0\x03LX\x03\0\0\0\x01\0\x02|\
         5 before 4|LH\0\x03\0\x02LC\x03\0\0\0\x01\0\x03LC\x02\0\0\0\x01|\
         5 before 6|LH\0\x03\0\x01LC\x03\0\x03\0\0\0\x01|\
         5 before 8|LH\0\x04\0\x01LC\x03\0\0\0\x01\0\x04|\
         5 before 9|LH\0\x03\0\x01LC\x03\0\0\0\x01\0\x03\0|",
+        Example::Reading,
     );
 }
 
 fn falling_indices_first() {
-    readings(
+    each(
         b"6 before 1|LH\0\x03\0\x01LC\x03\0\x01\0\0|\
         6 before 2|LH\0\x03\0\x02LC\x03\0\x01\0\0\0\x02LX\x03\0\0\0\x01\0\x02|\
         6 before 4|LH\0\x03\0\x02LC\x03\0\x01\0\0\0\x02LC\x02\0\0\0\x01|\
         6 before 5|LH\0\x03\0\x01LC\x03\0\x01\0\0\0\x03|\
         6 before 8|LH\0\x04\0\x01LC\x03\0\x01\0\0\0\x02|\
         6 before 9|LH\0\x03\0\x01LC\x03\0\x01\0\0\0\x02\0|",
+        Example::Reading,
     );
 }
 
 fn bytes_after_first() {
-    readings(b"9 before 8|LH\0\x04\0\x01LC\x03\0\0\0\x01\0\x02\0|");
-}
-
-fn large(label: &[u8], bits: usize, last: &[u8]) {
-    let mut code = io::large_buffer();
-    let n = codes::large(&mut code, bits, last);
-    reading(label, &code[0..n]);
+    each(
+        b"9 before 8|LH\0\x04\0\x01LC\x03\0\0\0\x01\0\x02\0|",
+        Example::Reading,
+    );
 }
 
 fn many_triples() {
-    large(b"1 before 7", 32, b"LC");
-    large(b"2 before 7", 32, b"LX");
-    large(b"3 before 7", 4097, b"LC\x03\0\0\0\x01\0\x02");
-    large(b"4 before 7", 32, b"LC\x02");
-    large(b"5 before 7", 32, b"LC\x03\0\x20");
-    large(b"6 before 7", 32, b"LC\x03\0\0\0\0");
-    large(b"9 before 7", 32, b"LC\x03\0\0\0\x01\0\x02\0");
-    large(b"7 before 8", 33, b"LC\x03\0\0\0\x01\0\x02");
+    each(
+        b"1 before 7|LC|\
+        2 before 7|LX|\
+        4 before 7|LC\x02|\
+        5 before 7|LC\x03\0\x20|\
+        6 before 7|LC\x03\0\0\0\0|\
+        9 before 7|LC\x03\0\0\0\x01\0\x02\0|",
+        Example::ManyTriples(32),
+    );
+    each(
+        b"3 before 7|LC\x03\0\0\0\x01\0\x02|",
+        Example::ManyTriples(4097),
+    );
+    each(
+        b"7 before 8|LC\x03\0\0\0\x01\0\x02|",
+        Example::ManyTriples(33),
+    );
 }
 
 // `count` checks of one degree, each from the bit `step` behind the one before it.
@@ -125,7 +139,7 @@ fn edge(label: &[u8], bits: usize, count: usize, degree: usize, step: usize)
     reading(label, &code[0..n]);
 }
 
-// 273 checks of degree 32, and one of degree `last`.
+// 273 checks of degree 32, which have 8,190 triples, and one of degree `last`.
 fn most_triples(label: &[u8], last: usize)
     requires { ⌜ last ≤ 255 ⌝ }
 {

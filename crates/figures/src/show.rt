@@ -1,6 +1,4 @@
 // What is printed: a label, and the answer behind it.
-ghost use Prim.Native.Nat.{_≤_};
-ghost use lib.ListN.{length};
 use model::Reading;
 
 pub fn text(s: &[u8]) {
@@ -55,37 +53,18 @@ pub fn reading(label: &[u8], code: &[u8]) {
     text(b"\n");
 }
 
-// The place of the next bar from `at` on, or the end.
-fn bar(s: &[u8], at: usize) -> usize
-    requires { ⌜ at ≤ length (now s) ⌝ }
-    ensures { λ r. ⌜ (at ≤ r) × (r ≤ length (now (s .entry))) ⌝ }
-{
-    let mut i = at;
-    while i < s.len() {
-        if s[i] == b'|' {
-            return i;
+// The splitting's number, and both lists after it: of so many entries, at most 16, each 9 before.
+pub fn splitting(label: &[u8], code: &[u8], triples: usize, counts: usize) {
+    if triples <= 16 {
+        if counts <= 16 {
+            let mut t = [9u16; 16];
+            let mut c = [9u16; 16];
+            split(label, code, &mut t[0..triples], &mut c[0..counts]);
         }
-        i += 1;
-    }
-    i
-}
-
-// The readings of several codes: label, bar, bytes, bar, and the next.
-pub fn readings(s: &[u8]) {
-    let mut at = 0usize;
-    while at < s.len() {
-        let middle = bar(s, at);
-        if middle == s.len() {
-            return;
-        }
-        let end = bar(s, middle + 1);
-        reading(&s[at..middle], &s[middle + 1..end]);
-        at = end + 1;
     }
 }
 
-// The splitting's number, and both lists after it.
-pub fn splitting(label: &[u8], code: &[u8], triples: &mut [u16], counts: &mut [u16]) {
+fn split(label: &[u8], code: &[u8], triples: &mut [u16], counts: &mut [u16]) {
     let cause = triples::split(code, triples, counts);
     text(label);
     text(b":");

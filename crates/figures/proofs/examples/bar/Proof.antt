@@ -1,9 +1,9 @@
--- `figures::show::bar` meets its contract. Assumes nothing.
+-- `figures::examples::bar` meets its contract. Assumes nothing.
 use Prim.Native.Nat.{_-_, _≤_}
 use native.Mathlib.Omega.{arith}
 use lib.ListN.{length}
-use Rattle.figures.proofs.show.bar.Statement.{statement}
-use Rattle.figures.proofs.show.bar.Tie as tie
+use Rattle.figures.proofs.examples.bar.Statement.{statement}
+use Rattle.figures.proofs.examples.bar.Tie as tie
 
 abbrev Inv-loop : tie.InvT-loop
 Inv-loop s at i₀ i = (at ≤ i) × (i ≤ length s)
