@@ -29,6 +29,10 @@ abs-fits {w} {z} f = natAbs-le z (f .sfits)
 pub widen : {w w′ : Width} {z : ℤ} → SFits w z → T (leb (hbits w) (hbits w′)) → SFits w′ z
 widen {w} {w′} f t = record { sfits = lt-of-lt-of-le (f .sfits) (pow-mono (leb→le (hbits w) (hbits w′) t)) }
 
+-- a parameter, an element of a list or a call's result goes through its bits, and is what it was
+pub kept : (w : Width) (z : ℤ) → mag z < 2 ^ hbits w → toZ w (ofZ w z) ≡ z
+kept w z f = toZ-ofZ {w = w} (record { sfits = f })
+
 -- ---- what an expression is worth
 pub record Worth (raw z : ℤ) (b : ℕ) : Type 0 where
   pub is : raw ≡ z
@@ -45,13 +49,20 @@ module _ {raw z : ℤ} {b : ℕ} (v : Worth raw z b) where
   pub stored : (w : Width) → T (ltb b (2 ^ hbits w)) → Worth (toZ w (ofZ w raw)) z b
   stored w t = record { is = toZ-ofZ {w = w} (fits w t) ∙ v .is; within = v .within }
 
--- a parameter, an element of a list or a call's result, of which is known that it fits its width
+-- such a value that is known to be z, and with its bound
+pub read-back : (w : Width) {r z : ℤ} → mag r < 2 ^ hbits w → r ≡ z → toZ w (ofZ w r) ≡ z
+read-back w {r} f e = kept w r f ∙ e
+
 pub local : (w : Width) {r z : ℤ} (b : ℕ) → mag r < 2 ^ hbits w → r ≡ z → natAbs z ≤ b → Worth (toZ w (ofZ w r)) z b
-local w b f e h = record { is = toZ-ofZ {w = w} (record { sfits = f }) ∙ e; within = h }
+local w b f e h = record { is = read-back w f e; within = h }
 
 -- an unsigned number, cast
 pub unsigned : (w : Width) (n b : ℕ) → T (ltb b (2 ^ hbits w)) → n ≤ b → Worth (toZ w n) (pos n) b
 unsigned w n b t h = record { is = toZ-pos w (lt-of-le-of-lt h (ltb→lt b (2 ^ hbits w) t)); within = h }
+
+-- a number of which only the magnitude's bound is known
+pub held : (w : Width) (z : ℤ) (b : ℕ) → T (ltb b (2 ^ hbits w)) → natAbs z ≤ b → Worth (toZ w (ofZ w z)) z b
+held w z b t h = stored (record { is = refl; within = h }) w t
 
 pub literal : (z : ℤ) → Worth z z (natAbs z)
 literal z = record { is = refl; within = omega arith }
@@ -60,8 +71,8 @@ literal z = record { is = refl; within = omega arith }
 pub also : {raw z y : ℤ} {b : ℕ} → Worth raw z b → z ≡ y → Worth raw y b
 also v e = record { is = v .is ∙ e; within = rw e at (v .within) }
 
-pub opposite : {x a : ℤ} {m : ℕ} → Worth x a m → Worth (pos 0 -ℤ x) (negℤ a) m
-opposite {a} v = record { is = ap (λ (z : ℤ). pos 0 -ℤ z) (v .is) ∙ +ℤ-idl (negℤ a); within = rw (abs-neg a) (v .within) }
+pub negative : {x a : ℤ} {m : ℕ} → Worth x a m → Worth (pos 0 -ℤ x) (negℤ a) m
+negative {a} v = record { is = ap (λ (z : ℤ). pos 0 -ℤ z) (v .is) ∙ +ℤ-idl (negℤ a); within = rw (abs-neg a) (v .within) }
 
 module _ {x y a b : ℤ} {m n : ℕ} (u : Worth x a m) (v : Worth y b n) where
   pub plus : Worth (x +ℤ y) (a +ℤ b) (m + n)

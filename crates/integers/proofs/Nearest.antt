@@ -2,7 +2,8 @@
 use mathlib.Core.Path.{_≡_}
 use Prim.Native.Nat.{ℕ, suc, _+_, _*_, _%_, _≤_, _<_}
 use native.Mathlib.Omega.{arith, by-contra}
-use native.Mathlib.Nat.{div-add-mod', mod-lt, mul-le-mul-left, le-antisymm}
+use native.Mathlib.Nat.{div-add-mod', mod-lt, mul-le-mul-left, mul-le-mul-right, le-antisymm}
+use lib.Ieee.Nearest.{div-same, div-mono}
 use Rattle.integers.specs.Nearest.{nearest, Nearest}
 
 pub nearest-is : (n d : ℕ) → 0 < d → Nearest n d (nearest n d)
@@ -17,3 +18,11 @@ nearest-le n d q r a b = by-contra q r (λ k. let t : d * suc r ≤ d * q = mul-
 
 pub nearest-only : (n d q : ℕ) → 0 < d → Nearest n d q → nearest n d ≡ q
 nearest-only n d q h a = le-antisymm (nearest-le n d _ q (nearest-is n d h) a) (nearest-le n d q _ a (nearest-is n d h))
+
+-- of two equal fractions
+pub nearest-same : (n d k p : ℕ) → 0 < d → 0 < p → n * p ≡ k * d → nearest n d ≡ nearest k p
+nearest-same n d k p h l e = div-same (2 * n + d) (2 * d) (2 * k + p) (2 * p) (omega arith) (omega arith) (omega arith)
+
+-- of n / d and a larger fraction
+pub nearest-mono : (n k d : ℕ) → 0 < d → n ≤ k → nearest n d ≤ nearest k d
+nearest-mono n k d h l = div-mono (2 * n + d) (2 * d) (2 * k + d) (2 * d) (omega arith) (omega arith) (mul-le-mul-right (2 * d) (omega arith))

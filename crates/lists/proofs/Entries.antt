@@ -1,14 +1,16 @@
 -- Tests and sums of a list's entries, and the first index that passes. Assumes nothing.
-use mathlib.Core.Path.{_≡_, refl, sym, ap, subst}
-use mathlib.Core.Bool.{Bool, true, false, cond, _&&_}
+use mathlib.Core.Path.{_≡_, refl, sym, ap, subst, _∙_}
+use mathlib.Core.Bool.{Bool, true, false, not, cond, _&&_, _||_, or-assoc, or-false}
 use mathlib.Core.List.{List, [], _∷_, _++_}
 use Prim.Native.Nat.{ℕ, zero, suc, _+_, _≤_, _<_}
+use native.Mathlib.Numerals.{add-one}
 use native.Mathlib.Omega.{arith}
-use lib.Dec.{T}
-use lib.ListN.{length, getD, drop}
+use borrow.Author.Tests.{ltb-true, ltb-false}
+use lib.Dec.{T, ltb}
+use lib.ListN.{length, getD, drop, drop-of-length-le}
 use lib.Seq.{drop-cons}
 use Rattle.lists.specs.Tabulated.{tab}
-use Rattle.lists.specs.Entries.{every, total, first}
+use Rattle.lists.specs.Entries.{every, some, total, first}
 
 -- ---- every
 module _ {A : Type 0} (f : A → Bool) where
@@ -35,6 +37,39 @@ module _ {A : Type 0} (f : A → Bool) where
       by true p e (suc i) h ih = ih i d e (omega arith)
       by false p e i h ih = absurd (subst T (sym e) tt)
 
+  -- none fails
+  pub every-some : (l : List A) → every f l ≡ not (some (λ x. not (f x)) l)
+  every-some [] = refl
+  every-some (x ∷ l) = rw (every-some l) (by (f x) (some (λ x. not (f x)) l))
+    where
+      by : (a b : Bool) → (a && not b) ≡ not (not a || b)
+      by true b = refl
+      by false b = refl
+
+-- ---- some
+module _ {A : Type 0} (f : A → Bool) where
+  -- of a loop that looks at each entry: what was found before i, or is to be found from i on, decides
+  abbrev pub Found : List A → Bool → ℕ → Type 0
+  Found l found i = (found || some f (drop i l)) ≡ some f l
+
+  pub found-next : (l : List A) (found : Bool) (i : ℕ) (d : A) → i < length l → Found l found i → Found l (found || f (getD l i d)) (i + 1)
+  found-next l found i d h e =
+      rw (add-one i) (or-assoc found (f (getD l i d)) (some f (drop (suc i) l)) ∙ ap (λ (k : List A). found || some f k) (sym (drop-cons l i d h)) ∙ e)
+
+  pub found-end : (l : List A) (found : Bool) (i : ℕ) → length l ≤ i → Found l found i → found ≡ some f l
+  found-end l found i h e = sym (or-false found) ∙ ap (λ (k : List A). found || some f k) (sym (drop-of-length-le l h)) ∙ e
+
+  -- where none passes, each entry fails
+  pub some-at : (l : List A) (i : ℕ) (d : A) → some f l ≡ false → i < length l → f (getD l i d) ≡ false
+  some-at [] i d e h = absurd (omega arith)
+  some-at (x ∷ l) i d e h = by (f x) refl e i h (some-at l)
+    where
+      by : (t : Bool) → f x ≡ t → (t || some f l) ≡ false → (i : ℕ) → i < suc (length l) → ((i : ℕ) (d : A) → some f l ≡ false → i < length l → f (getD l i d) ≡ false)
+          → f (getD (x ∷ l) i d) ≡ false
+      by false p e zero h ih = p
+      by false p e (suc i) h ih = ih i d e (omega arith)
+      by true p e i h ih = absurd (subst T e tt)
+
 -- tests that agree on the entries
 pub every-same : {A : Type 0} (n : ℕ) (h : ℕ → A) (f g : A → Bool) → ((i : ℕ) → i < n → f (h i) ≡ g (h i)) → every f (tab n h) ≡ every g (tab n h)
 every-same zero h f g e = refl
@@ -53,6 +88,14 @@ module _ {A : Type 0} where
   pub total-same : (f g : A → ℕ) → ((x : A) → f x ≡ g x) → (l : List A) → total f l ≡ total g l
   total-same f g e [] = refl
   total-same f g e (x ∷ l) = rw (e x, total-same f g e l)
+
+-- ---- what holds below i, and at i
+pub below-next : (P : ℕ → Type 0) (i : ℕ) → ((j : ℕ) → j < i → P j) → P i → (j : ℕ) → j < i + 1 → P j
+below-next P i h e j l = by (ltb j i) refl
+  where
+    by : (t : Bool) → ltb j i ≡ t → P j
+    by true p = h j (ltb-true j i p)
+    by false p = let same : i ≡ j = omega (arith, ltb-false j i p) in subst P same e
 
 -- ---- first
 pub first-at : (n : ℕ) (f : ℕ → Bool) (i : ℕ) → i < n → ((j : ℕ) → j < i → f j ≡ false) → f i ≡ true → first n f ≡ i

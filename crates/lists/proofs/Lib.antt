@@ -1,12 +1,14 @@
 -- Laws of lists. For a loop that fills or changes a lent list, the invariant is the contract's own equation at the index i:
 --
---   `over i f old`, from the front, one store a turn            over-next (start: refl; end: over-tab or over-all)
+--   `over i f old`, from the front, one store a turn            over-next, over-stored (start: refl; end: over-tab, over-map or over-all)
 --   `over n f old`, a store anywhere below n, f changing        over-set
 --   reading it again                                            over-in, over-out; its length: length-over
 --   one loop after another over the same entries                over-over
 --
--- A loop that tests the entries keeps `every f (drop i l) ≡ every f l` (every-next, every-stop, every-end), and one that searches
--- keeps `(j : ℕ) → j < i → f j ≡ false` (first-at, first-none). What a loan of `&s[k..]` is: `Parts`.
+-- A loop that tests the entries keeps `every f (drop i l) ≡ every f l` (every-next, every-stop, every-end), or, where it goes on after one
+-- that passes, `Found f l found i` (start: refl; found-next, found-end). One that searches keeps `(j : ℕ) → j < i → f j ≡ false` (below-next,
+-- first-at, first-none). What a loan of `&s[k..]` is: `Parts`.
 pub mod Tabulated
 pub mod Entries
 pub mod Parts
+pub mod Tests

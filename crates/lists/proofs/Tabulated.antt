@@ -1,11 +1,16 @@
 -- Lists given by their entries. Assumes nothing.
-use mathlib.Core.Path.{_≡_, refl, sym, ap, ap₂, _∙_}
+use mathlib.Core.List.{List, [], _∷_, _++_, map, append-nil}
 use mathlib.Core.Logic.{_≢_}
-use mathlib.Core.List.{List, [], _∷_, _++_}
+use mathlib.Core.Path.{_≡_, refl, sym, ap, ap₂, _∙_}
 use Prim.Native.Nat.{ℕ, zero, suc, _+_, _-_, _≤_, _<_}
+use native.Mathlib.Numerals.{add-one}
 use native.Mathlib.Omega.{arith}
-use lib.ListN.{length, getD, drop, set, length-append, length-drop, List·getD-append}
-use lib.Seq.{drop-at, set-append-left, getD-append-add, getD-drop}
+use lib.IntN.{ℤ}
+use lib.ListN.{length, getD, drop, set, replicate, length-append, length-drop, length-map, drop-of-length-le, List·getD-append}
+use lib.Seq.{getD-drop, getD-append-add, drop-at, sets, set-append-left}
+use mir.Facts.{toZ-ofZ}
+use mir.Syntax.{Width}
+use mir.Val.{toZ, ofZ, SFits}
 use Rattle.lists.specs.Tabulated.{tab, over, written}
 
 module _ {ℓ} {A : Type ℓ} where
@@ -24,11 +29,16 @@ module _ {ℓ} {A : Type ℓ} where
   tab-same (suc n) f g h = ap₂ _∷_ (h 0 (omega arith)) (tab-same n (λ k. f (suc k)) (λ k. g (suc k)) (λ i l. h (suc i) (omega arith)))
 
   -- a list is given by its entries
+  pub tab-replicate : (n : ℕ) (x : A) → tab n (λ _. x) ≡ replicate n x
+  tab-replicate zero x = refl
+  tab-replicate (suc n) x = ap (λ l. x ∷ l) (tab-replicate n x)
+
   pub tab-getD : (l : List A) (d : A) → tab (length l) (λ i. getD l i d) ≡ l
   tab-getD [] d = refl
   tab-getD (x ∷ l) d = ap (_∷_ x) (tab-getD l d)
 
-  tab-set : (n : ℕ) (f g : ℕ → A) (v : ℕ) (x : A) → v < n → g v ≡ x → ((u : ℕ) → u < n → u ≢ v → g u ≡ f u) → set (tab n f) v x ≡ tab n g
+  -- one store
+  pub tab-set : (n : ℕ) (f g : ℕ → A) (v : ℕ) (x : A) → v < n → g v ≡ x → ((u : ℕ) → u < n → u ≢ v → g u ≡ f u) → set (tab n f) v x ≡ tab n g
   tab-set zero f g v x h e k = absurd (omega arith)
   tab-set (suc n) f g zero x h e k =
       ap₂ _∷_ (sym e) (tab-same n (λ i. f (suc i)) (λ i. g (suc i)) (λ i l. sym (k (suc i) (omega arith) (λ p. omega arith))))
@@ -56,6 +66,17 @@ module _ {ℓ} {A : Type ℓ} where
   over-next zero f (y ∷ old) x h e = rw e
   over-next (suc n) f (y ∷ old) x h e = ap (_∷_ (f 0)) (over-next n (λ k. f (suc k)) old x (omega arith) e)
 
+  -- k stores there
+  pub over-sets : (k n : ℕ) (f : ℕ → A) (old : List A) → n + k ≤ length old → sets (over n f old) n (tab k (λ i. f (n + i))) ≡ over (n + k) f old
+  over-sets zero n f old h = let z : n + 0 ≡ n = omega arith in rw z
+  over-sets (suc k) n f old h =
+      let z : f n ≡ f (n + 0) = ap f (omega arith) in
+      let m : suc n + k ≡ n + suc k = omega arith in
+      ap (λ (l : List A). sets l (suc n) (tab k (λ i. f (n + suc i)))) (over-next n f old (f (n + 0)) (omega arith) z)
+      ∙ ap (sets (over (suc n) f old) (suc n)) (tab-same k (λ i. f (n + suc i)) (λ i. f (suc n + i)) (λ i l. ap f (omega arith)))
+      ∙ over-sets k (suc n) f old (omega arith)
+      ∙ ap (λ (j : ℕ). over j f old) m
+
   -- three of them
   pub over-three : (n : ℕ) (f : ℕ → A) (old : List A) (x y z : A) → n + 3 ≤ length old → f n ≡ x → f (n + 1) ≡ y → f (n + 2) ≡ z
       → set (set (set (over n f old) n x) (n + 1) y) (n + 2) z ≡ over (n + 3) f old
@@ -80,7 +101,22 @@ module _ {ℓ} {A : Type ℓ} where
   pub over-over : (n : ℕ) (f g : ℕ → A) (old : List A) → over n f (over n g old) ≡ over n f old
   over-over n f g old = ap (λ (l : List A). tab n f ++ l) (drop-at (tab n g) (drop n old) n (length-tab n g))
 
+  -- all of it
+  pub over-self : (n : ℕ) (l : List A) (d : A) → n ≤ length l → over n (λ i. getD l i d) l ≡ l
+  over-self zero l d h = refl
+  over-self (suc n) [] d h = absurd (omega arith)
+  over-self (suc n) (x ∷ l) d h = ap (λ k. x ∷ k) (over-self n l d (omega arith))
+
+  pub over-whole : (n : ℕ) (f : ℕ → A) (old : List A) → length old ≤ n → over n f old ≡ tab n f
+  over-whole n f old h = rw (drop-of-length-le old h) (append-nil (tab n f))
+
   -- ---- written
+  pub tab-over : (n N : ℕ) (f g h : ℕ → A) → n ≤ N → ((i : ℕ) → i < n → f i ≡ h i) → ((i : ℕ) → n ≤ i → g i ≡ h i) → over n f (tab N g) ≡ tab N h
+  tab-over zero N f g h l p q = tab-same N g h (λ i k. q i (omega arith))
+  tab-over (suc n) zero f g h l p q = absurd (omega arith)
+  tab-over (suc n) (suc N) f g h l p q =
+      ap₂ _∷_ (p 0 (omega arith)) (tab-over n N (λ i. f (suc i)) (λ i. g (suc i)) (λ i. h (suc i)) (omega arith) (λ i k. p (suc i) (omega arith)) (λ i k. q (suc i) (omega arith)))
+
   pub over-tab : (n : ℕ) (f : ℕ → A) (old : List A) → over n f old ≡ written (tab n f) old
   over-tab n f old = rw (length-tab n f)
 
@@ -92,3 +128,16 @@ module _ {ℓ} {A : Type ℓ} where
 
   pub written-in : (l old : List A) (i : ℕ) (d : A) → i < length l → getD (written l old) i d ≡ getD l i d
   written-in l old i d h = List·getD-append l (drop (length l) old) d i h
+
+-- ---- of signed numbers, which the code stores through their bits
+pub over-stored : (w : Width) (n : ℕ) (f : ℕ → ℤ) (old : List ℤ) (r : ℤ) → n < length old → SFits w r → r ≡ f n
+    → set (over n f old) n (toZ w (ofZ w r)) ≡ over (n + 1) f old
+over-stored w n f old r h k e = rw (add-one n) (over-next n f old (toZ w (ofZ w r)) h (sym (toZ-ofZ k ∙ e)))
+
+-- ---- a function of each entry
+pub tab-map : {A B : Type 0} (g : A → B) (l : List A) (d : A) → tab (length l) (λ i. g (getD l i d)) ≡ map g l
+tab-map g [] d = refl
+tab-map g (x ∷ l) d = ap (_∷_ (g x)) (tab-map g l d)
+
+pub over-map : {A B : Type 0} (g : A → B) (l : List A) (d : A) (old : List B) → over (length l) (λ i. g (getD l i d)) old ≡ written (map g l) old
+over-map g l d old = rw (length-map l g, tab-map g l d)

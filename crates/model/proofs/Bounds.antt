@@ -26,12 +26,9 @@ use Rattle.model.specs.Run.{squareOfChange, changes, start, after}
 use Rattle.model.specs.Bounds.{RowsWithin, Ready, Bounds}
 use Rattle.model.proofs.Causes.{within, or-false}
 use Rattle.model.proofs.TripleRule.{occurs-some, occurs-few}
-use Rattle.model.proofs.Rows.{sign-one, at-tab, none, row-renewed}
+use Rattle.model.proofs.Rows.{signed-abs, at-tab, none, row-renewed}
 
 -- ---- the four sums, and a row's renewal
-term : (r p : ℕ) (c : ℤ) → r < 4 → p < 3 → natAbs c ≤ unit → natAbs (sign r p *ℤ c) ≤ unit
-term r p c h l k = rw (abs-mul (sign r p) c, sign-one r p h l) (omega arith)
-
 pub rowSum-bound : (r : ℕ) (a b c : ℤ) → r < 4 → natAbs a ≤ unit → natAbs b ≤ unit → natAbs c ≤ unit → natAbs (rowSum r a b c) ≤ 49152
 unfolding rowSum
 rowSum-bound r a b c h x y z =
@@ -39,35 +36,45 @@ rowSum-bound r a b c h x y z =
       arith,
       abs-add (sign r 0 *ℤ a +ℤ sign r 1 *ℤ b) (sign r 2 *ℤ c),
       abs-add (sign r 0 *ℤ a) (sign r 1 *ℤ b),
-      term r 0 a h (omega arith) x,
-      term r 1 b h (omega arith) y,
-      term r 2 c h (omega arith) z,
+      signed-abs r 0 a h (omega arith),
+      signed-abs r 1 b h (omega arith),
+      signed-abs r 2 c h (omega arith),
     )
 
 module _ (s sum : ℤ) (small : natAbs sum ≤ 49152) where
   parts : up (renewed s sum) + (dn sum + unit) ≡ (multiplier s + up sum) + dn (renewed s sum)
   parts = omega (arith, about-sum (pos (multiplier s)) sum, about-sum (pos (multiplier s) +ℤ sum) (negℤ (pos unit)))
 
-  renewed-multiplier : multiplier (renewed s sum) ≤ multiplier s + 32768
+  pub renewed-multiplier : multiplier (renewed s sum) ≤ multiplier s + 32768
   renewed-multiplier = omega (arith, parts, about sum, about (renewed s sum))
 
-  renewed-slack : slack (renewed s sum) ≤ 65536
+  pub renewed-slack : slack (renewed s sum) ≤ 65536
   renewed-slack = omega (arith, parts, about sum, about (renewed s sum))
 
-  multiplier-change : natAbs (pos (multiplier (renewed s sum)) -ℤ pos (multiplier s)) ≤ 65536
+  pub multiplier-change : natAbs (pos (multiplier (renewed s sum)) -ℤ pos (multiplier s)) ≤ 65536
   multiplier-change = abs-difference (multiplier (renewed s sum)) (multiplier s) 65536 (omega (arith, renewed-multiplier)) (omega (arith, parts, about sum))
 
--- ---- the divisor
-divisor-above : (e A : ℕ) → 1 ≤ e → A ≤ 1023 → pos 0 <ℤ divisor (4 * e) A
-divisor-above e A h k = simp toℕ (omega arith)
-
-divisor-below : (e A : ℕ) → e ≤ 2048 → divisor (4 * e) A ≤ℤ pos 2097152
-divisor-below e A h = simp toℕ (omega arith)
-
--- ---- one iteration
+-- ---- a total, where no part changes by more than 65,536
 square : (a b : ℕ) → natAbs (pos b -ℤ pos a) ≤ 65536 → squareOfChange a b ≤ 4294967296
 square a b h = mul-le-mul h h
 
+pub changes-bound : (part : ℤ → ℕ) (T : ℕ) (old new : List ℤ) → T ≤ 8192
+    → ((t r : ℕ) → t < T → r < 4 → natAbs (pos (part (row new t r)) -ℤ pos (part (row old t r))) ≤ 65536) → changes part T old new ≤ 2 ^ 47
+unfolding changes
+changes-bound part T old new few h =
+    let term : ℕ → ℕ → ℕ = λ t r. squareOfChange (part (row old t r)) (part (row new t r)) in
+    let four : (t : ℕ) → t < T → sumℕ 4 (term t) ≤ 4 * 4294967296
+    = λ t l. sumℕ-bound 4 4294967296 (term t) (λ r k. square (part (row old t r)) (part (row new t r)) (h t r l k)) in
+    omega (arith, sumℕ-bound T (4 * 4294967296) (λ t. sumℕ 4 (term t)) four)
+
+-- ---- the divisor
+pub divisor-above : (e A : ℕ) → 1 ≤ e → A ≤ 1023 → pos 0 <ℤ divisor (4 * e) A
+divisor-above e A h k = simp toℕ (omega arith)
+
+pub divisor-below : (e A : ℕ) → e ≤ 2048 → divisor (4 * e) A ≤ℤ pos 2097152
+divisor-below e A h = simp toℕ (omega arith)
+
+-- ---- one iteration
 module _ (g : System) (o : Settings) (costs : List ℤ) (n : ℕ) (a : State) (ready : Ready g o costs) (within : RowsWithin n (a .rows)) where
   abbrev S : ℕ → ℤ
   S v = sumOf (g .members) (g .triples) (a .rows) v
@@ -84,7 +91,7 @@ module _ (g : System) (o : Settings) (costs : List ℤ) (n : ℕ) (a : State) (r
   share-bound t p l =
       let size : ℕ → ℕ = λ r. slack (row (a .rows) t r) + multiplier (row (a .rows) t r) in
       let each : (r : ℕ) → r < 4 → natAbs (sign r p *ℤ pos (size r)) ≤ 32768 * (n + 2)
-      = λ r h. rw (abs-mul (sign r p) (pos (size r)), sign-one r p h l) (omega (arith, within .multipliers (4 * t + r), within .slacks (4 * t + r))) in
+      = λ r h. rw (signed-abs r p (pos (size r)) h l) (omega (arith, within .multipliers (4 * t + r), within .slacks (4 * t + r))) in
       le-trans (sumℤ-bound 4 (λ r. sign r p *ℤ pos (size r)) (λ _. 32768 * (n + 2)) each) (omega arith)
 
   when-bound : (t : Bool) (z : ℤ) (u : ℕ) → natAbs z ≤ u → natAbs (z when t) ≤ u * (1 if t)
@@ -141,15 +148,6 @@ module _ (g : System) (o : Settings) (costs : List ℤ) (n : ℕ) (a : State) (r
         slacks = each-row (λ s. slack s ≤ 65536) (omega arith) (λ i. renewed-slack (at (a .rows) i) (sum i) (small i));
       }
 
-  total-bound : (part : ℤ → ℕ) → ((t r : ℕ) → t < g .triples → r < 4 → natAbs (pos (part (row (b .rows) t r)) -ℤ pos (part (row (a .rows) t r))) ≤ 65536)
-      → changes part (g .triples) (a .rows) (b .rows) ≤ 2 ^ 47
-  unfolding changes
-  total-bound part h =
-      let term : ℕ → ℕ → ℕ = λ t r. squareOfChange (part (row (a .rows) t r)) (part (row (b .rows) t r)) in
-      let four : (t : ℕ) → t < g .triples → sumℕ 4 (term t) ≤ 4 * 4294967296
-      = λ t l. sumℕ-bound 4 4294967296 (term t) (λ r k. square (part (row (a .rows) t r)) (part (row (b .rows) t r)) (h t r l k)) in
-      omega (arith, sumℕ-bound (g .triples) (4 * 4294967296) (λ t. sumℕ 4 (term t)) four, ready .triples)
-
   pub bounds : Bounds g o costs n a
   unfolding iterate
   bounds = record {
@@ -159,8 +157,8 @@ module _ (g : System) (o : Settings) (costs : List ℤ) (n : ℕ) (a : State) (r
     numerators = numerators;
     values = values;
     rows = rows;
-    multiplier-total = total-bound multiplier (λ t r l k. rw (row-renewed g (a .rows) (b .values) t r l k) (multiplier-change (row (a .rows) t r) (sumAt (g .members) (b .values) t r) (sum-small t r k)));
-    slack-total = total-bound slack (λ t r l k. abs-difference (slack (row (b .rows) t r)) (slack (row (a .rows) t r)) 65536 (omega (arith, rows .slacks (4 * t + r))) (omega (arith, within .slacks (4 * t + r))));
+    multiplier-total = changes-bound multiplier (g .triples) (a .rows) (b .rows) (ready .triples) (λ t r l k. rw (row-renewed g (a .rows) (b .values) t r l k) (multiplier-change (row (a .rows) t r) (sumAt (g .members) (b .values) t r) (sum-small t r k)));
+    slack-total = changes-bound slack (g .triples) (a .rows) (b .rows) (ready .triples) (λ t r l k. abs-difference (slack (row (b .rows) t r)) (slack (row (a .rows) t r)) 65536 (omega (arith, rows .slacks (4 * t + r))) (omega (arith, within .slacks (4 * t + r))));
   }
 
 -- ---- after n iterations

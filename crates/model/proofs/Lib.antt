@@ -11,3 +11,7 @@ pub mod Paper
 pub mod Points
 pub mod Demand3
 pub mod Worked
+pub mod Floats
+pub mod Products
+pub mod Values
+pub mod ChannelClaims

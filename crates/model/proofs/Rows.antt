@@ -5,12 +5,13 @@ use mathlib.Core.List.{List}
 use Prim.Native.Nat.{ℕ, zero, suc, _+_, _*_, _/_, _%_, _<_}
 use native.Mathlib.Decide.{decLt}
 use native.Mathlib.Omega.{arith}
-use lib.IntN.{ℤ, pos, natAbs}
+use lib.IntN.{ℤ, pos, natAbs, _*ℤ_}
 use lib.ListN.{replicate, List·getD-eq-default}
+use Rattle.integers.proofs.Linear.{abs-mul}
 use Rattle.lists.specs.Tabulated.{tab}
 use Rattle.lists.proofs.Tabulated.{length-tab, getD-tab}
 use Rattle.model.specs.Splitting.{System}
-use Rattle.model.specs.Iteration.{at, row, sign, sumAt, renewed, rowsOf}
+use Rattle.model.specs.Iteration.{at, row, sign, sumAt, renewed, renewedAt, rowsOf}
 
 pub four : (P : ℕ → Type 0) → P 0 → P 1 → P 2 → P 3 → (r : ℕ) → r < 4 → P r
 four P a b c d zero h = a
@@ -51,6 +52,9 @@ sign-one r p h l =
     (three (λ p. natAbs (sign 3 p) ≡ 1) refl refl refl)
     r h p l
 
+pub signed-abs : (r p : ℕ) (x : ℤ) → r < 4 → p < 3 → natAbs (sign r p *ℤ x) ≡ natAbs x
+signed-abs r p x h l = abs-mul (sign r p) x ∙ rw (sign-one r p h l) (omega arith)
+
 -- an entry of a tabulated list is the function's, or 0 past the end
 pub at-tab : (P : ℤ → Type 0) (n : ℕ) (f : ℕ → ℤ) (i : ℕ) → (i < n → P (f i)) → P (pos 0) → P (at (tab n f) i)
 at-tab P n f i h z = by (decLt i n)
@@ -65,9 +69,13 @@ none (suc n) zero = refl
 none (suc n) (suc i) = none n i
 
 -- row r of triple t, renewed
+pub renewed-at : (ts : List ℕ) (s c : List ℤ) (t r : ℕ) → r < 4 → renewedAt ts s c (4 * t + r) ≡ renewed (row s t r) (sumAt ts c t r)
+renewed-at ts s c t r l =
+    let d : (4 * t + r) / 4 ≡ t = omega arith in
+    let m : (4 * t + r) % 4 ≡ r = omega arith in
+    rw (d, m)
+
 pub row-renewed : (g : System) (s c : List ℤ) (t r : ℕ) → t < g .triples → r < 4 → row (rowsOf g s c) t r ≡ renewed (row s t r) (sumAt (g .members) c t r)
 unfolding rowsOf
 row-renewed g s c t r h l =
-    let d : (4 * t + r) / 4 ≡ t = omega arith in
-    let m : (4 * t + r) % 4 ≡ r = omega arith in
-    getD-tab (4 * g .triples) (λ i. renewed (at s i) (sumAt (g .members) c (i / 4) (i % 4))) (4 * t + r) (pos 0) (omega arith) ∙ rw (d, m)
+    getD-tab (4 * g .triples) (renewedAt (g .members) s c) (4 * t + r) (pos 0) (omega arith) ∙ renewed-at (g .members) s c t r l

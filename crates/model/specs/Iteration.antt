@@ -81,6 +81,10 @@ divisor e A = pos (256 * e) -ℤ pos A
 abbrev pub renewed : ℤ → ℤ → ℤ
 renewed s sum = pos (multiplier s) +ℤ sum -ℤ pos unit
 
+-- entry i of the rows, which is row i % 4 of triple i / 4
+abbrev pub renewedAt : List ℕ → List ℤ → List ℤ → ℕ → ℤ
+renewedAt ts s c i = renewed (at s i) (sumAt ts c (i / 4) (i % 4))
+
 -- ---- one iteration
 -- the running values of the lent lists: S of the last iteration and c for each variable, s for each row
 pub record State : Type 0 where
@@ -95,7 +99,7 @@ unfoldable pub countsOf : System → List ℕ
 countsOf g = tab (g .variables) (occurrences (g .members) (g .triples))
 
 unfoldable pub rowsOf : System → List ℤ → List ℤ → List ℤ
-rowsOf g s c = tab (4 * g .triples) (λ i. renewed (at s i) (sumAt (g .members) c (i / 4) (i % 4)))
+rowsOf g s c = tab (4 * g .triples) (renewedAt (g .members) s c)
 
 module _ (div : ℤ → ℤ → ℤ) (g : System) (o : Settings) (costs : List ℤ) where
   -- c of variable v, from its S. "The penalty acts on auxiliaries too."

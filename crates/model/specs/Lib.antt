@@ -17,3 +17,4 @@ pub mod Bounds
 pub mod Claims
 pub mod Paper
 pub mod Table
+pub mod ChannelClaims

@@ -11,7 +11,7 @@ ghost use Rattle.records.specs.Judged.{Judged};
 ghost use Rattle.records.specs.Marks.{marked, Marks};
 use model::Reading;
 
-fn wide(x: u8) -> usize
+pub fn wide(x: u8) -> usize
     ensures { λ r. ⌜ (r ≡ x) × (r ≤ 255) ⌝ }
 {
     x as usize

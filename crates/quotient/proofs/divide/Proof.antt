@@ -9,7 +9,7 @@ use mir.Syntax.{w16, w64}
 use mir.Val.{toZ, ofZ}
 use mir.Facts.{toZ-ofZ}
 use Rattle.integers.proofs.Linear.{readℤ, about, below-abs, above-abs, false-ltZ}
-use Rattle.integers.proofs.Machine.{Worth, unsigned, opposite, fits, stored}
+use Rattle.integers.proofs.Machine.{Worth, unsigned, negative, fits, stored}
 use Rattle.quotient.specs.Quotient.{unit, quotient, Rounded}
 use Rattle.quotient.specs.Quotient.Laws.{quotient-odd, quotient-is}
 use Rattle.quotient.proofs.divide.Statement.{statement}
@@ -69,13 +69,13 @@ size-is c =
     sym (quotient-is (N s) (D s) (Q c) (range s .0) (is-rounded c)) ∙ ap (quotient (pos (N s))) (sym (positive s))
 
 sub-result : tie.Need-sub-result
-sub-result c = fits (opposite (q-is (c .before))) w16 tt
+sub-result c = fits (negative (q-is (c .before))) w16 tt
 
 returns : tie.Need-returns
 returns c =
     let s = c .before .before .before .before in
     let e : negℤ (s .args .num) ≡ pos (N s) = below-abs (s .args .num) (ap (λ (z : ℤ). ltZ z (pos 0)) (sym (num-is s)) ∙ c .if1 .taken) in
-    stored (opposite (q-is (c .before))) w16 tt .is
+    stored (negative (q-is (c .before))) w16 tt .is
     ∙ ap negℤ (size-is (c .before) ∙ ap (λ (z : ℤ). quotient z (s .args .den)) (sym e) ∙ quotient-odd (s .args .num) (s .args .den))
     ∙ negℤ-negℤ (quotient (s .args .num) (s .args .den))
 

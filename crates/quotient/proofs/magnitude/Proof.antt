@@ -7,7 +7,7 @@ use lib.IntN.{pos, natAbs, _-ℤ_}
 use mir.Syntax.{w64}
 use mir.Val.{toZ, ofZ}
 use Rattle.integers.proofs.Linear.{below-abs, above-abs}
-use Rattle.integers.proofs.Machine.{Worth, local, opposite, also, fits, stored}
+use Rattle.integers.proofs.Machine.{Worth, local, negative, also, fits, stored}
 use Rattle.quotient.proofs.magnitude.Statement.{statement}
 use Rattle.quotient.proofs.magnitude.Tie as tie
 
@@ -17,7 +17,7 @@ x-is s = local w64 (2 ^ 48) (s .fits .x .sfits) refl (s .pre)
 turned : (c : tie.Then1) → Worth (pos 0 -ℤ toZ w64 (ofZ w64 (c .before .args .x))) (pos (natAbs (c .before .args .x))) (2 ^ 48)
 turned c =
     let s = c .before in
-    also (opposite (x-is s)) (below-abs (s .args .x) (rw (x-is s .is) at (c .if1 .taken)))
+    also (negative (x-is s)) (below-abs (s .args .x) (rw (x-is s .is) at (c .if1 .taken)))
 
 kept : (c : tie.Else1) → Worth (toZ w64 (ofZ w64 (c .before .args .x))) (pos (natAbs (c .before .args .x))) (2 ^ 48)
 kept c =

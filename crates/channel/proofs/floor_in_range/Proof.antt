@@ -1,0 +1,15 @@
+-- `channel::floor_in_range` meets its contract. Assumes nothing.
+use borrow.Author.Needs.{needs}
+use lib.Ieee.{ofBits}
+use Rattle.channel.proofs.floor_in_range.Statement.{statement}
+use Rattle.channel.proofs.floor_in_range.Tie as tie
+
+is-finite-requires : tie.Need-is-finite-requires
+is-finite-requires c κs = search needs
+
+returns : tie.Need-returns
+unfolding ofBits
+returns c = rw (c .is-finite .ensures)
+
+pub floor-in-range-spec : {M : Type 1} → statement M
+floor-in-range-spec = tie.close (tie.spec is-finite-requires returns)

@@ -1,0 +1,82 @@
+-- `decoder::cause` meets its contract: the first test that passes. Assumes nothing.
+use mathlib.Core.Bool.{Bool, false, not}
+use mathlib.Core.List.{[], _∷_}
+use mathlib.Core.Path.{_≡_, refl, sym, ap, ap₂, _∙_}
+use Prim.Native.Nat.{ℕ}
+use borrow.Author.Needs.{needs}
+use borrow.Author.Tests.{eq-eqb, ne-eqb}
+use lib.ListN.{length}
+use Rattle.lists.specs.Entries.{some}
+use Rattle.model.specs.Calls.{wild, unequal, forbidden}
+use Rattle.model.specs.Causes.{_if_, firstOf}
+use Rattle.decoder.proofs.cause.Statement.{statement}
+use Rattle.decoder.proofs.cause.Tie as tie
+
+abbrev found : Bool → Bool → Bool → Bool → ℕ
+found s t u v = firstOf (11 if s ∷ 12 if t ∷ 13 if u ∷ 10 if v ∷ [])
+
+by : (s t u v : Bool) {s′ t′ u′ v′ : Bool} → s′ ≡ s → t′ ≡ t → u′ ≡ u → v′ ≡ v → found s′ t′ u′ v′ ≡ found s t u v
+by s t u v {u′ = u′} {v′ = v′} p q r w = ap₂ (λ (s t : Bool). found s t u′ v′) p q ∙ ap₂ (λ (u v : Bool). found s t u v) r w
+
+module _ (s : tie.Start) where
+  abbrev is-wild : Bool
+  is-wild = wild (s .args .settings)
+
+  abbrev is-unequal : Bool
+  is-unequal = unequal (s .args .costs .now) (s .args .bits)
+
+  abbrev is-forbidden : Bool
+  is-forbidden = some forbidden (s .args .costs .now)
+
+  right : {s′ t′ u′ v′ : Bool} → s′ ≡ is-wild → t′ ≡ is-unequal → u′ ≡ is-forbidden → v′ ≡ s .args .short
+      → found s′ t′ u′ v′ ≡ found is-wild is-unequal is-forbidden (s .args .short)
+  right = by is-wild is-unequal is-forbidden (s .args .short)
+
+wild-requires : tie.Need-wild-requires
+wild-requires c κs = search needs
+
+returns : tie.Need-returns
+returns c = right (c .before .before) (sym (c .if1 .taken) ∙ c .before .wild .ensures) refl refl refl
+
+tame : (c : tie.Else1) → false ≡ is-wild (c .before .before)
+tame c = sym (c .if1 .left) ∙ c .before .wild .ensures
+
+returns-2 : tie.Need-returns-2
+returns-2 c =
+    let s = c .before .before .before in
+    right s (tame (c .before)) (sym (ap not (ne-eqb (length (s .args .costs .now)) (s .args .bits) (c .if2 .taken)))) refl refl
+
+equal : (c : tie.Else2) → false ≡ is-unequal (c .before .before .before)
+equal c = let a = c .before .before .before .args in sym (ap not (eq-eqb (length (a .costs .now)) (a .bits) (c .if2 .left)))
+
+some-forbidden-requires : tie.Need-some-forbidden-requires
+some-forbidden-requires c κs = search needs
+
+returns-3 : tie.Need-returns-3
+returns-3 c =
+    let e = c .before .before in
+    right (e .before .before .before) (tame (e .before)) (equal e) (sym (c .if3 .taken) ∙ c .before .some-forbidden .ensures .0) refl
+
+returns-4 : tie.Need-returns-4
+returns-4 c =
+    let f = c .before in
+    let e = f .before .before in
+    right (e .before .before .before) (tame (e .before)) (equal e) (sym (f .if3 .left) ∙ f .before .some-forbidden .ensures .0) (sym (c .if4 .taken))
+
+returns-5 : tie.Need-returns-5
+returns-5 c =
+    let f = c .before in
+    let e = f .before .before in
+    right (e .before .before .before) (tame (e .before)) (equal e) (sym (f .if3 .left) ∙ f .before .some-forbidden .ensures .0) (sym (c .if4 .left))
+
+pub cause-spec : {M : Type 1} → statement M
+cause-spec =
+    tie.close
+    (tie.spec
+    wild-requires
+    returns
+    returns-2
+    some-forbidden-requires
+    returns-3
+    returns-4
+    returns-5)

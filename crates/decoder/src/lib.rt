@@ -1,0 +1,98 @@
+// The decoder (document 01): the causes in their order, the run of the code's system in the lent lists, and what its last values say.
+ghost use mathlib.Core.Path.{_≡_};
+ghost use mathlib.Core.Bool.{false, _||_};
+ghost use mathlib.Core.List.{[], _∷_};
+ghost use Prim.Native.Nat.{_*_, _≤_};
+ghost use lib.Dec.{ltb};
+ghost use lib.ListN.{length};
+ghost use Rattle.lists.specs.Tabulated.{written};
+ghost use Rattle.lists.specs.Entries.{some};
+ghost use Rattle.quotient.specs.Quotient.{quotient};
+ghost use Rattle.model.specs.Causes.{_if_, firstOf};
+ghost use Rattle.model.specs.Code as Code;
+ghost use Rattle.model.specs.Records.{codeOf, judge};
+ghost use Rattle.model.specs.Splitting.{systemOf};
+ghost use Rattle.model.specs.Iteration.{countsOf};
+ghost use Rattle.model.specs.Run as Run;
+ghost use Rattle.model.specs.Calls as Calls;
+ghost use Rattle.model.specs.Calls.{unequal, forbidden, decodingTold, decodedBy, decoder};
+use model::Decoding;
+use model::Ending;
+use model::Reading;
+use model::Settings;
+
+// ---- the causes
+
+// 11: a setting out of its range.
+fn wild(settings: Settings) -> bool
+    ensures { λ r. ⌜ r ≡ Calls.wild settings ⌝ }
+{
+    ((settings.weight < 1) | (65535 < settings.weight))
+        | ((1023 < settings.ratio) | ((settings.limit < 1) | (1000 < settings.limit)))
+}
+
+// The lengths of the lent lists.
+struct Room {
+    triples: usize,
+    counts: usize,
+    sums: usize,
+    values: usize,
+    rows: usize,
+    word: usize,
+}
+
+// 10: a lent list that is too short.
+fn no_room(bits: usize, total: usize, variables: usize, room: Room) -> bool
+    requires { ⌜ total ≤ 8192 ⌝ }
+    ensures { λ r. ⌜ r ≡ (ltb (room .triples) (3 * total) || (ltb (room .counts) variables || (ltb (room .sums) variables
+        || (ltb (room .values) variables || (ltb (room .rows) (4 * total) || ltb (room .word) bits))))) ⌝ }
+{
+    (room.triples < 3 * total)
+        | ((room.counts < variables)
+            | ((room.sums < variables)
+                | ((room.values < variables)
+                    | ((room.rows < 4 * total) | (room.word < bits)))))
+}
+
+// The first of 11, 12, 13 and 10, or 0.
+fn cause(settings: Settings, costs: &[i16], bits: usize, short: bool) -> u32
+    ensures { λ r. ⌜ r ≡ firstOf (11 if Calls.wild settings ∷ 12 if unequal (now (costs .entry)) bits ∷ 13 if some forbidden (now (costs .entry)) ∷ 10 if short ∷ []) ⌝ }
+{
+    if wild(settings) {
+        return 11;
+    }
+    if costs.len() != bits {
+        return 12;
+    }
+    if reflector::some_forbidden(costs) {
+        return 13;
+    }
+    if short { 10 } else { 0 }
+}
+
+// ---- an accepted call
+
+// The triples and the counts of the code are written, and its system is run.
+fn run_system(code: &[u8], settings: Settings, costs: &[i16], total: usize, variables: usize, triples: &mut [u16], counts: &mut [u16], sums: &mut [i64], values: &mut [i16], rows: &mut [i32]) -> Ending
+    requires { ⌜ (judge (now code) ≡ 0) × (total ≡ Code.triples (codeOf (now code))) × (variables ≡ Code.variables (codeOf (now code))) ⌝ }
+    requires { ⌜ (Calls.wild settings ≡ false) × (some forbidden (now costs) ≡ false) ⌝ }
+    requires { ⌜ (3 * total ≤ length (now triples)) × (variables ≤ length (now counts)) ⌝ }
+    requires { ⌜ (variables ≤ length (now sums)) × (variables ≤ length (now values)) × (4 * total ≤ length (now rows)) ⌝ }
+    ensures { λ _. ⌜ (let g = systemOf (codeOf (now (code .entry))) in
+        (now (triples .exit) ≡ written (g .members) (now (triples .entry))) × (now (counts .exit) ≡ written (countsOf g) (now (counts .entry)))) ⌝ }
+    ensures { λ r. ⌜ (let e = Run.run quotient (systemOf (codeOf (now (code .entry)))) settings (now (costs .entry)) in
+        (r .k ≡ e .k) × (r .settled ≡ e .settled) × (now (sums .exit) ≡ written (e .last .sums) (now (sums .entry)))
+        × (now (values .exit) ≡ written (e .last .values) (now (values .entry))) × (now (rows .exit) ≡ written (e .last .rows) (now (rows .entry)))) ⌝ }
+{
+    triples::write_system(code, total, variables, triples, counts);
+    run::run(
+        settings,
+        &triples[..3 * total],
+        &counts[..variables],
+        costs,
+        total,
+        &mut sums[..variables],
+        &mut values[..variables],
+        &mut rows[..4 * total],
+    )
+}

@@ -1,0 +1,15 @@
+-- Two tests together. Assumes nothing.
+use mathlib.Core.Bool.{Bool, true, false, _&&_}
+use mathlib.Core.Path.{_≡_, refl, sym, _∙_}
+
+pub and-left : (s t : Bool) → (s && t) ≡ true → s ≡ true
+and-left true t h = refl
+and-left false t h = h
+
+pub and-right : (s t : Bool) → (s && t) ≡ true → t ≡ true
+and-right true t h = h
+and-right false t h = cc
+
+pub and-false : (s t : Bool) → (s && t) ≡ false → t ≡ true → s ≡ false
+and-false true t h e = sym e ∙ h
+and-false false t h e = refl

@@ -1,0 +1,10 @@
+-- `reflector::is_forbidden` meets its contract: the test is one of bits. Assumes nothing.
+use Rattle.reflector.proofs.Costs.{forbidden-bits}
+use Rattle.reflector.proofs.is_forbidden.Statement.{statement}
+use Rattle.reflector.proofs.is_forbidden.Tie as tie
+
+returns : tie.Need-returns
+returns c = forbidden-bits (c .args .cost) (c .fits .cost .sfits)
+
+pub is-forbidden-spec : {M : Type 1} → statement M
+is-forbidden-spec = tie.close (tie.spec returns)

@@ -1,0 +1,69 @@
+-- `reflector::reflect` meets its contract: each answer by the tests that led to it. Assumes nothing.
+use mathlib.Core.Path.{_≡_, refl, sym, _∙_}
+use mathlib.Core.Bool.{true, false}
+use borrow.Author.Needs.{needs}
+use borrow.Author.Tests.{eq-eqb, ne-eqb, lt-ltb, le-ltb}
+use lib.Dec.{eqb}
+use lib.ListN.{length}
+use Rattle.lists.specs.Entries.{some}
+use Rattle.model.specs.Calls.{forbidden, notBinary, reflector}
+use Rattle.reflector.proofs.reflect.Statement.{statement}
+use Rattle.reflector.proofs.reflect.Tie as tie
+
+-- past the first test, the second and the third
+equal : (c : tie.Else1) → let s = c .before .before in eqb (length (s .args .word .now)) (length (s .args .costs .now)) ≡ true
+equal c = eq-eqb _ _ (c .if1 .left)
+
+allowed : (c : tie.Else2) → some forbidden (c .before .before .before .before .args .costs .now) ≡ false
+allowed c = sym (c .before .some-forbidden .ensures .0) ∙ c .if2 .left
+
+binary : (c : tie.Else3) → some notBinary (c .before .before .before .before .before .before .args .word .now) ≡ false
+binary c = sym (c .before .some-not-binary .ensures) ∙ c .if3 .left
+
+returns : tie.Need-returns
+unfolding reflector
+returns c = rw (ne-eqb _ _ (c .if1 .taken)) (refl, refl)
+
+some-forbidden-requires : tie.Need-some-forbidden-requires
+some-forbidden-requires c κs = search needs
+
+returns-2 : tie.Need-returns-2
+unfolding reflector
+returns-2 c = rw (equal (c .before .before), sym (c .before .some-forbidden .ensures .0) ∙ c .if2 .taken) (refl, refl)
+
+some-not-binary-requires : tie.Need-some-not-binary-requires
+some-not-binary-requires c κs = search needs
+
+returns-3 : tie.Need-returns-3
+unfolding reflector
+returns-3 c = rw (equal (c .before .before .before .before), allowed (c .before .before), sym (c .before .some-not-binary .ensures) ∙ c .if3 .taken) (refl, refl)
+
+returns-4 : tie.Need-returns-4
+unfolding reflector
+returns-4 c = let e = c .before in rw (equal (e .before .before .before .before), allowed (e .before .before), binary e, lt-ltb _ _ (c .if4 .taken)) (refl, refl)
+
+fill-requires : tie.Need-fill-requires
+fill-requires c κs = search needs
+
+same-length : tie.Need-same-length
+same-length c = search needs
+
+returns-5 : tie.Need-returns-5
+unfolding reflector
+returns-5 c =
+    let e = c .before .before .before .before in
+    rw (equal (e .before .before .before .before), allowed (e .before .before), binary e, le-ltb _ _ (c .before .before .before .if4 .left)) (refl, c .before .fill .ensures)
+
+pub reflect-spec : {M : Type 1} → statement M
+reflect-spec =
+    tie.close
+    (tie.spec
+    returns
+    some-forbidden-requires
+    returns-2
+    some-not-binary-requires
+    returns-3
+    returns-4
+    fill-requires
+    same-length
+    returns-5)

@@ -1,0 +1,32 @@
+-- `reflector::turned` meets its contract: an allowed cost has a negative. Assumes nothing.
+use mathlib.Core.Path.{_≡_, refl, _∙_}
+use Prim.Native.Nat.{ℕ, zero, suc}
+use lib.IntN.{ℤ, negℤ}
+use mir.Syntax.{w16}
+use mir.Val.{toZ, ofZ}
+use Rattle.integers.proofs.Machine.{Worth, local, negative, fits, stored}
+use Rattle.model.specs.Reflection.{turned}
+use Rattle.reflector.proofs.Costs.{allowed}
+use Rattle.reflector.proofs.turned.Statement.{statement}
+use Rattle.reflector.proofs.turned.Tie as tie
+
+cost-is : (s : tie.Start) → Worth (toZ w16 (ofZ w16 (s .args .cost))) (s .args .cost) 32767
+cost-is s = local w16 32767 (s .fits .cost .sfits) refl (allowed (s .args .cost) (s .fits .cost .sfits) (s .pre))
+
+sub-result : tie.Need-sub-result
+sub-result c = fits (negative (cost-is (c .before))) w16 tt
+
+returns : tie.Need-returns
+returns c = rw (c .if1 .taken) (cost-is (c .before) .is)
+
+other : (b : ℕ) (z : ℤ) → (b ≡ 0 → ⊥) → negℤ z ≡ turned b z
+other zero z h = absurd (h refl)
+other (suc b) z h = refl
+
+returns-2 : tie.Need-returns-2
+returns-2 c =
+    let s = c .before in
+    stored (negative (cost-is s)) w16 tt .is ∙ other (s .args .bit) (s .args .cost) (c .if1 .left)
+
+pub turned-spec : {M : Type 1} → statement M
+turned-spec = tie.close (tie.spec sub-result returns returns-2)

@@ -1,0 +1,62 @@
+-- `rows::change` meets its contract. Assumes nothing.
+use mathlib.Core.Path.{ap, _∙_}
+use Prim.Native.Nat.{_*_}
+use native.Mathlib.Omega.{arith}
+use borrow.Author.Needs.{needs}
+use lib.IntN.{ℤ, pos, natAbs, _-ℤ_}
+use mir.Facts.{toZ-ofZ}
+use mir.Syntax.{w32, w64}
+use mir.Val.{toZ, ofZ}
+use Rattle.integers.proofs.Machine.{Worth, within-raw, fits, stored, read-back, local, minus}
+use Rattle.integers.proofs.Linear.{about}
+use Rattle.model.specs.Iteration.{multiplier}
+use Rattle.rows.proofs.change.Statement.{statement}
+use Rattle.rows.proofs.change.Tie as tie
+
+old : (c : tie.After-wide2) → Worth (toZ w64 (ofZ w64 (c .wide2 .result))) (pos (multiplier (c .before .before .before .before .args .a))) 131072000
+old c =
+    let s = c .before .before .before .before in
+    local w64 131072000 (c .wide2 .ok) (c .wide2 .ensures ∙ read-back w32 (c .before .positive2 .ok) (c .before .positive2 .ensures ∙ ap (λ (z : ℤ). pos (multiplier z)) (toZ-ofZ (s .fits .a))))
+    (omega (arith, about (s .args .a), s .pre .0))
+
+new : (c : tie.After-wide) → Worth (toZ w64 (ofZ w64 (c .wide .result))) (pos (multiplier (c .before .before .args .b))) 131072000
+new c =
+    let s = c .before .before in
+    local w64 131072000 (c .wide .ok) (c .wide .ensures ∙ read-back w32 (c .before .positive .ok) (c .before .positive .ensures ∙ ap (λ (z : ℤ). pos (multiplier z)) (toZ-ofZ (s .fits .b))))
+    (omega (arith, about (s .args .b), s .pre .1))
+
+difference : (c : tie.After-wide2) → Worth (toZ w64 (ofZ w64 (c .before .before .wide .result)) -ℤ toZ w64 (ofZ w64 (c .wide2 .result))) (pos (multiplier (c .before .before .before .before .args .b)) -ℤ pos (multiplier (c .before .before .before .before .args .a))) 262144000
+difference c = minus (new (c .before .before)) (old c)
+
+positive-requires : tie.Need-positive-requires
+positive-requires c κs = search needs
+
+wide-requires : tie.Need-wide-requires
+wide-requires c κs = search needs
+
+positive-requires-2 : tie.Need-positive-requires-2
+positive-requires-2 c κs = search needs
+
+wide-requires-2 : tie.Need-wide-requires-2
+wide-requires-2 c κs = search needs
+
+sub-square : tie.Need-sub-square
+sub-square c = fits (difference c) w64 tt
+
+square-requires : tie.Need-square-requires
+square-requires c κs = within-raw (stored (difference c) w64 tt)
+
+returns : tie.Need-returns
+returns c = c .square .ensures ∙ ap (λ (z : ℤ). natAbs z * natAbs z) (stored (difference (c .before)) w64 tt .is)
+
+pub change-spec : {M : Type 1} → statement M
+change-spec =
+    tie.close
+    (tie.spec
+    positive-requires
+    wide-requires
+    positive-requires-2
+    wide-requires-2
+    sub-square
+    square-requires
+    returns)

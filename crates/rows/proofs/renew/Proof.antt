@@ -1,0 +1,64 @@
+-- `rows::renew` meets its contract. Assumes nothing.
+use mathlib.Core.Path.{ap, _∙_}
+use native.Mathlib.Omega.{arith}
+use borrow.Author.Needs.{needs}
+use lib.IntN.{ℤ, pos, _+ℤ_}
+use mir.Syntax.{w32}
+use mir.Val.{toZ, ofZ}
+use Rattle.integers.proofs.Machine.{Worth, fits, stored, local, held, literal, plus, minus}
+use Rattle.integers.proofs.Linear.{about}
+use Rattle.model.specs.Iteration.{at, multiplier}
+use Rattle.rows.proofs.renew.Statement.{statement}
+use Rattle.rows.proofs.renew.Tie as tie
+
+abbrev row : tie.Start → ℤ
+row s = at (s .args .t1) (s .args .r)
+
+abbrev sum : tie.Start → ℤ
+sum s = at (s .args .t2) (s .args .r)
+
+multiplier-is : (c : tie.After-positive) → Worth (toZ w32 (ofZ w32 (c .positive .result))) (pos (multiplier (row (c .before .before)))) 131072000
+multiplier-is c =
+    let s = c .before .before in
+    local w32 131072000 (c .positive .ok) (c .positive .ensures ∙ ap (λ (z : ℤ). pos (multiplier z)) (held w32 (row s) 131072000 tt (s .pre .1) .is))
+    (omega (arith, about (row s), s .pre .1))
+
+added : (c : tie.After-result) → Worth (toZ w32 (ofZ w32 (c .before .positive .result)) +ℤ toZ w32 (ofZ w32 (sum (c .before .before .before)))) (pos (multiplier (row (c .before .before .before))) +ℤ sum (c .before .before .before)) 131121152
+added c = let s = c .before .before .before in plus (multiplier-is (c .before)) (held w32 (sum s) 49152 tt (s .pre .2))
+
+mul-positive : tie.Need-mul-positive
+mul-positive c = search needs
+
+array-copy-out-positive : tie.Need-array-copy-out-positive
+array-copy-out-positive c = search needs
+
+positive-requires : tie.Need-positive-requires
+positive-requires c κs = search needs
+
+mul-result : tie.Need-mul-result
+mul-result c = search needs
+
+array-copy-out-result : tie.Need-array-copy-out-result
+array-copy-out-result c = search needs
+
+add-result : tie.Need-add-result
+add-result c = fits (added c) w32 tt
+
+sub-result : tie.Need-sub-result
+sub-result c = fits (minus (stored (added c) w32 tt) (literal (pos 16384))) w32 tt
+
+returns : tie.Need-returns
+returns c = stored (minus (stored (added c) w32 tt) (literal (pos 16384))) w32 tt .is
+
+pub renew-spec : {M : Type 1} → statement M
+renew-spec =
+    tie.close
+    (tie.spec
+    mul-positive
+    array-copy-out-positive
+    positive-requires
+    mul-result
+    array-copy-out-result
+    add-result
+    sub-result
+    returns)

@@ -1,0 +1,38 @@
+-- `rows::size` meets its contract: one of the two parts is 0. Assumes nothing.
+use mathlib.Core.Path.{_≡_, sym, ap, _∙_}
+use Prim.Native.Nat.{_+_}
+use native.Mathlib.Omega.{arith}
+use lib.IntN.{ℤ, pos, negℤ, natAbs, _-ℤ_}
+use lib.Signed.{ltZ}
+use mir.Syntax.{w32}
+use mir.Val.{toZ, ofZ}
+use Rattle.integers.proofs.Machine.{Worth, fits, stored, held, negative}
+use Rattle.integers.proofs.Linear.{about, below-abs, above-abs}
+use Rattle.model.specs.Iteration.{slack, multiplier}
+use Rattle.rows.proofs.size.Statement.{statement}
+use Rattle.rows.proofs.size.Tie as tie
+
+whole : (z : ℤ) → natAbs z ≡ slack z + multiplier z
+whole z = omega (arith, about z)
+
+row : (s : tie.Start) → Worth (toZ w32 (ofZ w32 (s .args .s))) (s .args .s) 131072000
+row s = held w32 (s .args .s) 131072000 tt (s .pre)
+
+turned : (c : tie.Then1) → Worth (pos 0 -ℤ toZ w32 (ofZ w32 (c .before .args .s))) (negℤ (c .before .args .s)) 131072000
+turned c = negative (row (c .before))
+
+sub-result : tie.Need-sub-result
+sub-result c = fits (turned c) w32 tt
+
+returns : tie.Need-returns
+returns c =
+    let s = c .before in
+    stored (turned c) w32 tt .is ∙ below-abs (s .args .s) (ap (λ (z : ℤ). ltZ z (pos 0)) (sym (row s .is)) ∙ c .if1 .taken) ∙ ap pos (whole (s .args .s))
+
+returns-2 : tie.Need-returns-2
+returns-2 c =
+    let s = c .before in
+    row s .is ∙ above-abs (s .args .s) (ap (λ (z : ℤ). ltZ z (pos 0)) (sym (row s .is)) ∙ c .if1 .left) ∙ ap pos (whole (s .args .s))
+
+pub size-spec : {M : Type 1} → statement M
+size-spec = tie.close (tie.spec sub-result returns returns-2)

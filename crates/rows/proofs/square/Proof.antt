@@ -1,0 +1,28 @@
+-- `rows::square` meets its contract. Assumes nothing.
+use mathlib.Core.Path.{ap}
+use Prim.Native.Nat.{_*_}
+use native.Mathlib.Omega.{arith}
+use lib.IntN.{pos, natAbs, _*ℤ_}
+use mir.Syntax.{w64}
+use mir.Val.{toZ, ofZ}
+use Rattle.integers.proofs.Machine.{Worth, fits, stored, held, also, times}
+use Rattle.integers.proofs.Linear.{square-abs}
+use Rattle.rows.proofs.square.Statement.{statement}
+use Rattle.rows.proofs.square.Tie as tie
+
+value : (s : tie.Start) → Worth (toZ w64 (ofZ w64 (s .args .x)) *ℤ toZ w64 (ofZ w64 (s .args .x))) (pos (natAbs (s .args .x) * natAbs (s .args .x))) 68719476736000000
+value s =
+    let x = held w64 (s .args .x) 262144000 tt (s .pre) in
+    also (times x x) (square-abs (s .args .x))
+
+mul-result : tie.Need-mul-result
+mul-result c = fits (value c) w64 tt
+
+cast-result : tie.Need-cast-result
+cast-result c = rw (stored (value c) w64 tt .is) (tt, record { fits = omega (arith, value c .within) })
+
+returns : tie.Need-returns
+returns c = ap natAbs (stored (value c) w64 tt .is)
+
+pub square-spec : {M : Type 1} → statement M
+square-spec = tie.close (tie.spec mul-result cast-result returns)

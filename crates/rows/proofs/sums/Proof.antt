@@ -1,0 +1,42 @@
+-- `rows::sums` meets its contract. Assumes nothing.
+use mathlib.Core.Path.{_≡_, ap, ap₂, _∙_}
+use Prim.Native.Nat.{ℕ}
+use borrow.Author.Needs.{needs}
+use lib.IntN.{ℤ}
+use mir.Facts.{toZ-ofZ}
+use mir.Syntax.{w32}
+use mir.Val.{toZ, ofZ}
+use Rattle.integers.proofs.Machine.{read-back}
+use Rattle.model.specs.Iteration.{rowSum}
+use Rattle.rows.proofs.Four.{four-are}
+use Rattle.rows.proofs.sums.Statement.{statement}
+use Rattle.rows.proofs.sums.Tie as tie
+
+same : (s : tie.Start) (r : ℕ) → rowSum r (toZ w32 (ofZ w32 (s .args .a))) (toZ w32 (ofZ w32 (s .args .b))) (toZ w32 (ofZ w32 (s .args .c))) ≡ rowSum r (s .args .a) (s .args .b) (s .args .c)
+same s r =
+    ap (λ (z : ℤ). rowSum r z (toZ w32 (ofZ w32 (s .args .b))) (toZ w32 (ofZ w32 (s .args .c)))) (toZ-ofZ (s .fits .a))
+    ∙ ap₂ (λ (y z : ℤ). rowSum r (s .args .a) y z) (toZ-ofZ (s .fits .b)) (toZ-ofZ (s .fits .c))
+
+sum-requires : tie.Need-sum-requires
+sum-requires c κs = search needs
+
+sum-requires-2 : tie.Need-sum-requires-2
+sum-requires-2 c κs = search needs
+
+sum-requires-3 : tie.Need-sum-requires-3
+sum-requires-3 c κs = search needs
+
+sum-requires-4 : tie.Need-sum-requires-4
+sum-requires-4 c κs = search needs
+
+returns : tie.Need-returns
+returns c =
+    let s = c .before .before .before .before in
+    four-are (λ r. rowSum r (s .args .a) (s .args .b) (s .args .c)) _ _ _ _
+    (read-back w32 (c .before .before .before .sum .ok) (c .before .before .before .sum .ensures ∙ same s 0))
+    (read-back w32 (c .before .before .sum2 .ok) (c .before .before .sum2 .ensures ∙ same s 1))
+    (read-back w32 (c .before .sum3 .ok) (c .before .sum3 .ensures ∙ same s 2))
+    (read-back w32 (c .sum4 .ok) (c .sum4 .ensures ∙ same s 3))
+
+pub sums-spec : {M : Type 1} → statement M
+sums-spec = tie.close (tie.spec sum-requires sum-requires-2 sum-requires-3 sum-requires-4 returns)

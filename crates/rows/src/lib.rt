@@ -1,0 +1,157 @@
+// The four rows of one triple (document 01, 'One iteration'): their sums, their shares of S, their renewal, and the squares of its changes.
+// Rows of up to 4,000 iterations are taken: their magnitude is at most 131,072,000.
+ghost use mathlib.Core.Path.{_≡_};
+ghost use Prim.Native.Nat.{ℕ, _+_, _*_, _≤_, _<_};
+ghost use lib.IntN.{ℤ, pos, natAbs, _*ℤ_};
+ghost use Rattle.integers.specs.Sum.{sumℕ, sumℤ};
+ghost use Rattle.lists.specs.Tabulated.{tab};
+ghost use Rattle.model.specs.Iteration.{at, sign, rowSum, slack, multiplier, renewed};
+ghost use Rattle.model.specs.Run.{squareOfChange};
+
+// "The four sums of a triple": the signs of c1 - c2 - c3, -c1 + c2 - c3, -c1 - c2 + c3, c1 + c2 + c3.
+const SIGNS: [[i32; 3]; 4] = [[1, -1, -1], [-1, 1, -1], [-1, -1, 1], [1, 1, 1]];
+
+const UNIT: i32 = 16384;
+
+// x with the sign of position p in row r.
+fn signed(r: usize, p: usize, x: i32) -> i32
+    requires { ⌜ (r < 4) × (p < 3) × (natAbs x ≤ 131072000) ⌝ }
+    ensures { λ z. ⌜ z ≡ sign r p *ℤ x ⌝ }
+{
+    SIGNS[r][p] * x
+}
+
+// ---- the four sums
+
+fn sum(r: usize, a: i32, b: i32, c: i32) -> i32
+    requires { ⌜ (r < 4) × (natAbs a ≤ 16384) × (natAbs b ≤ 16384) × (natAbs c ≤ 16384) ⌝ }
+    ensures { λ z. ⌜ z ≡ rowSum r a b c ⌝ }
+{
+    signed(r, 0, a) + signed(r, 1, b) + signed(r, 2, c)
+}
+
+pub fn sums(a: i32, b: i32, c: i32) -> [i32; 4]
+    requires { ⌜ (natAbs a ≤ 16384) × (natAbs b ≤ 16384) × (natAbs c ≤ 16384) ⌝ }
+    ensures { λ l. ⌜ l ≡ tab 4 (λ r. rowSum r a b c) ⌝ }
+{
+    [
+        sum(0, a, b, c),
+        sum(1, a, b, c),
+        sum(2, a, b, c),
+        sum(3, a, b, c),
+    ]
+}
+
+// ---- the share of S
+
+// z + p of a row, its magnitude.
+fn size(s: i32) -> i32
+    requires { ⌜ natAbs s ≤ 131072000 ⌝ }
+    ensures { λ z. ⌜ z ≡ pos (slack s + multiplier s) ⌝ }
+{
+    if s < 0 { -s } else { s }
+}
+
+// What row r gives the variable at position p.
+fn part(s: [i32; 4], r: usize, p: usize) -> i32
+    requires { ⌜ (r < 4) × (p < 3) × (natAbs (at s r) ≤ 131072000) ⌝ }
+    ensures { λ z. ⌜ z ≡ sign r p *ℤ pos (slack (at s r) + multiplier (at s r)) ⌝ }
+{
+    signed(r, p, size(s[r]))
+}
+
+// What the four rows give it.
+pub fn share(s: [i32; 4], p: usize) -> i32
+    requires { ⌜ p < 3 ⌝ }
+    requires { ⌜ ((r : ℕ) → natAbs (at s r) ≤ 131072000) ⌝ }
+    ensures { λ z. ⌜ z ≡ sumℤ 4 (λ r. sign r p *ℤ pos (slack (at s r) + multiplier (at s r))) ⌝ }
+{
+    part(s, 0, p) + part(s, 1, p) + part(s, 2, p) + part(s, 3, p)
+}
+
+// ---- the renewal
+
+// The larger of 0 and x.
+fn positive(x: i32) -> i32
+    ensures { λ z. ⌜ z ≡ pos (multiplier x) ⌝ }
+{
+    if x < 0 { 0 } else { x }
+}
+
+// "s becomes p + sum - U": row r.
+fn renew(s: [i32; 4], sums: [i32; 4], r: usize) -> i32
+    requires { ⌜ (r < 4) × (natAbs (at s r) ≤ 131072000) × (natAbs (at sums r) ≤ 49152) ⌝ }
+    ensures { λ z. ⌜ z ≡ renewed (at s r) (at sums r) ⌝ }
+{
+    positive(s[r]) + sums[r] - UNIT
+}
+
+pub fn renew_all(s: [i32; 4], sums: [i32; 4]) -> [i32; 4]
+    requires { ⌜ ((r : ℕ) → (natAbs (at s r) ≤ 131072000) × (natAbs (at sums r) ≤ 49152)) ⌝ }
+    ensures { λ l. ⌜ l ≡ tab 4 (λ r. renewed (at s r) (at sums r)) ⌝ }
+{
+    [
+        renew(s, sums, 0),
+        renew(s, sums, 1),
+        renew(s, sums, 2),
+        renew(s, sums, 3),
+    ]
+}
+
+// ---- the squares of the changes
+
+fn wide(x: i32) -> i64
+    ensures { λ z. ⌜ z ≡ x ⌝ }
+{
+    x as i64
+}
+
+fn square(x: i64) -> u64
+    requires { ⌜ natAbs x ≤ 262144000 ⌝ }
+    ensures { λ n. ⌜ n ≡ natAbs x * natAbs x ⌝ }
+{
+    (x * x) as u64
+}
+
+// The square of the change from a to b, neither below 0.
+fn change(a: i32, b: i32) -> u64
+    requires { ⌜ (natAbs a ≤ 131072000) × (natAbs b ≤ 131072000) ⌝ }
+    ensures { λ n. ⌜ n ≡ squareOfChange (multiplier a) (multiplier b) ⌝ }
+{
+    square(wide(positive(b)) - wide(positive(a)))
+}
+
+fn multiplier_change(old: [i32; 4], new: [i32; 4], r: usize) -> u64
+    requires { ⌜ (r < 4) × (natAbs (at old r) ≤ 131072000) × (natAbs (at new r) ≤ 131072000) ⌝ }
+    ensures { λ n. ⌜ n ≡ squareOfChange (multiplier (at old r)) (multiplier (at new r)) ⌝ }
+{
+    change(old[r], new[r])
+}
+
+// The slack is the multiplier of the row's negative.
+fn slack_change(old: [i32; 4], new: [i32; 4], r: usize) -> u64
+    requires { ⌜ (r < 4) × (natAbs (at old r) ≤ 131072000) × (natAbs (at new r) ≤ 131072000) ⌝ }
+    ensures { λ n. ⌜ n ≡ squareOfChange (slack (at old r)) (slack (at new r)) ⌝ }
+{
+    change(-old[r], -new[r])
+}
+
+pub fn multiplier_changes(old: [i32; 4], new: [i32; 4]) -> u64
+    requires { ⌜ ((r : ℕ) → (natAbs (at old r) ≤ 131072000) × (natAbs (at new r) ≤ 131072000)) ⌝ }
+    ensures { λ n. ⌜ n ≡ sumℕ 4 (λ r. squareOfChange (multiplier (at old r)) (multiplier (at new r))) ⌝ }
+{
+    multiplier_change(old, new, 0)
+        + multiplier_change(old, new, 1)
+        + multiplier_change(old, new, 2)
+        + multiplier_change(old, new, 3)
+}
+
+pub fn slack_changes(old: [i32; 4], new: [i32; 4]) -> u64
+    requires { ⌜ ((r : ℕ) → (natAbs (at old r) ≤ 131072000) × (natAbs (at new r) ≤ 131072000)) ⌝ }
+    ensures { λ n. ⌜ n ≡ sumℕ 4 (λ r. squareOfChange (slack (at old r)) (slack (at new r))) ⌝ }
+{
+    slack_change(old, new, 0)
+        + slack_change(old, new, 1)
+        + slack_change(old, new, 2)
+        + slack_change(old, new, 3)
+}

@@ -1,0 +1,46 @@
+// The run (document 01, 'One iteration'): iterations from the start until it settles or K are done, on lists of exact length.
+ghost use mathlib.Core.Path.{_≡_};
+ghost use Prim.Native.Nat.{ℕ, _*_, _≤_, _<_};
+ghost use lib.IntN.{pos};
+ghost use lib.ListN.{length, getD};
+ghost use Rattle.lists.specs.Tabulated.{tab};
+ghost use Rattle.quotient.specs.Quotient.{quotient};
+ghost use Rattle.model.specs.Splitting.{System};
+ghost use Rattle.model.specs.Iteration.{State, countsOf};
+ghost use Rattle.model.specs.Run as Run;
+ghost use Rattle.model.specs.Bounds.{Ready};
+use model::Ending;
+use model::Settings;
+
+// "at first 0"
+fn clear(rows: &mut [i32])
+    ensures { λ _. ⌜ now (rows .exit) ≡ tab (length (now (rows .entry))) (λ _. pos 0) ⌝ }
+{
+    let n = rows.len();
+    let mut i = 0;
+    while i < n {
+        rows[i] = 0;
+        i += 1;
+    }
+}
+
+// The run of the system that the lists hold: its ending, with S, c and s of the last iteration in the lists.
+pub fn run(settings: Settings, triples: &[u16], counts: &[u16], costs: &[i16], count: usize, sums: &mut [i64], values: &mut [i16], rows: &mut [i32]) -> Ending
+    requires { ⌜ (3 * count ≡ length (now triples)) × (length (now sums) ≡ length (now values)) × (4 * count ≡ length (now rows)) ⌝ }
+    requires { ⌜ ((i : ℕ) → i < length (now triples) → getD (now triples) i 0 < length (now values)) ⌝ }
+    requires { ⌜ (let g : System = record { variables = length (now values); triples = count; members = now triples } in
+        (now counts ≡ countsOf g) × Ready g settings (now costs)) ⌝ }
+    requires { ⌜ (1 ≤ settings .limit) × (settings .limit ≤ 1000) ⌝ }
+    ensures { λ e. ⌜ (let g : System = record { variables = length (now (values .entry)); triples = count; members = now (triples .entry) } in
+        let last : State = record { sums = now (sums .exit); values = now (values .exit); rows = now (rows .exit) } in
+        record { k = e .k; settled = e .settled; last = last } ≡ Run.run quotient g settings (now (costs .entry))) ⌝ }
+{
+    clear(rows);
+    let mut k: u32 = 0;
+    let mut settled: u32 = 0;
+    while (k < settings.limit) & (settled == 0) {
+        settled = iteration::iterate(settings, triples, counts, costs, count, sums, values, rows);
+        k += 1;
+    }
+    Ending { k, settled }
+}
