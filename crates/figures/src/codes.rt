@@ -2,10 +2,6 @@
 ghost use Prim.Native.Nat.{_≤_};
 ghost use lib.ListN.{length};
 
-fn wide(x: u8) -> usize {
-    x as usize
-}
-
 fn byte(code: &mut [u8], at: usize, x: usize) -> usize
     requires { ⌜ at ≤ length (now code) ⌝ }
     ensures { λ r. ⌜ r ≤ length (now (code .entry)) ⌝ }
@@ -68,7 +64,7 @@ pub fn append(code: &mut [u8], at: usize, s: &[u8]) -> usize
 {
     let mut next = at;
     for i in 0..s.len() {
-        next = byte(code, next, wide(s[i]));
+        next = byte(code, next, records::wide(s[i]));
     }
     next
 }
