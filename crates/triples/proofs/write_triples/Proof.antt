@@ -8,7 +8,7 @@ use Rattle.model.specs.Code.{triples}
 use Rattle.model.specs.Records.{checkCount, degree, codeOf}
 use Rattle.model.specs.Splitting.{systemOf}
 use Rattle.model.proofs.Accepted.{SoundHeader, bytes-sound}
-use Rattle.records.proofs.Walk.{code-start}
+use Rattle.records.proofs.Walk.{walk-start}
 use Rattle.triples.proofs.Writing.{Going, At, length-now, going-at, going-next, going-end}
 use Rattle.triples.proofs.write_triples.Statement.{statement}
 use Rattle.triples.proofs.write_triples.Tie as tie
@@ -43,7 +43,7 @@ loop-holds c =
     let s = c .before .before .before .before .before in
     let b = s .args .code .now in
     rw (part-from 6 b, c .two-bytes2 .ensures .0)
-    (record { walk = code-start b (s .pre .0); above = omega arith; auxiliaries = refl; entries = omega arith; left = refl; filled = refl })
+    (record { walk = walk-start _ _ _ (bytes-sound b (s .pre .0) .checks); above = omega arith; auxiliaries = refl; entries = omega arith; left = refl; filled = refl })
 
 -- the check at hand, and the list
 more : (c : tie.In-loop Inv-loop μ-loop) → c .before .loop .j < checkCount (c .before .before .before .before .before .before .before .args .code .now)
