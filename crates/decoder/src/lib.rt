@@ -2,8 +2,9 @@
 ghost use mathlib.Core.Path.{_≡_};
 ghost use mathlib.Core.Bool.{false, _||_};
 ghost use mathlib.Core.List.{[], _∷_};
-ghost use Prim.Native.Nat.{_*_, _≤_};
+ghost use Prim.Native.Nat.{ℕ, _*_, _≤_};
 ghost use lib.Dec.{ltb};
+ghost use lib.IntN.{natAbs};
 ghost use lib.ListN.{length};
 ghost use Rattle.lists.specs.Tabulated.{written};
 ghost use Rattle.lists.specs.Entries.{some};
@@ -12,10 +13,10 @@ ghost use Rattle.model.specs.Causes.{_if_, firstOf};
 ghost use Rattle.model.specs.Code as Code;
 ghost use Rattle.model.specs.Records.{codeOf, judge};
 ghost use Rattle.model.specs.Splitting.{systemOf};
-ghost use Rattle.model.specs.Iteration.{countsOf};
+ghost use Rattle.model.specs.Iteration.{at, countsOf};
 ghost use Rattle.model.specs.Run as Run;
 ghost use Rattle.model.specs.Calls as Calls;
-ghost use Rattle.model.specs.Calls.{unequal, forbidden, decodingTold, decodedBy, decoder};
+ghost use Rattle.model.specs.Calls.{unequal, forbidden, Lists, decodingTold, decodedBy, decoder};
 use model::Decoding;
 use model::Ending;
 use model::Reading;
@@ -56,6 +57,7 @@ fn no_room(bits: usize, total: usize, variables: usize, room: Room) -> bool
 // The first of 11, 12, 13 and 10, or 0.
 fn cause(settings: Settings, costs: &[i16], bits: usize, short: bool) -> u32
     ensures { λ r. ⌜ r ≡ firstOf (11 if Calls.wild settings ∷ 12 if unequal (now (costs .entry)) bits ∷ 13 if some forbidden (now (costs .entry)) ∷ 10 if short ∷ []) ⌝ }
+    ensures { λ r. ⌜ (r ≡ 0 → (v : ℕ) → natAbs (at (now (costs .entry)) v) ≤ 32767) ⌝ }
 {
     if wild(settings) {
         return 11;
@@ -85,14 +87,15 @@ fn run_system(
     rows: &mut [i32],
 ) -> Ending
     requires { ⌜ (judge (now code) ≡ 0) × (total ≡ Code.triples (codeOf (now code))) × (variables ≡ Code.variables (codeOf (now code))) ⌝ }
-    requires { ⌜ (Calls.wild settings ≡ false) × (some forbidden (now costs) ≡ false) ⌝ }
+    requires { ⌜ (Calls.wild settings ≡ false) × ((v : ℕ) → natAbs (at (now costs) v) ≤ 32767) ⌝ }
     requires { ⌜ (3 * total ≤ length (now triples)) × (variables ≤ length (now counts)) ⌝ }
     requires { ⌜ (variables ≤ length (now sums)) × (variables ≤ length (now values)) × (4 * total ≤ length (now rows)) ⌝ }
     ensures { λ _. ⌜ (let g = systemOf (codeOf (now (code .entry))) in
         (now (triples .exit) ≡ written (g .members) (now (triples .entry))) × (now (counts .exit) ≡ written (countsOf g) (now (counts .entry)))) ⌝ }
     ensures { λ r. ⌜ (let e = Run.run quotient (systemOf (codeOf (now (code .entry)))) settings (now (costs .entry)) in
         (r .k ≡ e .k) × (r .settled ≡ e .settled) × (now (sums .exit) ≡ written (e .last .sums) (now (sums .entry)))
-        × (now (values .exit) ≡ written (e .last .values) (now (values .entry))) × (now (rows .exit) ≡ written (e .last .rows) (now (rows .entry)))) ⌝ }
+        × (now (values .exit) ≡ written (e .last .values) (now (values .entry))) × (now (rows .exit) ≡ written (e .last .rows) (now (rows .entry)))
+        × (length (e .last .values) ≡ variables)) ⌝ }
 {
     triples::write_system(code, total, variables, triples, counts);
     run::run(
@@ -105,4 +108,68 @@ fn run_system(
         &mut values[..variables],
         &mut rows[..4 * total],
     )
+}
+
+// The run, and what its last values say.
+fn decode_accepted(code: &[u8], settings: Settings, costs: &[i16], bits: usize, checks: usize, total: usize, variables: usize, triples: &mut [u16], counts: &mut [u16], sums: &mut [i64], values: &mut [i16], rows: &mut [i32], word: &mut [u8]) -> Decoding
+    requires { ⌜ (judge (now code) ≡ 0) × (bits ≡ codeOf (now code) .bits) × (checks ≡ length (codeOf (now code) .checks)) × (total ≡ Code.triples (codeOf (now code))) × (variables ≡ Code.variables (codeOf (now code))) ⌝ }
+    requires { ⌜ (Calls.wild settings ≡ false) × ((v : ℕ) → natAbs (at (now costs) v) ≤ 32767) ⌝ }
+    requires { ⌜ (3 * total ≤ length (now triples)) × (variables ≤ length (now counts)) ⌝ }
+    requires { ⌜ (variables ≤ length (now sums)) × (variables ≤ length (now values)) × (4 * total ≤ length (now rows)) × (bits ≤ length (now word)) ⌝ }
+    ensures { λ d. ⌜ (let k = codeOf (now (code .entry)) in
+        let before : Lists = record { triples = now (triples .entry); counts = now (counts .entry); sums = now (sums .entry); values = now (values .entry); rows = now (rows .entry); word = now (word .entry) } in
+        let after : Lists = record { triples = now (triples .exit); counts = now (counts .exit); sums = now (sums .exit); values = now (values .exit); rows = now (rows .exit); word = now (word .exit) } in
+        record { answer = decodingTold d; lists = after } ≡ decodedBy k (Run.run quotient (systemOf k) settings (now (costs .entry))) before) ⌝ }
+{
+    let ending = run_system(
+        code,
+        settings,
+        costs,
+        total,
+        variables,
+        triples,
+        counts,
+        sums,
+        values,
+        rows,
+    );
+    outcome::conclude(code, bits, checks, &values[..variables], ending, word)
+}
+
+// ---- the entry
+
+// The decoder. A refused call leaves every list as it was; the word is written with the number 0 alone.
+pub fn decode(code: &[u8], settings: Settings, costs: &[i16], triples: &mut [u16], counts: &mut [u16], sums: &mut [i64], values: &mut [i16], rows: &mut [i32], word: &mut [u8]) -> Decoding
+    ensures { λ d. ⌜ (
+        let before : Lists = record { triples = now (triples .entry); counts = now (counts .entry); sums = now (sums .entry); values = now (values .entry); rows = now (rows .entry); word = now (word .entry) } in
+        let after : Lists = record { triples = now (triples .exit); counts = now (counts .exit); sums = now (sums .exit); values = now (values .exit); rows = now (rows .exit); word = now (word .exit) } in
+        record { answer = decodingTold d; lists = after } ≡ decoder (now (code .entry)) settings (now (costs .entry)) before) ⌝ }
+{
+    let reading = records::read(code);
+    match reading {
+        Reading::Refused(refused) => Decoding::Refused(refused),
+        Reading::Code {
+            bits,
+            checks,
+            triples: total,
+        } => {
+            let variables = bits + total - checks;
+            let room = Room {
+                triples: triples.len(),
+                counts: counts.len(),
+                sums: sums.len(),
+                values: values.len(),
+                rows: rows.len(),
+                word: word.len(),
+            };
+            let refused = cause(settings, costs, bits, no_room(bits, total, variables, room));
+            if refused != 0 {
+                return Decoding::Refused(refused);
+            }
+            decode_accepted(
+                code, settings, costs, bits, checks, total, variables, triples, counts, sums,
+                values, rows, word,
+            )
+        }
+    }
 }

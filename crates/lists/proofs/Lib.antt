@@ -7,7 +7,7 @@
 --
 -- A loop that tests the entries keeps `every f (drop i l) ≡ every f l` (every-next, every-stop, every-end), or, where it goes on after one
 -- that passes, `Found f l found i` (start: refl; found-next, found-end). One that searches keeps `(j : ℕ) → j < i → f j ≡ false` (below-next,
--- first-at, first-none). What a loan of `&s[k..]` is: `Parts`.
+-- first-at, first-none). What a loan of `&s[k..]` or `&mut s[..n]` is: `Parts`.
 pub mod Tabulated
 pub mod Entries
 pub mod Parts

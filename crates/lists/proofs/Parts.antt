@@ -12,6 +12,10 @@ module _ {A : Type 0} where
   pub part-from : (k : ℕ) (l : List A) → take (length l - k) (drop k l) ≡ drop k l
   part-from k l = take-all (length l - k) (drop k l) (omega (arith, length-drop k l))
 
+  -- `&mut s[..n]`, which comes back as p: l is written
+  pub lent-back : (n : ℕ) (l p old : List A) → p ≡ l → length p ≡ n → p ++ drop n old ≡ written l old
+  lent-back n l p old e h = ap (λ (m : ℕ). p ++ drop m old) (sym h) ∙ ap (λ (q : List A). q ++ drop (length q) old) e
+
   -- the first n entries are l's, the rest is old
   abbrev pub begun : ℕ → List A → List A → List A
   begun n l old = take n l ++ drop n old

@@ -14,4 +14,5 @@ pub mod Worked
 pub mod Floats
 pub mod Products
 pub mod Values
+pub mod Entry
 pub mod ChannelClaims

@@ -107,11 +107,11 @@ extend-begins ts p i h =
     along (λ q. (i < length q) × (entry q i ≡ entry p i)) (λ q v l e. (simp length-append (omega (arith, e .0)), List·getD-append q (v ∷ []) 0 i (e .0) ∙ e .1)) ts p (h, refl) .1
 
 -- a step over a triple whose third is the next auxiliary, and over one whose third is not
-extend-made : (x y a : ℕ) (ts p : List ℕ) → length p ≡ a → extend (x ∷ y ∷ a ∷ ts) p ≡ extend ts (p ++ ((entry p x + entry p y) % 2 ∷ []))
+pub extend-made : (x y a : ℕ) (ts p : List ℕ) → length p ≡ a → extend (x ∷ y ∷ a ∷ ts) p ≡ extend ts (p ++ ((entry p x + entry p y) % 2 ∷ []))
 unfolding extend
 extend-made x y a ts p h = rw (eq-eqb a (length p) (sym h))
 
-extend-kept : (x y z : ℕ) (ts p : List ℕ) → z < length p → extend (x ∷ y ∷ z ∷ ts) p ≡ extend ts p
+pub extend-kept : (x y z : ℕ) (ts p : List ℕ) → z < length p → extend (x ∷ y ∷ z ∷ ts) p ≡ extend ts p
 unfolding extend
 extend-kept x y z ts p h = rw (ne-eqb z (length p) (λ e. omega arith))
 

@@ -17,4 +17,5 @@ pub mod Bounds
 pub mod Claims
 pub mod Paper
 pub mod Table
+pub mod Entry
 pub mod ChannelClaims

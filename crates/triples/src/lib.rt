@@ -14,7 +14,7 @@ ghost use Rattle.triples.specs.Splits.{counted, Written, Splits};
 use model::Reading;
 
 // Item i of the queue of the check record that `s` begins with: its bits, then the auxiliaries from `next` on.
-fn item(s: &[u8], next: usize, i: usize) -> u16
+pub fn item(s: &[u8], next: usize, i: usize) -> u16
     requires { ⌜ 3 + 2 * degree (now s) ≤ length (now s) ⌝ }
     requires { ⌜ i < degree (now s) + turns (indices (now s)) ⌝ }
     requires { ⌜ next ≤ 12288 ⌝ }

@@ -3,6 +3,7 @@ use mathlib.Core.Bool.{Bool, false, not}
 use mathlib.Core.List.{[], _∷_}
 use mathlib.Core.Path.{_≡_, refl, sym, ap, ap₂, _∙_}
 use Prim.Native.Nat.{ℕ}
+use native.Mathlib.Omega.{arith}
 use borrow.Author.Needs.{needs}
 use borrow.Author.Tests.{eq-eqb, ne-eqb}
 use lib.ListN.{length}
@@ -36,7 +37,7 @@ wild-requires : tie.Need-wild-requires
 wild-requires c κs = search needs
 
 returns : tie.Need-returns
-returns c = right (c .before .before) (sym (c .if1 .taken) ∙ c .before .wild .ensures) refl refl refl
+returns c = (right (c .before .before) (sym (c .if1 .taken) ∙ c .before .wild .ensures) refl refl refl, λ e. absurd (omega arith))
 
 tame : (c : tie.Else1) → false ≡ is-wild (c .before .before)
 tame c = sym (c .if1 .left) ∙ c .before .wild .ensures
@@ -44,7 +45,7 @@ tame c = sym (c .if1 .left) ∙ c .before .wild .ensures
 returns-2 : tie.Need-returns-2
 returns-2 c =
     let s = c .before .before .before in
-    right s (tame (c .before)) (sym (ap not (ne-eqb (length (s .args .costs .now)) (s .args .bits) (c .if2 .taken)))) refl refl
+    (right s (tame (c .before)) (sym (ap not (ne-eqb (length (s .args .costs .now)) (s .args .bits) (c .if2 .taken)))) refl refl, λ e. absurd (omega arith))
 
 equal : (c : tie.Else2) → false ≡ is-unequal (c .before .before .before)
 equal c = let a = c .before .before .before .args in sym (ap not (eq-eqb (length (a .costs .now)) (a .bits) (c .if2 .left)))
@@ -55,19 +56,19 @@ some-forbidden-requires c κs = search needs
 returns-3 : tie.Need-returns-3
 returns-3 c =
     let e = c .before .before in
-    right (e .before .before .before) (tame (e .before)) (equal e) (sym (c .if3 .taken) ∙ c .before .some-forbidden .ensures .0) refl
+    (right (e .before .before .before) (tame (e .before)) (equal e) (sym (c .if3 .taken) ∙ c .before .some-forbidden .ensures .0) refl, λ e. absurd (omega arith))
 
 returns-4 : tie.Need-returns-4
 returns-4 c =
     let f = c .before in
     let e = f .before .before in
-    right (e .before .before .before) (tame (e .before)) (equal e) (sym (f .if3 .left) ∙ f .before .some-forbidden .ensures .0) (sym (c .if4 .taken))
+    (right (e .before .before .before) (tame (e .before)) (equal e) (sym (f .if3 .left) ∙ f .before .some-forbidden .ensures .0) (sym (c .if4 .taken)), λ e. absurd (omega arith))
 
 returns-5 : tie.Need-returns-5
 returns-5 c =
     let f = c .before in
     let e = f .before .before in
-    right (e .before .before .before) (tame (e .before)) (equal e) (sym (f .if3 .left) ∙ f .before .some-forbidden .ensures .0) (sym (c .if4 .left))
+    (right (e .before .before .before) (tame (e .before)) (equal e) (sym (f .if3 .left) ∙ f .before .some-forbidden .ensures .0) (sym (c .if4 .left)), λ _. f .before .some-forbidden .ensures .1 (f .if3 .left))
 
 pub cause-spec : {M : Type 1} → statement M
 cause-spec =

@@ -1,90 +1,179 @@
+-- `decoder::run_system` meets its contract: the parts that are lent hold the code's system. Assumes nothing.
+use mathlib.Core.List.{List}
+use mathlib.Core.Path.{_≡_, sym, ap, ap₂, _∙_, subst}
+use Prim.Native.Nat.{ℕ, _*_, _<_}
+use native.Mathlib.Omega.{arith}
 use borrow.Author.Needs.{needs}
+use lib.Dec.{ltb}
+use lib.ListN.{length, getD, take, drop}
+use lib.Seq.{length-take-le, take-at}
+use Rattle.lists.proofs.Parts.{lent-back}
+use Rattle.lists.proofs.Tabulated.{length-tab}
+use Rattle.quotient.specs.Quotient.{quotient}
+use Rattle.model.specs.Iteration.{occurrences, countsOf}
+use Rattle.model.specs.Causes.{outside}
+use Rattle.model.proofs.Accepted.{accepted}
+use Rattle.model.specs.Sound.{Sound}
+use Rattle.model.specs.Run.{mostIterations, Ended, run}
+use Rattle.model.specs.Records.{codeOf}
+use Rattle.model.specs.Bounds.{Ready}
+use Rattle.model.specs.Code.{Code, triples, variables}
+use Rattle.model.specs.Splitting.{System, systemOf}
+use Rattle.model.proofs.Causes.{or-false, within}
+use Rattle.model.proofs.Bounds.{ready}
+use Rattle.triples.proofs.Members.{members-long, member-below}
 use Rattle.decoder.proofs.run_system.Statement.{statement}
 use Rattle.decoder.proofs.run_system.Tie as tie
-use Rattle.decoder.proofs.run_system.Reads as reads
-use Rattle.decoder.proofs.run_system.Lts as lts
-use Rattle.run.proofs.run.Reads as run-reads
-use Rattle.triples.proofs.write_system.Reads as write-system-reads
 
--- src/lib.rt:87:5
 write-system-requires : tie.Need-write-system-requires
-write-system-requires c κs = ?
+unfolding systemOf
+write-system-requires c κs = let s = c .before .before .before .before .before in (s .pre .0 .0, ((s .pre .0 .1, s .pre .0 .2), s .pre .1 .1 .0))
 
--- src/lib.rt:90:20
+-- ---- the code's system
+module _ (w : tie.After-write-system) where
+  abbrev s : tie.Start
+  s = w .before .before .before .before .before .before
+
+  abbrev k : Code
+  k = codeOf (s .args .code .now)
+
+  sound : Sound k
+  sound = accepted (s .args .code .now) (s .pre .0 .0)
+
+  abbrev ts : List ℕ
+  ts = take (3 * s .args .total) (w .write-system .last .1 .1 .1 .0)
+
+  abbrev cs : List ℕ
+  cs = take (s .args .variables) (w .write-system .last .1 .1 .1 .1 .0)
+
+  abbrev n : ℕ
+  n = length (take (s .args .variables) (s .args .values .now))
+
+  ts-is : ts ≡ systemOf k .members
+  ts-is =
+      ap (take (3 * s .args .total)) (w .write-system .ensures .members)
+      ∙ take-at (systemOf k .members) (drop (length (systemOf k .members)) (s .args .triples .now)) (3 * s .args .total) (members-long k sound ∙ ap (λ (t : ℕ). 3 * t) (sym (s .pre .0 .1)))
+
+  length-counts : length (countsOf (systemOf k)) ≡ s .args .variables
+  unfolding countsOf systemOf
+  length-counts = length-tab (variables k) (occurrences (systemOf k .members) (systemOf k .triples)) ∙ sym (s .pre .0 .2)
+
+  cs-is : cs ≡ countsOf (systemOf k)
+  cs-is =
+      ap (take (s .args .variables)) (w .write-system .ensures .occurring)
+      ∙ take-at (countsOf (systemOf k)) (drop (length (countsOf (systemOf k))) (s .args .counts .now)) (s .args .variables) length-counts
+
+  n-is : n ≡ s .args .variables
+  n-is = length-take-le (s .args .variables) (s .args .values .now) (s .pre .1 .1 .1 .1)
+
+  system-is : record { variables = n; triples = s .args .total; members = ts } ≡ systemOf k
+  unfolding systemOf
+  system-is =
+      ap₂ (λ (n t : ℕ). record { variables = n; triples = t; members = ts }) (n-is ∙ s .pre .0 .2) (s .pre .0 .1)
+      ∙ ap (λ (l : List ℕ). record { variables = variables k; triples = triples k; members = l }) ts-is
+
+  ts-long : length ts ≡ 3 * s .args .total
+  ts-long = ap length ts-is ∙ members-long k sound ∙ ap (λ (t : ℕ). 3 * t) (sym (s .pre .0 .1))
+
+  sums-long : length (take (s .args .variables) (s .args .sums .now)) ≡ s .args .variables
+  sums-long = length-take-le (s .args .variables) (s .args .sums .now) (s .pre .1 .1 .1 .0)
+
+  rows-long : length (take (4 * s .args .total) (s .args .rows .now)) ≡ 4 * s .args .total
+  rows-long = length-take-le (4 * s .args .total) (s .args .rows .now) (s .pre .1 .1 .1 .2)
+
+  members-below : (i : ℕ) → i < length ts → getD ts i 0 < n
+  members-below i h =
+      subst (λ (m : ℕ). getD ts i 0 < m) (sym (n-is ∙ s .pre .0 .2))
+      (subst (λ (l : List ℕ). getD l i 0 < variables k) (sym ts-is) (member-below k sound i (omega (arith, ts-long, s .pre .0 .1))))
+
+  is-ready : Ready (systemOf k) (s .args .settings) (s .args .costs .now)
+  is-ready = ready k sound (s .args .settings) (s .pre .1 .0 .0) (s .args .costs .now) (s .pre .1 .0 .1)
+
 mul-run : tie.Need-mul-run
 mul-run c = search needs
 
--- src/lib.rt:90:9
 slice-reshare-prefix-run : tie.Need-slice-reshare-prefix-run
 slice-reshare-prefix-run c = search needs
 
--- src/lib.rt:90:9
 slice-aggregate-run : tie.Need-slice-aggregate-run
-slice-aggregate-run c = ?
+slice-aggregate-run c = sym (ts-long (c .before .before .before .before .before))
 
--- src/lib.rt:91:9
 slice-reshare-prefix-run-2 : tie.Need-slice-reshare-prefix-run-2
 slice-reshare-prefix-run-2 c = search needs
 
--- src/lib.rt:91:9
 slice-aggregate-run-2 : tie.Need-slice-aggregate-run-2
-slice-aggregate-run-2 c = ?
+slice-aggregate-run-2 c = let w = c .before .before .before .before .before .before in sym (ap length (cs-is w) ∙ length-counts w)
 
--- src/lib.rt:94:9
 slice-relend-prefix-run : tie.Need-slice-relend-prefix-run
 slice-relend-prefix-run c = search needs
 
--- src/lib.rt:94:9
 slice-aggregate-run-3 : tie.Need-slice-aggregate-run-3
-slice-aggregate-run-3 c = ?
+slice-aggregate-run-3 c = sym (sums-long (c .before .before .before .before .before .before .before))
 
--- src/lib.rt:95:9
 slice-relend-prefix-run-2 : tie.Need-slice-relend-prefix-run-2
 slice-relend-prefix-run-2 c = search needs
 
--- src/lib.rt:95:9
 slice-aggregate-run-4 : tie.Need-slice-aggregate-run-4
-slice-aggregate-run-4 c = ?
+slice-aggregate-run-4 c = sym (n-is (c .before .before .before .before .before .before .before .before))
 
--- src/lib.rt:96:21
 mul-run-2 : tie.Need-mul-run-2
 mul-run-2 c = search needs
 
--- src/lib.rt:96:9
 slice-relend-prefix-run-3 : tie.Need-slice-relend-prefix-run-3
 slice-relend-prefix-run-3 c = search needs
 
--- src/lib.rt:96:9
 slice-aggregate-run-5 : tie.Need-slice-aggregate-run-5
-slice-aggregate-run-5 c = ?
+slice-aggregate-run-5 c = sym (rows-long (c .before .before .before .before .before .before .before .before .before))
 
--- src/lib.rt:88:5
 run-requires : tie.Need-run-requires
-run-requires c κs = ?
+run-requires c κs =
+    let w = c .before .before .before .before .before .before .before .before .before in
+    let a = s w .args in
+    let wide = or-false (outside 1 65535 (a .settings .weight)) _ (s w .pre .1 .0 .0) in
+    (
+      (sym (ts-long w), sums-long w ∙ sym (n-is w), sym (rows-long w)),
+      (
+        members-below w,
+        (
+          subst (λ (h : System). (cs w ≡ countsOf h) × Ready h (a .settings) (a .costs .now)) (sym (system-is w)) (cs-is w, is-ready w),
+          within 1 mostIterations (a .settings .limit) (or-false (ltb 1023 (a .settings .ratio)) _ (wide .1) .1),
+        ),
+      ),
+    )
 
--- src/lib.rt:76:1
 same-length : tie.Need-same-length
 same-length c = search needs
 
--- src/lib.rt:76:1
 same-length-2 : tie.Need-same-length-2
 same-length-2 c = search needs
 
--- src/lib.rt:76:1
 same-length-3 : tie.Need-same-length-3
 same-length-3 c = search needs
 
--- src/lib.rt:76:1
 same-length-4 : tie.Need-same-length-4
 same-length-4 c = search needs
 
--- src/lib.rt:76:1
 same-length-5 : tie.Need-same-length-5
 same-length-5 c = search needs
 
--- src/lib.rt:76:1
 returns : tie.Need-returns
-returns c = ?
+returns c =
+    let r = c .before .before .before .run in
+    let w = c .before .before .before .before .before .before .before .before .before .before .before .before .before in
+    let a = s w .args in
+    let e : record { k = r .result .k; settled = r .result .settled; last = record { sums = r .last .1 .1 .1 .1 .1 .0; values = r .last .1 .1 .1 .1 .1 .1 .0; rows = r .last .1 .1 .1 .1 .1 .1 .1 .0 } } ≡ run quotient (systemOf (k w)) (a .settings) (a .costs .now)
+    = r .ensures ∙ ap (λ (h : System). run quotient h (a .settings) (a .costs .now)) (system-is w) in
+    (
+      (w .write-system .ensures .members, w .write-system .ensures .occurring),
+      (
+        ap (λ (x : Ended). x .k) e,
+        ap (λ (x : Ended). x .settled) e,
+        lent-back (a .variables) _ (r .last .1 .1 .1 .1 .1 .0) (a .sums .now) (ap (λ (x : Ended). x .last .sums) e) (r .kept .1 .1 .1 .1 .1 .0 ∙ sums-long w),
+        lent-back (a .variables) _ (r .last .1 .1 .1 .1 .1 .1 .0) (a .values .now) (ap (λ (x : Ended). x .last .values) e) (r .kept .1 .1 .1 .1 .1 .1 .0 ∙ n-is w),
+        lent-back (4 * a .total) _ (r .last .1 .1 .1 .1 .1 .1 .1 .0) (a .rows .now) (ap (λ (x : Ended). x .last .rows) e) (r .kept .1 .1 .1 .1 .1 .1 .1 .0 ∙ rows-long w),
+        ap (λ (x : Ended). length (x .last .values)) (sym e) ∙ r .kept .1 .1 .1 .1 .1 .1 .0 ∙ n-is w,
+      ),
+    )
 
 pub run-system-spec : {M : Type 1} → statement M
 run-system-spec =

@@ -1,0 +1,65 @@
+-- `codeword::copy` meets its contract: what is copied so far. Assumes nothing.
+use mathlib.Core.Path.{_≡_, refl, ap, _∙_}
+use Prim.Native.Nat.{_-_, _≤_}
+use native.Mathlib.Numerals.{add-one}
+use native.Mathlib.Omega.{arith}
+use lib.ListN.{length}
+use Rattle.lists.specs.Tabulated.{over}
+use Rattle.lists.proofs.Tabulated.{over-next, over-all, length-over}
+use Rattle.model.specs.Words.{entry}
+use Rattle.codeword.proofs.copy.Statement.{statement}
+use Rattle.codeword.proofs.copy.Tie as tie
+
+abbrev Inv-loop : tie.InvT-loop
+Inv-loop word point₀ v₀ v-end point v = (v ≤ length word) × (point ≡ over v (entry word) point₀)
+
+abbrev μ-loop : tie.MeasureT-loop
+μ-loop word point₀ v₀ v-end point v = length word - v
+
+loop-holds : tie.Need-loop-holds Inv-loop μ-loop
+loop-holds c = (omega arith, refl)
+
+long : (c : tie.At-loop Inv-loop μ-loop) → length (c .loop .point) ≡ length (c .before .args .point .now)
+long c = ap length (c .loop .inv .1) ∙ length-over (c .loop .v) (entry (c .before .args .word .now)) (c .before .args .point .now) (omega arith)
+
+shared-slice-read-point : tie.Need-shared-slice-read-point Inv-loop μ-loop
+shared-slice-read-point c = omega arith
+
+slice-write-point : tie.Need-slice-write-point Inv-loop μ-loop
+slice-write-point c = omega (arith, long (c .before .before))
+
+add-v : tie.Need-add-v Inv-loop μ-loop
+add-v c = omega arith
+
+loop-less : tie.Need-loop-less Inv-loop μ-loop
+loop-less c = omega arith
+
+loop-again : tie.Need-loop-again Inv-loop μ-loop
+loop-again c =
+    let l = c .before .before .loop in
+    (omega arith, rw (l .inv .1, add-one (l .v)) (over-next (l .v) (entry (c .before .before .before .args .word .now)) _ _ (omega arith) refl))
+
+same-length : tie.Need-same-length Inv-loop μ-loop
+same-length c = long (c .before)
+
+returns : tie.Need-returns Inv-loop μ-loop
+returns c =
+    let l = c .before in
+    let a = l .before .args in
+    let e : l .loop .v ≡ length (a .word .now) = omega arith in
+    l .loop .inv .1 ∙ rw e (over-all (a .word .now) (a .point .now) 0)
+
+pub copy-spec : {M : Type 1} → statement M
+copy-spec =
+    tie.close
+    (tie.spec
+    Inv-loop
+    μ-loop
+    loop-holds
+    shared-slice-read-point
+    slice-write-point
+    add-v
+    loop-less
+    loop-again
+    same-length
+    returns)

@@ -1,0 +1,21 @@
+-- `codeword::judge_word` meets its contract: the tests in order. Assumes nothing.
+use mathlib.Core.Path.{sym, _∙_}
+use borrow.Author.Needs.{needs}
+use borrow.Author.Tests.{eq-eqb, ne-eqb}
+use Rattle.codeword.proofs.judge_word.Statement.{statement}
+use Rattle.codeword.proofs.judge_word.Tie as tie
+
+returns : tie.Need-returns
+returns c = rw (ne-eqb _ _ (c .if1 .taken))
+
+some-not-binary-requires : tie.Need-some-not-binary-requires
+some-not-binary-requires c κs = search needs
+
+returns-2 : tie.Need-returns-2
+returns-2 c = rw (eq-eqb _ _ (c .before .before .if1 .left), sym (c .before .some-not-binary .ensures) ∙ c .if2 .taken)
+
+returns-3 : tie.Need-returns-3
+returns-3 c = rw (eq-eqb _ _ (c .before .before .if1 .left), sym (c .before .some-not-binary .ensures) ∙ c .if2 .left)
+
+pub judge-word-spec : {M : Type 1} → statement M
+judge-word-spec = tie.close (tie.spec returns some-not-binary-requires returns-2 returns-3)

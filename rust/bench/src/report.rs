@@ -1,0 +1,98 @@
+//! The tables that the program prints.
+
+use crate::contest::ContestResult;
+use crate::scenario::{Scenario, SCALE, SETTINGS};
+
+pub fn settings() {
+    println!(
+        "W {}, A {}, K {}, X {}, Gaussian scale {SCALE}; the least time of each frame in interleaved rounds",
+        SETTINGS.weight, SETTINGS.ratio, SETTINGS.limit, SETTINGS.tolerance
+    );
+}
+
+/// The columns of each decoder, then the ratios of the first to the others.
+fn columns(names: &[&str], width: usize) -> String {
+    let names = names.iter().map(|name| format!("{name:>width$}"));
+    names.collect::<Vec<String>>().join(" ")
+}
+
+fn ratio_names(names: &[&str]) -> Vec<String> {
+    let others = names[1..].iter();
+    others
+        .map(|other| format!("{}/{other}", names[0]))
+        .collect()
+}
+
+pub fn heading(names: Vec<&str>) {
+    let ratios = ratio_names(&names);
+    let ratios: Vec<&str> = ratios.iter().map(String::as_str).collect();
+    println!();
+    println!(
+        "   n     T level   dB frames  k/frame settled right | ns per triple and iteration: {} | middle: {} | frames/s: {} | {}",
+        columns(&names, 8),
+        columns(&names, 8),
+        columns(&names, 8),
+        columns(&ratios, 13),
+    );
+}
+
+/// Nanoseconds a triple and iteration.
+fn per_triple(scenario: &Scenario, result: &ContestResult, seconds: f64) -> f64 {
+    1e9 * seconds / (result.iterations as f64 * scenario.code.triples() as f64)
+}
+
+fn numbers(numbers: impl Iterator<Item = f64>, width: usize, digits: usize) -> String {
+    let numbers = numbers.map(|number| format!("{number:>width$.digits$}"));
+    numbers.collect::<Vec<String>>().join(" ")
+}
+
+fn ratios(result: &ContestResult) -> String {
+    let first = result.seconds[0].0;
+    let others = result.seconds[1..].iter();
+    numbers(others.map(|(least, _)| first / least), 13, 2)
+}
+
+pub fn line(scenario: &Scenario, result: &ContestResult) {
+    let frames = scenario.frames.len();
+    let times = result.seconds.iter();
+    println!(
+        "{:>4} {:>5} {:>5} {:>4.1} {frames:>6} {:>8.1} {:>7} {:>5} | {:29}{} | {:7} {} | {:9} {} | {}",
+        scenario.code.bits,
+        scenario.code.triples(),
+        scenario.name,
+        scenario.decibels,
+        result.iterations as f64 / frames as f64,
+        result.settled,
+        result.right,
+        "",
+        numbers(times.clone().map(|(least, _)| per_triple(scenario, result, *least)), 8, 2),
+        "",
+        numbers(times.clone().map(|(_, middle)| per_triple(scenario, result, *middle)), 8, 2),
+        "",
+        numbers(times.map(|(least, _)| frames as f64 / least), 8, 0),
+        ratios(result),
+    );
+}
+
+pub fn growth_heading(names: Vec<&str>) {
+    println!();
+    println!(
+        "Growth with n, 50 iterations a frame:\n   n     T | microseconds a frame: {} | ns per triple and iteration: {}",
+        columns(&names, 9),
+        columns(&names, 8),
+    );
+}
+
+pub fn growth_line(scenario: &Scenario, result: &ContestResult) {
+    let frames = scenario.frames.len() as f64;
+    let times = result.seconds.iter().map(|(least, _)| *least);
+    println!(
+        "{:>4} {:>5} | {:22}{} | {:29}{}",
+        scenario.code.bits,
+        scenario.code.triples(),
+        "",
+        numbers(times.clone().map(|least| 1e6 * least / frames), 9, 1),
+        "",
+        numbers(times.map(|least| per_triple(scenario, result, least)), 8, 2),
+    );
+}

@@ -1,0 +1,87 @@
+//! Codes and frames to decode.
+
+use compare::codes::{records, regular_code, training_code, Code};
+use compare::random::Random;
+use interface::{Channel, Library, Settings};
+use rivals::Plain;
+
+/// The scale from samples of size 1 to costs.
+pub const SCALE: f32 = 1000.0;
+
+/// Settings with which decoding works at this scale.
+pub const SETTINGS: Settings = Settings {
+    weight: 8_000,
+    ratio: 150,
+    limit: 300,
+    tolerance: 1_000_000,
+};
+
+const SEED: u64 = 2_026;
+
+pub struct Scenario {
+    pub name: &'static str,
+    pub code: Code,
+    pub records: Vec<u8>,
+    /// Signal to noise, in decibels a bit of information.
+    pub decibels: f64,
+    pub settings: Settings,
+    pub frames: Vec<Vec<i16>>,
+}
+
+impl Scenario {
+    fn new(name: &'static str, code: Code, decibels: f64, frames: usize) -> Scenario {
+        let mut random = Random::new(SEED);
+        let rate = 1.0 - code.checks.len() as f64 / code.bits as f64;
+        let noise = (0.5 / (rate * 10f64.powf(decibels / 10.0))).sqrt();
+        Scenario {
+            name,
+            records: records(&code),
+            frames: (0..frames)
+                .map(|_| frame(&mut random, code.bits, noise))
+                .collect(),
+            code,
+            decibels,
+            settings: SETTINGS,
+        }
+    }
+}
+
+/// The costs of a received word of zeros; by reflection any other codeword
+/// takes the same time.
+fn frame(random: &mut Random, bits: usize, noise: f64) -> Vec<i16> {
+    let samples: Vec<f32> = (0..bits)
+        .map(|_| (1.0 + noise * random.normal()) as f32)
+        .collect();
+    let mut costs = vec![0; bits];
+    let number = Plain.channel(Channel::Gaussian(SCALE), &samples, &mut costs);
+    assert_eq!(number, 0);
+    costs
+}
+
+fn regular(bits: usize) -> Code {
+    regular_code(&mut Random::new(SEED + bits as u64), bits, 3, 6)
+}
+
+/// Each code at a level where most frames settle soon, and at a hard one.
+pub fn all() -> Vec<Scenario> {
+    vec![
+        Scenario::new("easy", training_code(), 4.0, 200),
+        Scenario::new("hard", training_code(), 0.0, 100),
+        Scenario::new("easy", regular(1_008), 3.0, 40),
+        Scenario::new("hard", regular(1_008), 0.5, 8),
+        Scenario::new("easy", regular(4_096), 3.0, 10),
+        Scenario::new("hard", regular(4_096), 0.5, 2),
+    ]
+}
+
+/// Regular codes of growing length with a fixed number of iterations.
+pub fn growing() -> Vec<Scenario> {
+    let lengths = [64, 128, 256, 512, 1_024, 2_048, 4_096];
+    let scenario = |bits: usize| {
+        let mut scenario = Scenario::new("fixed", regular(bits), 0.5, 16_384 / bits);
+        scenario.settings.limit = 50;
+        scenario.settings.tolerance = 0;
+        scenario
+    };
+    lengths.map(scenario).into()
+}

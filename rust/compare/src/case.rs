@@ -1,0 +1,67 @@
+//! One call with all its inputs and the lengths of its lent lists.
+
+use interface::{Channel, Settings};
+
+#[derive(Clone, Debug, PartialEq)]
+pub enum Case {
+    Read {
+        code: Vec<u8>,
+    },
+    /// Room for triples and counts.
+    Split {
+        code: Vec<u8>,
+        room: [usize; 2],
+    },
+    Channel {
+        setting: Channel,
+        samples: Vec<f32>,
+        room: usize,
+    },
+    Reflect {
+        costs: Vec<i16>,
+        word: Vec<u8>,
+        room: usize,
+    },
+    Test {
+        code: Vec<u8>,
+        word: Vec<u8>,
+    },
+    Extend {
+        code: Vec<u8>,
+        word: Vec<u8>,
+        room: usize,
+    },
+    Decode(DecodeCase),
+    Frames {
+        input: Vec<u8>,
+    },
+}
+
+/// Room for triples, counts, sums, values, rows and word.
+#[derive(Clone, Debug, PartialEq)]
+pub struct DecodeCase {
+    pub code: Vec<u8>,
+    pub settings: Settings,
+    pub costs: Vec<i16>,
+    pub room: [usize; 6],
+}
+
+impl Case {
+    /// The entry that the case calls.
+    pub fn entry(&self) -> &'static str {
+        match self {
+            Case::Read { .. } => "read",
+            Case::Split { .. } => "split",
+            Case::Channel { setting, .. } => match setting {
+                Channel::Gaussian(_) => "gaussian",
+                Channel::Hard(_) => "hard",
+                Channel::Erasing(_) => "erasing",
+            },
+            Case::Reflect { .. } => "reflect",
+            Case::Test { .. } => "test",
+            Case::Extend { .. } => "extend",
+            Case::Decode(_) => "decode",
+            Case::Frames { .. } => "frames",
+        }
+    }
+}

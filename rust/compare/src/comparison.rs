@@ -1,0 +1,54 @@
+//! The comparison itself: every case of a family, every answer and list.
+
+use crate::case::Case;
+use crate::families::{all, Effort};
+use crate::outcome::outcome;
+use crate::tally::Tally;
+use interface::Library;
+use reference::Reference;
+use std::fmt;
+
+/// A case on which a library differs from the reference.
+pub struct Failure {
+    pub family: &'static str,
+    /// The seed of a random case, the place of a listed one.
+    pub seed: u64,
+    pub case: Case,
+    pub difference: String,
+}
+
+impl fmt::Display for Failure {
+    fn fmt(&self, text: &mut fmt::Formatter) -> fmt::Result {
+        writeln!(text, "family {:?}, seed {:#x}", self.family, self.seed)?;
+        writeln!(text, "{}", self.difference)?;
+        writeln!(text, "replay with this line as standard input of `replay`:")?;
+        write!(text, "{}", self.case)
+    }
+}
+
+impl fmt::Debug for Failure {
+    fn fmt(&self, text: &mut fmt::Formatter) -> fmt::Result {
+        fmt::Display::fmt(self, text)
+    }
+}
+
+/// Compares a library with the reference on every case; counts what was met.
+pub fn compare_all(library: &dyn Library, effort: Effort) -> Result<Tally, Box<Failure>> {
+    let mut tally = Tally::default();
+    for family in all() {
+        family.visit(effort, |seed, case| {
+            let expected = outcome(&Reference, &case);
+            tally.add(&case, &expected);
+            match outcome(library, &case).difference(&expected) {
+                None => Ok(()),
+                Some(difference) => Err(Box::new(Failure {
+                    family: family.name,
+                    seed,
+                    case,
+                    difference,
+                })),
+            }
+        })?;
+    }
+    Ok(tally)
+}

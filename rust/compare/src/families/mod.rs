@@ -1,0 +1,99 @@
+//! Families of cases: listed ones, and random ones with a seed each.
+
+mod channels;
+mod decoding;
+mod programs;
+mod records;
+mod words;
+
+use crate::case::Case;
+use crate::random::Random;
+use std::env;
+
+pub enum Cases {
+    Listed(fn() -> Vec<Case>),
+    Random {
+        count: usize,
+        make: fn(&mut Random) -> Case,
+    },
+}
+
+pub struct Family {
+    pub name: &'static str,
+    pub cases: Cases,
+}
+
+/// How many random cases a family has: its count, or many times that.
+#[derive(Clone, Copy, Debug, PartialEq, Eq)]
+pub enum Effort {
+    Quick,
+    Full,
+}
+
+const SEED: u64 = 0x5749_4441_4742_4531;
+
+/// The seed from which every family's seeds come: always the same, unless
+/// COMPARE_SEED holds another number.
+pub fn seed() -> u64 {
+    match env::var("COMPARE_SEED") {
+        Ok(number) => number.parse().expect("COMPARE_SEED is a number"),
+        Err(_) => SEED,
+    }
+}
+
+impl Family {
+    fn listed(name: &'static str, cases: fn() -> Vec<Case>) -> Family {
+        Family {
+            name,
+            cases: Cases::Listed(cases),
+        }
+    }
+
+    fn random(name: &'static str, count: usize, make: fn(&mut Random) -> Case) -> Family {
+        Family {
+            name,
+            cases: Cases::Random { count, make },
+        }
+    }
+
+    /// The first seed of the family: the common one and the name, mixed.
+    fn first_seed(&self) -> u64 {
+        let mixed = self
+            .name
+            .bytes()
+            .fold(SEED, |seed, byte| Random::new(seed ^ u64::from(byte)).any());
+        mixed >> 16
+    }
+
+    /// Hands each case with its seed to `visit` until that fails.
+    pub fn visit<E>(
+        &self,
+        effort: Effort,
+        mut visit: impl FnMut(u64, Case) -> Result<(), E>,
+    ) -> Result<(), E> {
+        match self.cases {
+            Cases::Listed(cases) => (0..)
+                .zip(cases())
+                .try_for_each(|(place, case)| visit(place, case)),
+            Cases::Random { count, make } => {
+                let first = self.first_seed();
+                let times = match effort {
+                    Effort::Quick => 1,
+                    Effort::Full => 8,
+                };
+                (first..first + times * count as u64)
+                    .try_for_each(|seed| visit(seed, make(&mut Random::new(seed))))
+            }
+        }
+    }
+}
+
+/// The families of every entry.
+pub fn all() -> Vec<Family> {
+    let mut families = records::families();
+    families.extend(words::families());
+    families.extend(channels::families());
+    families.extend(decoding::families());
+    families.extend(programs::families());
+    families
+}

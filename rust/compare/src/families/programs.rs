@@ -1,0 +1,205 @@
+//! Input of the frame program.
+
+use super::Family;
+use crate::case::Case;
+use crate::codes::{one_check, random_code, records, Code, Shape};
+use crate::codewords::Codewords;
+use crate::damage::{apply, damages_of};
+use crate::draft::{code_within, random_costs, random_settings, tiny_code, Draft, Entry};
+use crate::random::Random;
+use interface::Settings;
+
+pub fn families() -> Vec<Family> {
+    vec![
+        Family::listed("the listing, cut at every byte", listing),
+        Family::listed("the program's room", room),
+        Family::listed("a settings record of every edge", edge_settings),
+        Family::random("streams", 300, stream),
+        Family::random("cut streams", 300, cut_stream),
+        Family::random("damaged streams", 600, damaged_stream),
+        Family::random("streams with damaged records", 400, damaged_records),
+        Family::random("large streams", 20, large_stream),
+    ]
+}
+
+fn settings_record(settings: Settings) -> Vec<u8> {
+    let mut bytes = vec![b'L', b'S'];
+    for field in [settings.weight, settings.ratio, settings.limit] {
+        bytes.extend((field as u16).to_be_bytes());
+    }
+    bytes.extend(settings.tolerance.to_be_bytes());
+    bytes
+}
+
+fn frame_record(costs: &[i16]) -> Vec<u8> {
+    let mut bytes = vec![b'L', b'F'];
+    bytes.extend(costs.iter().flat_map(|cost| cost.to_be_bytes()));
+    bytes
+}
+
+fn listed_settings() -> Settings {
+    Settings {
+        weight: 256,
+        ratio: 0,
+        limit: 2,
+        tolerance: 0,
+    }
+}
+
+fn listing() -> Vec<Case> {
+    let mut input = records(&one_check(3));
+    input.extend(settings_record(listed_settings()));
+    for costs in [[0; 3], [20_000, 20_000, -8_000], [20_000; 3], [i16::MIN; 3]] {
+        input.extend(frame_record(&costs));
+    }
+    (0..=input.len())
+        .map(|length| Case::Frames {
+            input: input[..length].to_vec(),
+        })
+        .collect()
+}
+
+/// Codes of about 512 bits and 1,024 triples, whole, cut, damaged and followed
+/// by settings.
+fn room() -> Vec<Case> {
+    let mut random = Random::new(6);
+    let mut cases = Vec::new();
+    for (bits, checks, triples) in [
+        (512, 256, 1_024),
+        (512, 256, 1_025),
+        (513, 256, 1_024),
+        (511, 100, 1_023),
+        (512, 16, 480),
+        (32, 35, 1_024),
+        (32, 35, 1_030),
+        (7, 206, 1_026),
+    ] {
+        let shape = Shape {
+            bits,
+            checks,
+            triples,
+        };
+        let code = random_code(&mut random, shape);
+        let mut whole = records(&code);
+        let end = whole.len();
+        whole.extend(settings_record(listed_settings()));
+        whole.extend(frame_record(&vec![100; bits]));
+        let mut no_checks = whole.clone();
+        no_checks[4..6].copy_from_slice(&[0, 0]);
+        let mut unused = whole.clone();
+        unused[2..4].copy_from_slice(&(bits as u16 + 1).to_be_bytes());
+        let mut high_index = whole.clone();
+        high_index[end - 1] = 255;
+        high_index[end - 2] = 255;
+        for length in [4, 5, 6, end - 1, end, end + 1, end + 2, end + 12] {
+            let input = whole[..length].to_vec();
+            cases.push(Case::Frames { input });
+        }
+        for input in [whole, no_checks, unused, high_index] {
+            cases.push(Case::Frames { input });
+        }
+    }
+    cases
+}
+
+fn edge_settings() -> Vec<Case> {
+    let mut cases = Vec::new();
+    for field in 0..3 {
+        for number in [0u16, 1, 1_000, 1_001, 1_023, 1_024, 65_535] {
+            let mut record = settings_record(listed_settings());
+            record[2 + 2 * field..4 + 2 * field].copy_from_slice(&number.to_be_bytes());
+            for length in 0..=record.len() {
+                let mut input = records(&one_check(3));
+                input.extend(&record[..length]);
+                cases.push(Case::Frames { input });
+            }
+        }
+    }
+    for tolerance in [0x3FFF_FFFF, 0x4000_0000, 0x0000_0040, 0xFFFF_FFFF] {
+        let mut settings = listed_settings();
+        settings.tolerance = tolerance;
+        let mut input = records(&one_check(3));
+        input.extend(settings_record(settings));
+        input.extend(frame_record(&[0; 3]));
+        cases.push(Case::Frames { input });
+    }
+    cases
+}
+
+/// Settings and frames for a code.
+fn after_code(random: &mut Random, code: &Code) -> Vec<u8> {
+    let codewords = Codewords::of(code);
+    let mut bytes = settings_record(random_settings(random));
+    for _ in 0..random.below(6) {
+        let codeword = codewords.random(random);
+        let mut costs = random_costs(random, &codeword);
+        if random.once_in(5) {
+            let place = random.below(costs.len());
+            costs[place] = i16::MIN;
+        }
+        bytes.extend(frame_record(&costs));
+    }
+    bytes
+}
+
+fn stream_of(random: &mut Random, code: &Code) -> Vec<u8> {
+    let mut input = records(code);
+    input.extend(after_code(random, code));
+    input
+}
+
+fn some_code(random: &mut Random) -> Code {
+    match random.below(3) {
+        0 => code_within(random, 60, 30, 200),
+        _ => tiny_code(random),
+    }
+}
+
+fn stream(random: &mut Random) -> Case {
+    let code = some_code(random);
+    Case::Frames {
+        input: stream_of(random, &code),
+    }
+}
+
+fn cut_stream(random: &mut Random) -> Case {
+    let code = some_code(random);
+    let mut input = stream_of(random, &code);
+    input.truncate(random.below(input.len()));
+    Case::Frames { input }
+}
+
+/// A stream with bytes flipped, left out or put in.
+fn damaged_stream(random: &mut Random) -> Case {
+    let code = some_code(random);
+    let mut input = stream_of(random, &code);
+    for _ in 0..random.between(1, 2) {
+        let place = random.below(input.len());
+        match random.below(4) {
+            0 => drop(input.remove(place)),
+            1 => input.insert(place, random.pick(&[0, b'L', 255])),
+            _ => input[place] ^= random.between(1, 255) as u8,
+        }
+    }
+    Case::Frames { input }
+}
+
+/// Damaged code records, with settings and frames after them.
+fn damaged_records(random: &mut Random) -> Case {
+    let code = some_code(random);
+    let mut draft = Draft::random(random, code);
+    for _ in 0..random.between(1, 2) {
+        let damage = random.pick(&damages_of(Entry::Read));
+        apply(random, &mut draft, Entry::Read, damage);
+    }
+    let mut input = draft.records.clone();
+    input.extend(after_code(random, &draft.code));
+    Case::Frames { input }
+}
+
+fn large_stream(random: &mut Random) -> Case {
+    let code = code_within(random, 512, 300, 1_024);
+    Case::Frames {
+        input: stream_of(random, &code),
+    }
+}

@@ -1,0 +1,203 @@
+//! Code records for the reader and the splitter, and damage for every entry
+//! that takes them.
+
+use super::Family;
+use crate::case::Case;
+use crate::codes::{one_check, random_code, records, training_code, Code, Shape};
+use crate::damage::{apply, damages_of};
+use crate::draft::{small_code, tiny_code, Draft, Entry, ENTRIES};
+use crate::random::Random;
+
+pub fn families() -> Vec<Family> {
+    vec![
+        Family::listed("records cut at every byte", every_cut),
+        Family::listed("records at the edges", edges),
+        Family::listed("one check of every degree", every_degree),
+        Family::listed("pairs of damages", damage_pairs),
+        Family::listed("records of the largest codes", largest),
+        Family::random("damaged tiny codes", 4_000, damaged_tiny),
+        Family::random("damaged small codes", 2_000, damaged_small),
+        Family::random("split of small codes", 500, split_small),
+        Family::random("split of large codes", 20, split_large),
+        Family::random("records of any bytes", 500, any_bytes),
+    ]
+}
+
+fn exact_split(code: &Code) -> Case {
+    Case::Split {
+        code: records(code),
+        room: [3 * code.triples(), code.variables()],
+    }
+}
+
+/// A call of every entry with these records, else fit for this code.
+fn calls(code: &Code, records: &[u8]) -> Vec<Case> {
+    let mut draft = Draft::random(&mut Random::new(0), code.clone());
+    draft.records = records.to_vec();
+    draft.settings.limit = 2;
+    ENTRIES.map(|entry| draft.case(entry)).to_vec()
+}
+
+fn every_cut() -> Vec<Case> {
+    let mut random = Random::new(1);
+    let mut cases = Vec::new();
+    for code in [
+        one_check(3),
+        tiny_code(&mut random),
+        small_code(&mut random),
+        training_code(),
+    ] {
+        let records = records(&code);
+        for length in 0..=records.len() {
+            cases.extend(calls(&code, &records[..length]));
+        }
+    }
+    cases
+}
+
+/// A header with these numbers, and one sound check.
+fn with_header(bits: u16, checks: u16) -> Vec<u8> {
+    let mut code = records(&one_check(3));
+    code[2..4].copy_from_slice(&bits.to_be_bytes());
+    code[4..6].copy_from_slice(&checks.to_be_bytes());
+    code
+}
+
+fn edges() -> Vec<Case> {
+    let mut codes = Vec::new();
+    for size in [
+        0, 1, 2, 3, 4, 255, 256, 2_047, 2_048, 2_049, 4_095, 4_096, 4_097, 65_535,
+    ] {
+        for code in [with_header(size, 1), with_header(3, size)] {
+            for length in 2..=code.len() {
+                codes.push(code[..length].to_vec());
+            }
+        }
+    }
+    for first in 0..=255 {
+        codes.push(vec![first]);
+        codes.push(vec![first, 0x48]);
+        codes.push(vec![0x4C, first]);
+        let mut code = records(&one_check(33));
+        code[8] = first;
+        codes.push(code);
+    }
+    let of_each = |code: Vec<u8>| calls(&one_check(3), &code);
+    codes.into_iter().flat_map(of_each).collect()
+}
+
+fn every_degree() -> Vec<Case> {
+    let mut cases = Vec::new();
+    for degree in 2..=34 {
+        let code = one_check(degree.max(3));
+        let (triples, variables) = (3 * (code.bits - 2), 2 * code.bits - 3);
+        for room in [
+            [triples, variables],
+            [triples - 1, variables],
+            [triples, variables - 1],
+            [triples + 1, variables + 1],
+            [0, variables],
+            [triples, 0],
+        ] {
+            let code = records(&code);
+            cases.push(Case::Split { code, room });
+        }
+    }
+    cases
+}
+
+/// Every pair of damages that an entry can meet, on several codes.
+fn damage_pairs() -> Vec<Case> {
+    let mut random = Random::new(2);
+    let mut cases = Vec::new();
+    for entry in ENTRIES {
+        for first in damages_of(entry) {
+            for second in damages_of(entry) {
+                let code = small_code(&mut random);
+                let mut draft = Draft::random(&mut random, code);
+                apply(&mut random, &mut draft, entry, first);
+                apply(&mut random, &mut draft, entry, second);
+                cases.push(draft.case(entry));
+            }
+        }
+    }
+    cases
+}
+
+/// Codes at the limits of bits, checks, degrees and triples, and just beyond.
+fn largest() -> Vec<Case> {
+    let mut random = Random::new(3);
+    let mut cases = Vec::new();
+    for (bits, checks, triples) in [
+        (4_096, 2_048, 8_192),
+        (4_096, 2_048, 8_193),
+        (4_096, 2_047, 8_192),
+        (4_096, 128, 3_840),
+        (4_095, 300, 8_192),
+        (3, 2_048, 2_048),
+        (7, 1_639, 8_192),
+        (7, 1_639, 8_195),
+        (32, 274, 8_192),
+        (32, 274, 8_220),
+    ] {
+        let shape = Shape {
+            bits,
+            checks,
+            triples,
+        };
+        let code = random_code(&mut random, shape);
+        let whole = records(&code);
+        let after = [&whole[..], b"L"].concat();
+        let mut unused = whole.clone();
+        unused[2..4].copy_from_slice(&(bits as u16 + 1).to_be_bytes());
+        for records in [&whole[..], &after, &unused, &whole[..whole.len() - 1]] {
+            cases.extend(calls(&code, records));
+        }
+    }
+    cases
+}
+
+fn damaged(random: &mut Random, code: Code) -> Case {
+    let entry = random.pick(&ENTRIES);
+    let mut draft = Draft::random(random, code);
+    if random.once_in(2) {
+        draft.lengthen(random);
+    }
+    for _ in 0..random.below(4) {
+        let damage = random.pick(&damages_of(entry));
+        apply(random, &mut draft, entry, damage);
+    }
+    draft.case(entry)
+}
+
+fn damaged_tiny(random: &mut Random) -> Case {
+    let code = tiny_code(random);
+    damaged(random, code)
+}
+
+fn damaged_small(random: &mut Random) -> Case {
+    let code = small_code(random);
+    damaged(random, code)
+}
+
+fn split_small(random: &mut Random) -> Case {
+    let code = small_code(random);
+    let mut draft = Draft::random(random, code);
+    draft.lengthen(random);
+    draft.case(Entry::Split)
+}
+
+fn split_large(random: &mut Random) -> Case {
+    let shape = Shape::random(random, 4_096, 2_048, 8_192);
+    exact_split(&random_code(random, shape))
+}
+
+/// Bytes that begin like records but go on at random, from a few values.
+fn any_bytes(random: &mut Random) -> Case {
+    let mut code = vec![b'L', b'H', 0, 3, 0, random.between(1, 3) as u8];
+    for _ in 0..random.below(40) {
+        code.push(random.pick(&[0, 0, 1, 2, 3, b'L', b'C']));
+    }
+    code.truncate(random.between(0, code.len()));
+    Case::Read { code }
+}

@@ -1,0 +1,189 @@
+//! What a call left: its answer and every lent list, with the memory around it.
+
+use crate::case::{Case, DecodeCase};
+use interface::{Library, Lists};
+
+/// Entries kept before and after each lent list, which no call may touch.
+const MARGIN: usize = 8;
+
+/// A list to lend, filled with numbers that no call writes by chance.
+struct Lent<T> {
+    entries: Vec<T>,
+}
+
+impl<T: Copy + Into<i64>> Lent<T> {
+    fn new(length: usize, fill: fn(usize) -> T) -> Lent<T> {
+        Lent {
+            entries: (0..length + 2 * MARGIN).map(fill).collect(),
+        }
+    }
+
+    fn list(&mut self) -> &mut [T] {
+        let end = self.entries.len() - MARGIN;
+        &mut self.entries[MARGIN..end]
+    }
+
+    /// All entries afterwards, margins included.
+    fn seen(&self, name: &'static str) -> (&'static str, Vec<i64>) {
+        (
+            name,
+            self.entries.iter().map(|&entry| entry.into()).collect(),
+        )
+    }
+}
+
+fn bytes(length: usize) -> Lent<u8> {
+    Lent::new(length, |place| 100 + (place % 101) as u8)
+}
+
+fn shorts(length: usize) -> Lent<u16> {
+    Lent::new(length, |place| 50_000 + (place % 10_007) as u16)
+}
+
+fn costs(length: usize) -> Lent<i16> {
+    Lent::new(length, |place| 20_000 + (place % 5_003) as i16)
+}
+
+fn rows(length: usize) -> Lent<i32> {
+    Lent::new(length, |place| 1_000_000_007 + place as i32)
+}
+
+fn sums(length: usize) -> Lent<i64> {
+    Lent::new(length, |place| -1_000_000_000_000_007 - place as i64)
+}
+
+/// The answer's fields and the lists after a call.
+#[derive(Clone, Debug, PartialEq, Eq)]
+pub struct Outcome {
+    pub fields: Vec<(&'static str, u64)>,
+    pub lists: Vec<(&'static str, Vec<i64>)>,
+    pub text: Vec<u8>,
+}
+
+impl Outcome {
+    fn new(fields: &[(&'static str, usize)]) -> Outcome {
+        Outcome {
+            fields: fields
+                .iter()
+                .map(|&(name, field)| (name, field as u64))
+                .collect(),
+            lists: Vec::new(),
+            text: Vec::new(),
+        }
+    }
+
+    fn number(number: u32) -> Outcome {
+        Outcome::new(&[("number", number as usize)])
+    }
+
+    fn with(mut self, list: (&'static str, Vec<i64>)) -> Outcome {
+        self.lists.push(list);
+        self
+    }
+
+    /// The first difference from what was expected.
+    pub fn difference(&self, expected: &Outcome) -> Option<String> {
+        for ((name, found), (_, due)) in self.fields.iter().zip(&expected.fields) {
+            if found != due {
+                return Some(format!("{name}: {due} expected, {found} found"));
+            }
+        }
+        for ((name, found), (_, due)) in self.lists.iter().zip(&expected.lists) {
+            if let Some(place) = (0..due.len()).find(|&place| found[place] != due[place]) {
+                let entry = place as i64 - MARGIN as i64;
+                let (due, found) = (due[place], found[place]);
+                return Some(format!("{name}[{entry}]: {due} expected, {found} found"));
+            }
+        }
+        if self.text != expected.text {
+            let [due, found] =
+                [&expected.text, &self.text].map(|text| String::from_utf8_lossy(text));
+            return Some(format!("output: {due:?} expected, {found:?} found"));
+        }
+        None
+    }
+}
+
+/// Makes the call on a library.
+pub fn outcome(library: &dyn Library, case: &Case) -> Outcome {
+    match case {
+        Case::Read { code } => {
+            let answer = library.read(code);
+            Outcome::new(&[
+                ("number", answer.number as usize),
+                ("bits", answer.bits),
+                ("checks", answer.checks),
+                ("triples", answer.triples),
+            ])
+        }
+        Case::Split { code, room } => {
+            let (mut triples, mut counts) = (shorts(room[0]), shorts(room[1]));
+            let number = library.split(code, triples.list(), counts.list());
+            Outcome::number(number)
+                .with(triples.seen("triples"))
+                .with(counts.seen("counts"))
+        }
+        Case::Channel {
+            setting,
+            samples,
+            room,
+        } => {
+            let mut result = costs(*room);
+            let number = library.channel(*setting, samples, result.list());
+            Outcome::number(number).with(result.seen("costs"))
+        }
+        Case::Reflect {
+            costs: given,
+            word,
+            room,
+        } => {
+            let mut result = costs(*room);
+            let number = library.reflect(given, word, result.list());
+            Outcome::number(number).with(result.seen("result"))
+        }
+        Case::Test { code, word } => {
+            let answer = library.test(code, word);
+            Outcome::new(&[("number", answer.number as usize), ("place", answer.place)])
+        }
+        Case::Extend { code, word, room } => {
+            let mut point = bytes(*room);
+            let answer = library.extend(code, word, point.list());
+            Outcome::new(&[("number", answer.number as usize), ("place", answer.place)])
+                .with(point.seen("point"))
+        }
+        Case::Decode(case) => decode_outcome(library, case),
+        Case::Frames { input } => {
+            let mut outcome = Outcome::new(&[]);
+            outcome.text = library.frames(input);
+            outcome
+        }
+    }
+}
+
+fn decode_outcome(library: &dyn Library, case: &DecodeCase) -> Outcome {
+    let room = case.room;
+    let (mut triples, mut counts) = (shorts(room[0]), shorts(room[1]));
+    let (mut sums, mut values) = (sums(room[2]), costs(room[3]));
+    let (mut rows, mut word) = (rows(room[4]), bytes(room[5]));
+    let lists = Lists {
+        triples: triples.list(),
+        counts: counts.list(),
+        sums: sums.list(),
+        values: values.list(),
+        rows: rows.list(),
+        word: word.list(),
+    };
+    let answer = library.decode(&case.code, case.settings, &case.costs, lists);
+    Outcome::new(&[
+        ("number", answer.number as usize),
+        ("place", answer.place),
+        ("k", answer.k as usize),
+        ("settled", answer.settled as usize),
+    ])
+    .with(triples.seen("triples"))
+    .with(counts.seen("counts"))
+    .with(sums.seen("sums"))
+    .with(values.seen("values"))
+    .with(rows.seen("rows"))
+    .with(word.seen("word"))
+}

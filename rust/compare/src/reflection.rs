@@ -1,0 +1,133 @@
+//! Reflection: costs negated where a codeword has 1 reflect the whole run.
+
+use crate::codes::{records, Code};
+use crate::codewords::Codewords;
+use crate::draft::Draft;
+use crate::random::Random;
+use interface::{Library, Lists, RunAnswer, Settings};
+use reference::iteration::SIGNS;
+
+/// A code, a run's settings and costs, and a codeword to reflect by.
+#[derive(Clone, Debug)]
+pub struct Reflection {
+    pub code: Code,
+    pub settings: Settings,
+    pub costs: Vec<i16>,
+    pub codeword: Vec<u8>,
+}
+
+/// The answer of a run and its lists, of exactly the lengths needed.
+struct Run {
+    answer: RunAnswer,
+    triples: Vec<u16>,
+    counts: Vec<u16>,
+    sums: Vec<i64>,
+    values: Vec<i16>,
+    rows: Vec<i32>,
+    word: Vec<u8>,
+}
+
+impl Reflection {
+    pub fn random(random: &mut Random, code: Code) -> Reflection {
+        let codeword = Codewords::of(&code).random(random);
+        let draft = Draft::random(random, code);
+        Reflection {
+            code: draft.code,
+            settings: draft.settings,
+            costs: draft.costs,
+            codeword,
+        }
+    }
+
+    fn run(&self, library: &dyn Library, costs: &[i16]) -> Run {
+        let (triples, variables) = (self.code.triples(), self.code.variables());
+        let mut run = Run {
+            answer: RunAnswer::default(),
+            triples: vec![0; 3 * triples],
+            counts: vec![0; variables],
+            sums: vec![0; variables],
+            values: vec![0; variables],
+            rows: vec![0; 4 * triples],
+            word: vec![7; self.code.bits],
+        };
+        let lists = Lists {
+            triples: &mut run.triples,
+            counts: &mut run.counts,
+            sums: &mut run.sums,
+            values: &mut run.values,
+            rows: &mut run.rows,
+            word: &mut run.word,
+        };
+        run.answer = library.decode(&records(&self.code), self.settings, costs, lists);
+        run
+    }
+
+    /// Runs both ways; the outcome's number, or what is not reflected.
+    pub fn check(&self, library: &dyn Library) -> Result<u32, String> {
+        let code = records(&self.code);
+        let mut costs = vec![0; self.costs.len()];
+        let mut point = vec![7; self.code.variables()];
+        if library.reflect(&self.costs, &self.codeword, &mut costs) != 0 {
+            return Err("the reflector refuses".into());
+        }
+        if library.extend(&code, &self.codeword, &mut point).number != 0 {
+            return Err("the extension refuses".into());
+        }
+        let first = self.run(library, &self.costs);
+        let second = self.run(library, &costs);
+        compare_runs(&first, &second, &point)?;
+        Ok(first.answer.number)
+    }
+}
+
+fn compare_runs(first: &Run, second: &Run, point: &[u8]) -> Result<(), String> {
+    if first.answer != second.answer {
+        return Err(format!(
+            "answers {:?} and {:?}",
+            first.answer, second.answer
+        ));
+    }
+    if first.triples != second.triples || first.counts != second.counts {
+        return Err("triples or counts changed".into());
+    }
+    for (variable, &entry) in point.iter().enumerate() {
+        let sign = 1 - 2 * i16::from(entry);
+        if second.values[variable] != sign * first.values[variable]
+            || second.sums[variable] != i64::from(sign) * first.sums[variable]
+        {
+            return Err(format!("c or S of variable {variable}"));
+        }
+    }
+    compare_rows(first, second, point)?;
+    for (bit, &entry) in first.word.iter().enumerate() {
+        let change = if first.answer.number == 0 {
+            point[bit]
+        } else {
+            0
+        };
+        if second.word[bit] != entry ^ change {
+            return Err(format!("bit {bit} of the word"));
+        }
+    }
+    Ok(())
+}
+
+/// Each row's s goes to the row whose signs differ exactly where the point has
+/// a 1.
+fn compare_rows(first: &Run, second: &Run, point: &[u8]) -> Result<(), String> {
+    for (place, triple) in first.triples.chunks_exact(3).enumerate() {
+        for (row, signs) in SIGNS.iter().enumerate() {
+            let mut turned = *signs;
+            for (sign, &variable) in turned.iter_mut().zip(triple) {
+                *sign *= 1 - 2 * i64::from(point[usize::from(variable)]);
+            }
+            let Some(other) = SIGNS.iter().position(|signs| *signs == turned) else {
+                return Err(format!("the point at triple {place}"));
+            };
+            if second.rows[4 * place + other] != first.rows[4 * place + row] {
+                return Err(format!("row {row} of triple {place}"));
+            }
+        }
+    }
+    Ok(())
+}

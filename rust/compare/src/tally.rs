@@ -1,0 +1,229 @@
+//! Counts of what the compared cases met, so that no comparison is empty.
+
+use crate::case::{Case, DecodeCase};
+use crate::families::seed;
+use crate::outcome::Outcome;
+use reference::iteration::{Iterate, Problem, Totals, UNIT};
+use reference::records::read_code;
+use reference::run::run;
+use reference::splitting::Split;
+use std::collections::BTreeMap;
+
+/// Every entry with all the numbers it can give, and no others.
+const NUMBERS: [(&str, &[u64]); 9] = [
+    ("read", &[0, 1, 2, 3, 4, 5, 6, 7, 8, 9]),
+    ("split", &[0, 1, 2, 3, 4, 5, 6, 7, 8, 9, 10]),
+    ("gaussian", &[0, 10, 11, 14]),
+    ("hard", &[0, 10, 11, 14]),
+    ("erasing", &[0, 10, 11, 14]),
+    ("reflect", &[0, 10, 12, 13, 15]),
+    ("test", &[0, 1, 2, 3, 4, 5, 6, 7, 8, 9, 12, 15, 17]),
+    ("extend", &[0, 1, 2, 3, 4, 5, 6, 7, 8, 9, 10, 12, 15, 17]),
+    (
+        "decode",
+        &[0, 1, 2, 3, 4, 5, 6, 7, 8, 9, 10, 11, 12, 13, 16, 17],
+    ),
+];
+
+/// The kinds of lines that the frame program prints, and the end without one.
+const LINES: [&str; 14] = [
+    "", "W", "U", "N", "R 1", "R 2", "R 3", "R 4", "R 5", "R 6", "R 8", "R 10", "R 11", "R 13",
+];
+
+/// What must happen in some run.
+const EVENTS: [&str; 18] = [
+    "half above zero",
+    "half below zero",
+    "limited above",
+    "limited below",
+    "auxiliary at zero",
+    "auxiliary off zero",
+    "multiplier above zero",
+    "row above 16 bits",
+    "total above 32 bits",
+    "total equal to the tolerance",
+    "total one above the tolerance",
+    "only slacks exceed",
+    "only multipliers exceed",
+    "settled before the limit",
+    "settled at the limit",
+    "not settled",
+    "place above zero",
+    "a thousand iterations",
+];
+
+/// Runs of more rows than this are not watched.
+const MOST_WATCHED: usize = 200_000;
+
+#[derive(Default)]
+pub struct Tally {
+    counts: BTreeMap<String, u64>,
+    pub cases: u64,
+}
+
+impl Tally {
+    fn count(&mut self, what: impl Into<String>) {
+        *self.counts.entry(what.into()).or_default() += 1;
+    }
+
+    pub fn of(&self, what: &str) -> u64 {
+        self.counts.get(what).copied().unwrap_or(0)
+    }
+
+    /// Counts a case with its outcome.
+    pub fn add(&mut self, case: &Case, outcome: &Outcome) {
+        self.cases += 1;
+        match outcome.fields.first() {
+            Some((_, number)) => self.count(format!("{} {number}", case.entry())),
+            None => self.add_lines(&outcome.text),
+        }
+        if let Case::Decode(case) = case {
+            self.add_run(case, outcome);
+        }
+    }
+
+    fn add_lines(&mut self, text: &[u8]) {
+        let text = String::from_utf8_lossy(text);
+        if text.is_empty() {
+            self.count("frames ");
+        }
+        for line in text.lines() {
+            let kind = if line.starts_with('R') {
+                line
+            } else {
+                &line[..1]
+            };
+            self.count(format!("frames {kind}"));
+        }
+    }
+
+    fn add_run(&mut self, case: &DecodeCase, outcome: &Outcome) {
+        let [number, place, k, settled] = [0, 1, 2, 3].map(|field| outcome.fields[field].1);
+        if ![0, 16, 17].contains(&number) {
+            return;
+        }
+        let at_limit = k == u64::from(case.settings.limit);
+        self.count(match (settled == 1, at_limit) {
+            (true, false) => "settled before the limit",
+            (true, true) => "settled at the limit",
+            (false, _) => "not settled",
+        });
+        if place > 0 {
+            self.count("place above zero");
+        }
+        if k == 1_000 {
+            self.count("a thousand iterations");
+        }
+        let code = read_code(&case.code).expect("an accepted code");
+        if 4 * code.triples() * k as usize <= MOST_WATCHED {
+            let split = Split::of(&code);
+            let problem = Problem::new(
+                split,
+                case.settings.weight,
+                case.settings.ratio,
+                &case.costs,
+            );
+            self.watch(&problem, case);
+        }
+    }
+
+    /// Runs the reference again and counts what happens in its iterations.
+    fn watch(&mut self, problem: &Problem, case: &DecodeCase) {
+        let (limit, tolerance) = (case.settings.limit, case.settings.tolerance);
+        let mut met: BTreeMap<&str, bool> = BTreeMap::new();
+        run(problem, limit, tolerance, &mut |_, iterate, totals| {
+            for (event, happens) in quotient_events(problem, iterate)
+                .into_iter()
+                .chain(row_events(iterate))
+                .chain(total_events(totals, tolerance.into()))
+            {
+                *met.entry(event).or_default() |= happens;
+            }
+        });
+        for (event, happened) in met {
+            if happened {
+                self.count(event);
+            }
+        }
+    }
+
+    /// Fails unless each number, line and event was met at least this often,
+    /// and no other number or line.
+    pub fn assert_complete(&self, least: u64) {
+        let mut expected = Vec::new();
+        for (entry, numbers) in NUMBERS {
+            expected.extend(numbers.iter().map(|number| format!("{entry} {number}")));
+        }
+        expected.extend(LINES.map(|line| format!("frames {line}")));
+        expected.extend(EVENTS.map(String::from));
+        for what in &expected {
+            let count = self.of(what);
+            assert!(count >= least, "{what:?} was met {count} times only");
+        }
+        for what in self.counts.keys() {
+            assert!(expected.contains(what), "{what:?} was not to be met");
+        }
+    }
+
+    /// The counts in one line.
+    pub fn summary(&self) -> String {
+        let counts: Vec<String> = self
+            .counts
+            .iter()
+            .map(|(what, count)| format!("{what}: {count}"))
+            .collect();
+        let counts = counts.join(", ");
+        format!("seed {}, {} cases; {counts}", seed(), self.cases)
+    }
+}
+
+fn quotient_events(problem: &Problem, iterate: &Iterate) -> [(&'static str, bool); 6] {
+    let is_half = |variable: usize, sign: i128| {
+        let dividend = sign * problem.dividend(variable, iterate.sums[variable]);
+        let divisor = problem.divisor(variable);
+        dividend > 0 && 2 * (dividend % divisor) == divisor
+    };
+    let beyond = |variable: usize, sign: i128| {
+        let dividend = sign * problem.dividend(variable, iterate.sums[variable]);
+        dividend > (i128::from(UNIT) + 1) * problem.divisor(variable)
+    };
+    let variables = 0..problem.split.variables();
+    let auxiliaries = &iterate.values[problem.split.bits..];
+    [
+        ("half above zero", variables.clone().any(|v| is_half(v, 1))),
+        ("half below zero", variables.clone().any(|v| is_half(v, -1))),
+        ("limited above", variables.clone().any(|v| beyond(v, 1))),
+        ("limited below", variables.clone().any(|v| beyond(v, -1))),
+        ("auxiliary at zero", auxiliaries.contains(&0)),
+        ("auxiliary off zero", auxiliaries.iter().any(|&c| c != 0)),
+    ]
+}
+
+fn row_events(iterate: &Iterate) -> [(&'static str, bool); 2] {
+    let rows = || iterate.rows.iter().flatten();
+    [
+        ("multiplier above zero", rows().any(|&s| s > 0)),
+        ("row above 16 bits", rows().any(|&s| s > 32_767)),
+    ]
+}
+
+fn total_events(totals: Totals, tolerance: i128) -> [(&'static str, bool); 5] {
+    let Totals {
+        multipliers,
+        slacks,
+    } = totals;
+    let larger = multipliers.max(slacks);
+    [
+        ("total above 32 bits", larger > i128::from(u32::MAX)),
+        ("total equal to the tolerance", larger == tolerance),
+        ("total one above the tolerance", larger == tolerance + 1),
+        (
+            "only slacks exceed",
+            slacks > tolerance && multipliers <= tolerance,
+        ),
+        (
+            "only multipliers exceed",
+            multipliers > tolerance && slacks <= tolerance,
+        ),
+    ]
+}

@@ -1,0 +1,55 @@
+//! What the reference alone must have: reflection, and points that are exactly
+//! the codewords' points.
+
+use compare::draft::tiny_code;
+use compare::random::Random;
+use compare::reflections::check_reflections;
+use reference::iteration::{SIGNS, UNIT};
+use reference::splitting::Split;
+use reference::words::{first_odd_check, point_of};
+use reference::Reference;
+
+#[test]
+fn the_reference_reflects() {
+    let met = check_reflections(&Reference).unwrap();
+    assert!(met.keys().eq(&[0, 16, 17]));
+    assert!(met.values().all(|&count| count >= 100));
+}
+
+/// Whether all four sums of each triple are at most U at the centred values.
+fn meets_system(split: &Split, point: &[u8]) -> bool {
+    split.triples.iter().all(|triple| {
+        let values = triple.map(|variable| (2 * i64::from(point[variable]) - 1) * UNIT);
+        let sum = |signs: [i64; 3]| (0..3).map(|i| signs[i] * values[i]).sum::<i64>();
+        SIGNS.iter().all(|&signs| sum(signs) <= UNIT)
+    })
+}
+
+fn digits(number: u32, length: usize) -> Vec<u8> {
+    (0..length)
+        .map(|place| (number >> place & 1) as u8)
+        .collect()
+}
+
+#[test]
+fn points_that_meet_the_system_are_those_of_codewords() {
+    let mut random = Random::new(8);
+    let (mut codewords, mut others) = (0, 0);
+    for _ in 0..200 {
+        let code = tiny_code(&mut random);
+        let split = Split::of(&code);
+        if split.variables() > 14 {
+            continue;
+        }
+        for number in 0..1 << split.variables() {
+            let point = digits(number, split.variables());
+            let word = &point[..code.bits];
+            let is_point =
+                first_odd_check(&code, word).is_none() && point_of(&split, word) == point;
+            assert_eq!(meets_system(&split, &point), is_point);
+            codewords += u32::from(is_point);
+            others += u32::from(!is_point);
+        }
+    }
+    assert!(codewords > 500 && others > 5_000);
+}

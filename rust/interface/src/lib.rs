@@ -1,0 +1,84 @@
+//! The library's calls as Rust sees them: plain answers, lent slices, and one
+//! trait that every implementation in this workspace has.
+//!
+//! A number is 0 for success and otherwise the cause's number in the table of
+//! document 01; fields that the table does not name are 0.
+
+/// What the reader of code records hands back.
+#[derive(Clone, Copy, Debug, Default, PartialEq, Eq)]
+pub struct ReadAnswer {
+    pub number: u32,
+    pub bits: usize,
+    pub checks: usize,
+    pub triples: usize,
+}
+
+/// What the codeword test and the extension hand back.
+#[derive(Clone, Copy, Debug, Default, PartialEq, Eq)]
+pub struct PlaceAnswer {
+    pub number: u32,
+    pub place: usize,
+}
+
+/// What the decoder hands back.
+#[derive(Clone, Copy, Debug, Default, PartialEq, Eq)]
+pub struct RunAnswer {
+    pub number: u32,
+    pub place: usize,
+    pub k: u32,
+    pub settled: u32,
+}
+
+/// The settings of a run: W, A, K and X of document 01.
+#[derive(Clone, Copy, Debug, Default, PartialEq, Eq)]
+pub struct Settings {
+    pub weight: u32,
+    pub ratio: u32,
+    pub limit: u32,
+    pub tolerance: u32,
+}
+
+/// The floor and the weight of an erasing channel belong together.
+#[derive(Clone, Copy, Debug, PartialEq)]
+pub struct Erasing {
+    pub floor: f32,
+    pub weight: f32,
+}
+
+/// A channel setting is one of three kinds.
+#[derive(Clone, Copy, Debug, PartialEq)]
+pub enum Channel {
+    Gaussian(f32),
+    Hard(f32),
+    Erasing(Erasing),
+}
+
+/// The lists that the decoder's caller lends.
+pub struct Lists<'a> {
+    pub triples: &'a mut [u16],
+    pub counts: &'a mut [u16],
+    pub sums: &'a mut [i64],
+    pub values: &'a mut [i16],
+    pub rows: &'a mut [i32],
+    pub word: &'a mut [u8],
+}
+
+/// The public calls of document 01.
+pub trait Library {
+    fn read(&self, code: &[u8]) -> ReadAnswer;
+
+    fn split(&self, code: &[u8], triples: &mut [u16], counts: &mut [u16]) -> u32;
+
+    fn channel(&self, setting: Channel, samples: &[f32], costs: &mut [i16]) -> u32;
+
+    fn reflect(&self, costs: &[i16], word: &[u8], result: &mut [i16]) -> u32;
+
+    fn test(&self, code: &[u8], word: &[u8]) -> PlaceAnswer;
+
+    fn extend(&self, code: &[u8], word: &[u8], point: &mut [u8]) -> PlaceAnswer;
+
+    fn decode(&self, code: &[u8], settings: Settings, costs: &[i16], lists: Lists) -> RunAnswer;
+
+    /// The frame program: standard input to standard output.
+    fn frames(&self, input: &[u8]) -> Vec<u8>;
+}

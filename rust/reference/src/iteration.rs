@@ -1,0 +1,145 @@
+//! One iteration of the update.
+
+use crate::quotient::{limited, nearest};
+use crate::splitting::Split;
+
+/// The centred value of a 1.
+pub const UNIT: i64 = 16_384;
+
+/// The signs of a triple's three variables in its four rows.
+pub const SIGNS: [[i64; 3]; 4] = [[1, -1, -1], [-1, 1, -1], [-1, -1, 1], [1, 1, 1]];
+
+/// What a run knows before its first iteration.
+pub struct Problem {
+    pub split: Split,
+    pub counts: Vec<usize>,
+    pub weight: i64,
+    pub ratio: i64,
+    /// One cost a variable; an auxiliary's is 0.
+    pub costs: Vec<i64>,
+}
+
+impl Problem {
+    pub fn new(split: Split, weight: u32, ratio: u32, costs: &[i16]) -> Problem {
+        let mut all: Vec<i64> = costs.iter().map(|&cost| i64::from(cost)).collect();
+        all.resize(split.variables(), 0);
+        Problem {
+            counts: split.counts(),
+            split,
+            weight: i64::from(weight),
+            ratio: i64::from(ratio),
+            costs: all,
+        }
+    }
+
+    /// The dividend of a variable's quotient for its sum S.
+    pub fn dividend(&self, variable: usize, sum: i64) -> i128 {
+        -(256 * i128::from(sum) + i128::from(self.weight) * i128::from(self.costs[variable]))
+    }
+
+    /// The divisor of a variable's quotient; e is its number of rows.
+    pub fn divisor(&self, variable: usize) -> i128 {
+        let e = 4 * self.counts[variable] as i128;
+        256 * e - i128::from(self.ratio)
+    }
+}
+
+/// S and c of every variable, s of every row.
+#[derive(Clone, Debug, PartialEq, Eq)]
+pub struct Iterate {
+    pub sums: Vec<i64>,
+    pub values: Vec<i64>,
+    pub rows: Vec<[i64; 4]>,
+}
+
+/// The squares of the changes of p and of z, added up over all rows.
+#[derive(Clone, Copy, Debug, PartialEq, Eq)]
+pub struct Totals {
+    pub multipliers: i128,
+    pub slacks: i128,
+}
+
+pub fn slack(s: i64) -> i64 {
+    if s < 0 {
+        -s
+    } else {
+        0
+    }
+}
+
+pub fn multiplier(s: i64) -> i64 {
+    if s > 0 {
+        s
+    } else {
+        0
+    }
+}
+
+/// Before the first iteration every s is 0.
+pub fn start(problem: &Problem) -> Iterate {
+    let variables = problem.split.variables();
+    Iterate {
+        sums: vec![0; variables],
+        values: vec![0; variables],
+        rows: vec![[0; 4]; problem.split.triples.len()],
+    }
+}
+
+/// The next iterate, and how much p and z changed.
+pub fn iterate(problem: &Problem, old: &Iterate) -> (Iterate, Totals) {
+    let sums = row_sums(problem, &old.rows);
+    let values: Vec<i64> = (0..sums.len())
+        .map(|variable| value(problem, variable, sums[variable]))
+        .collect();
+    let rows = renewed_rows(problem, &old.rows, &values);
+    let totals = changes(&old.rows, &rows);
+    let new = Iterate { sums, values, rows };
+    (new, totals)
+}
+
+/// S of every variable.
+fn row_sums(problem: &Problem, rows: &[[i64; 4]]) -> Vec<i64> {
+    let mut sums = vec![0; problem.split.variables()];
+    for (triple, rows) in problem.split.triples.iter().zip(rows) {
+        for (signs, &s) in SIGNS.iter().zip(rows) {
+            for (&variable, sign) in triple.iter().zip(signs) {
+                sums[variable] += sign * (slack(s) + multiplier(s));
+            }
+        }
+    }
+    sums
+}
+
+/// The new c of a variable.
+fn value(problem: &Problem, variable: usize, sum: i64) -> i64 {
+    let quotient = nearest(problem.dividend(variable, sum), problem.divisor(variable));
+    limited(quotient, i128::from(UNIT)) as i64
+}
+
+/// Every row's new s, with the old p and the new c.
+fn renewed_rows(problem: &Problem, old: &[[i64; 4]], values: &[i64]) -> Vec<[i64; 4]> {
+    let mut rows = old.to_vec();
+    for (triple, rows) in problem.split.triples.iter().zip(&mut rows) {
+        for (signs, s) in SIGNS.iter().zip(rows) {
+            let sum: i64 = (0..3).map(|i| signs[i] * values[triple[i]]).sum();
+            *s = multiplier(*s) + sum - UNIT;
+        }
+    }
+    rows
+}
+
+fn changes(old: &[[i64; 4]], new: &[[i64; 4]]) -> Totals {
+    let mut totals = Totals {
+        multipliers: 0,
+        slacks: 0,
+    };
+    for (&old, &new) in old.iter().flatten().zip(new.iter().flatten()) {
+        totals.multipliers += square(multiplier(new) - multiplier(old));
+        totals.slacks += square(slack(new) - slack(old));
+    }
+    totals
+}
+
+fn square(change: i64) -> i128 {
+    i128::from(change) * i128::from(change)
+}

@@ -1,0 +1,95 @@
+//! The tuned rival: four checks at a time in the lanes of SSE2, floats that
+//! hold whole numbers exactly, a reciprocal instead of a division, and totals
+//! only until one of them exceeds the tolerance.
+
+mod bits;
+mod checks;
+mod lanes;
+mod layout;
+mod lists;
+mod work;
+
+use crate::plain::run::{decode, run, run_on, State, Task};
+use crate::Plain;
+use interface::{Channel, Library, Lists, PlaceAnswer, ReadAnswer, RunAnswer, Settings};
+use layout::{Layout, MOST_COUNT};
+use work::Work;
+
+/// The plain rival with another decoder.
+pub struct Tuned;
+
+impl Library for Tuned {
+    fn read(&self, code: &[u8]) -> ReadAnswer {
+        Plain.read(code)
+    }
+
+    fn split(&self, code: &[u8], triples: &mut [u16], counts: &mut [u16]) -> u32 {
+        Plain.split(code, triples, counts)
+    }
+
+    fn channel(&self, setting: Channel, samples: &[f32], costs: &mut [i16]) -> u32 {
+        Plain.channel(setting, samples, costs)
+    }
+
+    fn reflect(&self, costs: &[i16], word: &[u8], result: &mut [i16]) -> u32 {
+        Plain.reflect(costs, word, result)
+    }
+
+    fn test(&self, code: &[u8], word: &[u8]) -> PlaceAnswer {
+        Plain.test(code, word)
+    }
+
+    fn extend(&self, code: &[u8], word: &[u8], point: &mut [u8]) -> PlaceAnswer {
+        Plain.extend(code, word, point)
+    }
+
+    fn decode(&self, code: &[u8], settings: Settings, costs: &[i16], lists: Lists) -> RunAnswer {
+        decode(code, settings, costs, lists, run_tuned)
+    }
+
+    fn frames(&self, input: &[u8]) -> Vec<u8> {
+        Plain.frames(input)
+    }
+}
+
+/// With a ratio above this a quotient might not fit 32 bits.
+const MOST_RATIO: u32 = 512;
+
+/// Sizes of whole numbers that an f32 holds exactly.
+const EXACT: usize = 1 << 24;
+
+fn run_tuned(task: &Task, state: &mut State) -> (u32, bool) {
+    let bits = &task.counts[..task.code.bits];
+    let most = usize::from(bits.iter().copied().max().unwrap_or(0));
+    if most > MOST_COUNT || task.settings.ratio > MOST_RATIO {
+        return run(task, state);
+    }
+    let layout = Layout::of(task.code, task.counts);
+    let mut work = Work::new(&layout, task);
+    let (mut k, mut largest) = (0, 65536);
+    loop {
+        // An auxiliary lies in two triples.
+        let safe = safe_iterations(most.max(2), largest);
+        if safe == 0 {
+            work.write(state);
+            return run_on(task, state, k);
+        }
+        for _ in 0..safe {
+            work.renew_bits();
+            let settled = work.renew_checks(task.settings.tolerance);
+            k += 1;
+            if settled || k == task.settings.limit {
+                work.write(state);
+                return (k, settled);
+            }
+        }
+        largest = work.largest();
+    }
+}
+
+/// Iterations for which every S of so many triples stays exact: a share is at
+/// most twice the largest size of an s, which is 65,536 at first or whenever no
+/// s is larger, and grows by at most 32,768.
+fn safe_iterations(count: usize, largest: usize) -> usize {
+    (EXACT / (2 * count)).saturating_sub(largest) / 32768
+}

@@ -1,0 +1,116 @@
+//! The C functions of the compiled library and their answers. A list is a
+//! pointer and a length.
+
+/// The sizes of a code.
+#[repr(C)]
+#[derive(Clone, Copy, Debug, PartialEq, Eq)]
+pub struct CodeAnswer {
+    pub number: u32,
+    pub bits: usize,
+    pub checks: usize,
+    pub triples: usize,
+}
+
+/// The answer about a word; the place is a check.
+#[repr(C)]
+#[derive(Clone, Copy, Debug, PartialEq, Eq)]
+pub struct WordAnswer {
+    pub number: u32,
+    pub place: usize,
+}
+
+/// The answer of a run; the place is a bit or a check.
+#[repr(C)]
+#[derive(Clone, Copy, Debug, PartialEq, Eq)]
+pub struct DecodeAnswer {
+    pub number: u32,
+    pub place: usize,
+    pub k: u32,
+    pub settled: u32,
+}
+
+extern "C" {
+    pub fn widagbe_read(code: *const u8, code_len: usize) -> CodeAnswer;
+
+    pub fn widagbe_split(
+        code: *const u8,
+        code_len: usize,
+        triples: *mut u16,
+        triples_len: usize,
+        counts: *mut u16,
+        counts_len: usize,
+    ) -> u32;
+
+    pub fn widagbe_channel_gaussian(
+        scale: f32,
+        samples: *const f32,
+        samples_len: usize,
+        costs: *mut i16,
+        costs_len: usize,
+    ) -> u32;
+
+    pub fn widagbe_channel_hard(
+        weight: f32,
+        samples: *const f32,
+        samples_len: usize,
+        costs: *mut i16,
+        costs_len: usize,
+    ) -> u32;
+
+    pub fn widagbe_channel_erasing(
+        floor: f32,
+        weight: f32,
+        samples: *const f32,
+        samples_len: usize,
+        costs: *mut i16,
+        costs_len: usize,
+    ) -> u32;
+
+    pub fn widagbe_reflect(
+        costs: *const i16,
+        costs_len: usize,
+        word: *const u8,
+        word_len: usize,
+        result: *mut i16,
+        result_len: usize,
+    ) -> u32;
+
+    pub fn widagbe_test(
+        code: *const u8,
+        code_len: usize,
+        word: *const u8,
+        word_len: usize,
+    ) -> WordAnswer;
+
+    pub fn widagbe_extend(
+        code: *const u8,
+        code_len: usize,
+        word: *const u8,
+        word_len: usize,
+        point: *mut u8,
+        point_len: usize,
+    ) -> WordAnswer;
+
+    pub fn widagbe_decode(
+        code: *const u8,
+        code_len: usize,
+        weight: u32,
+        ratio: u32,
+        limit: u32,
+        tolerance: u32,
+        costs: *const i16,
+        costs_len: usize,
+        triples: *mut u16,
+        triples_len: usize,
+        counts: *mut u16,
+        counts_len: usize,
+        sums: *mut i64,
+        sums_len: usize,
+        values: *mut i16,
+        values_len: usize,
+        rows: *mut i32,
+        rows_len: usize,
+        word: *mut u8,
+        word_len: usize,
+    ) -> DecodeAnswer;
+}
