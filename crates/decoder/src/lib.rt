@@ -51,8 +51,7 @@ fn no_room(bits: usize, total: usize, variables: usize, room: Room) -> bool
     (room.triples < 3 * total)
         | ((room.counts < variables)
             | ((room.sums < variables)
-                | ((room.values < variables)
-                    | ((room.rows < 4 * total) | (room.word < bits)))))
+                | ((room.values < variables) | ((room.rows < 4 * total) | (room.word < bits)))))
 }
 
 // The first of 11, 12, 13 and 10, or 0.
@@ -75,7 +74,18 @@ fn cause(settings: Settings, costs: &[i16], bits: usize, short: bool) -> u32
 // ---- an accepted call
 
 // The triples and the counts of the code are written, and its system is run.
-fn run_system(code: &[u8], settings: Settings, costs: &[i16], total: usize, variables: usize, triples: &mut [u16], counts: &mut [u16], sums: &mut [i64], values: &mut [i16], rows: &mut [i32]) -> Ending
+fn run_system(
+    code: &[u8],
+    settings: Settings,
+    costs: &[i16],
+    total: usize,
+    variables: usize,
+    triples: &mut [u16],
+    counts: &mut [u16],
+    sums: &mut [i64],
+    values: &mut [i16],
+    rows: &mut [i32],
+) -> Ending
     requires { ⌜ (judge (now code) ≡ 0) × (total ≡ Code.triples (codeOf (now code))) × (variables ≡ Code.variables (codeOf (now code))) ⌝ }
     requires { ⌜ (Calls.wild settings ≡ false) × ((v : ℕ) → natAbs (at (now costs) v) ≤ 32767) ⌝ }
     requires { ⌜ (3 * total ≤ length (now triples)) × (variables ≤ length (now counts)) ⌝ }

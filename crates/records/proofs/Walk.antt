@@ -1,5 +1,5 @@
--- One check record after another. A loop over the checks of an accepted code keeps `Walk`, and has of each check what `Here` says.
--- Assumes nothing.
+-- One check record after another. A loop over checks keeps `Walk`, and has of each check what `Here` says: room, degree, the indices and
+-- what follows. Assumes nothing.
 use mathlib.Core.Path.{_≡_, refl, sym, ap, _∙_}
 use mathlib.Core.List.{List, [], _∷_}
 use Prim.Native.Nat.{ℕ, zero, suc, _+_, _-_, _*_, _<_}
@@ -8,9 +8,9 @@ use native.Mathlib.Omega.{arith}
 use lib.ListN.{getD, drop}
 use lib.Seq.{drop-cons, drop-drop}
 use Rattle.model.specs.Causes.{firstOf}
-use Rattle.model.specs.Records.{twoBytes, numbers, degree, indices, afterCheck, checksIn, afterChecks, judgeCheck, judgeChecks}
+use Rattle.model.specs.Records.{twoBytes, numbers, degree, indices, afterCheck, checksIn, afterChecks, bitCount, checkCount, judgeCheck, judgeChecks, judge}
 use Rattle.model.proofs.Causes.{only, clear}
-use Rattle.model.proofs.Accepted.{SoundRecord, record-sound, length-checks}
+use Rattle.model.proofs.Accepted.{SoundRecord, record-sound, length-checks, bytes-sound}
 
 -- ---- the first of m check records
 judge-next : (n m : ℕ) (s : List ℕ) → 0 < m → judgeChecks n m s ≡ firstOf (judgeCheck n s ∷ judgeChecks n (m - 1) (afterCheck s) ∷ [])
@@ -53,6 +53,10 @@ pub record Walk (n m : ℕ) (s : List ℕ) (j : ℕ) (rest : List ℕ) : Type 0 
 
 pub walk-start : (n m : ℕ) (s : List ℕ) → judgeChecks n m s ≡ 0 → Walk n m s 0 s
 walk-start n m s h = let e : m - 0 ≡ m = omega arith in record { sound = rw e h; checks = rw e }
+
+-- of an accepted code
+pub code-start : (b : List ℕ) → judge b ≡ 0 → Walk (bitCount b) (checkCount b) (drop 6 b) 0 (drop 6 b)
+code-start b h = walk-start _ _ _ (bytes-sound b h .checks)
 
 pub record Here (n m : ℕ) (s : List ℕ) (j : ℕ) (rest : List ℕ) : Type 0 where
   pub judged : judgeCheck n rest ≡ 0

@@ -2,13 +2,11 @@
 ghost use mathlib.Core.Path.{_≡_};
 ghost use Prim.Native.Nat.{_+_, _-_, _≤_, _<_};
 ghost use lib.ListN.{length, drop};
-ghost use Rattle.lists.specs.Tabulated.{tab};
-ghost use Rattle.lists.specs.Entries.{every};
 ghost use Rattle.model.specs.Causes.{outside};
 ghost use Rattle.model.specs.Records.{twoBytes, degree, indices, checksIn, covered, judgeHeader, judgeIndices, judgeCheck, judgeChecks};
 ghost use Rattle.model.specs.Calls.{readingTold, reader};
 ghost use Rattle.records.specs.Judged.{Judged};
-ghost use Rattle.records.specs.Marks.{marked, Marks};
+ghost use Rattle.records.specs.Marks.{allMarked, Marks};
 use model::Reading;
 
 pub fn wide(x: u8) -> usize
@@ -163,7 +161,7 @@ fn mark(s: &[u8], bits: usize, seen: &mut [u8; 4096])
 // Whether each entry from the first to `last` has a mark.
 fn all_marked(seen: &[u8; 4096], last: usize) -> bool
     requires { ⌜ last < 4096 ⌝ }
-    ensures { λ r. ⌜ r ≡ every (marked (now (seen .entry))) (tab (last + 1) (λ b. b)) ⌝ }
+    ensures { λ r. ⌜ r ≡ allMarked (now (seen .entry)) (last + 1) ⌝ }
 {
     let mut b = 0usize;
     while b <= last {

@@ -12,7 +12,7 @@ use Rattle.lists.specs.Tabulated.{tab}
 use Rattle.lists.specs.Entries.{every}
 use Rattle.lists.proofs.Tabulated.{length-tab, getD-tab}
 use Rattle.lists.proofs.Entries.{every-next, every-stop, every-end}
-use Rattle.records.specs.Marks.{marked}
+use Rattle.records.specs.Marks.{marked, allMarked}
 use Rattle.records.proofs.all_marked.Statement.{statement}
 use Rattle.records.proofs.all_marked.Tie as tie
 
@@ -36,6 +36,7 @@ element-copy-out-if1 : tie.Need-element-copy-out-if1 Inv-loop μ-loop
 element-copy-out-if1 c = search needs
 
 returns : tie.Need-returns Inv-loop μ-loop
+unfolding allMarked
 returns c =
     let t = c .before .before in
     let l = t .before in
@@ -59,6 +60,7 @@ loop-again c =
     (test-at (a .seen .now) (a .last + 1) (l .loop .b) true (omega arith) (rw (ne-eqb _ 0 (c .if1 .left))))) ∙ l .loop .inv)
 
 returns-2 : tie.Need-returns-2 Inv-loop μ-loop
+unfolding allMarked
 returns-2 c =
     let l = c .before in
     let a = l .before .args in

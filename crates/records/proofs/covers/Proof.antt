@@ -1,7 +1,7 @@
 -- `records::covers` meets its contract: what is left of the checks, with what is marked. Assumes nothing.
 use mathlib.Core.Path.{_≡_, refl, sym, ap, _∙_}
 use mathlib.Core.Bool.{Bool, true, false, _||_}
-use mathlib.Core.List.{[]}
+use mathlib.Core.List.{List, []}
 use Prim.Native.Nat.{ℕ, _+_, _-_, _*_, _<_}
 use native.Mathlib.Numerals.{add-one}
 use native.Mathlib.Omega.{arith}
@@ -14,7 +14,7 @@ use Rattle.lists.proofs.Entries.{every-same}
 use Rattle.lists.proofs.Parts.{part-from}
 use Rattle.model.specs.Records.{degree, checksIn, covered}
 use Rattle.model.proofs.Accepted.{length-checks}
-use Rattle.records.specs.Marks.{marked}
+use Rattle.records.specs.Marks.{marked, allMarked}
 use Rattle.records.proofs.Walk.{Walk, walk-start, Here, here}
 use Rattle.records.proofs.Marks.{mark-next}
 use Rattle.records.proofs.covers.Statement.{statement}
@@ -93,16 +93,18 @@ sub-all-marked c = search needs
 all-marked-requires : tie.Need-all-marked-requires Inv-loop μ-loop
 all-marked-requires c κs = search needs
 
+-- the marks of all bits are what the definition tests
+all-covered : (seen : List ℕ) (l : List (List ℕ)) (m n : ℕ) → m ≡ n → ((b : ℕ) → b < n → marked seen b ≡ some (some (eqb b)) l)
+    → allMarked seen m ≡ covered (record { bits = n; checks = l })
+unfolding allMarked covered
+all-covered seen l m n e h = rw e (every-same n (λ b. b) (marked seen) (λ b. some (some (eqb b)) l) h)
+
 returns : tie.Need-returns Inv-loop μ-loop
-unfolding covered
 returns c =
     let l = c .before .before .before in
     let a = l .before .before .args in
     let e = drop-of-length-le (checksIn (a .checks) (a .s .now)) {i = l .loop .j} (omega (arith, length-checks (a .checks) (a .s .now))) in
-    let n : a .bits - 1 + 1 ≡ a .bits = omega (arith, l .before .before .pre .0 .0) in
-    c .all-marked .ensures
-    ∙ ap (λ (k : ℕ). every (marked (l .loop .seen)) (tab k (λ b. b))) n
-    ∙ every-same (a .bits) (λ b. b) (marked (l .loop .seen)) (λ b. some (some (eqb b)) (checksIn (a .checks) (a .s .now))) (λ b h. rw e at (l .loop .inv .2 b (omega arith)))
+    rw (c .all-marked .ensures) (all-covered _ _ _ (a .bits) (omega (arith, l .before .before .pre .0 .0)) (λ b h. rw e at (l .loop .inv .2 b (omega arith))))
 
 pub covers-spec : {M : Type 1} → statement M
 covers-spec =

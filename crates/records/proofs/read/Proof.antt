@@ -82,10 +82,14 @@ whole : (c : tie.Else2)
 whole c = whole-decides _ (header (c .before .before .before .before .before)) _ _ _ (found (c .before)) (c .if2 .left)
 
 returns-3 : tie.Need-returns-3
-returns-3 c = refused-told _ 9 (λ z. omega arith) (rw (whole (c .before), lt-ltb 0 _ (c .if3 .taken)))
+returns-3 c =
+    let r = c .before .before .judge-checks .result in
+    refused-told _ _ (λ z. omega arith) (rw (whole (c .before), lt-ltb 0 (r .after) (omega arith)))
 
 returns-4 : tie.Need-returns-4
-returns-4 c = refused-told _ 7 (λ z. omega arith) (rw (whole (c .before .before), le-ltb 0 _ (c .before .if3 .left), lt-ltb 8192 _ (c .if4 .taken)))
+returns-4 c =
+    let r = c .before .before .before .judge-checks .result in
+    refused-told _ _ (λ z. omega arith) (rw (whole (c .before .before), le-ltb 0 (r .after) (omega arith), lt-ltb 8192 (r .triples) (omega arith)))
 
 -- ---- the coverage
 sub-covers : tie.Need-sub-covers

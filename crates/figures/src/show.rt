@@ -1,0 +1,75 @@
+// What is printed: a label, and the answer behind it.
+use model::Reading;
+
+pub fn text(s: &[u8]) {
+    io::write_all(1, s);
+}
+
+pub fn number(x: usize) {
+    io::write_all(1, b" ");
+    io::print_decimal(1, x as u64);
+}
+
+// A section's title.
+pub fn title(s: &[u8]) {
+    text(b"-- ");
+    text(s);
+    text(b"\n");
+}
+
+fn index(x: u16) -> usize {
+    x as usize
+}
+
+// The entries of a list.
+pub fn list(name: &[u8], l: &[u16]) {
+    text(name);
+    for i in 0..l.len() {
+        number(index(l[i]));
+    }
+}
+
+// The reader's number and, of an accepted code, n, m and the number of triples.
+pub fn reading(label: &[u8], code: &[u8]) {
+    text(label);
+    text(b":");
+    match records::read(code) {
+        Reading::Refused(cause) => {
+            number(cause as usize);
+        }
+        Reading::Code {
+            bits,
+            checks,
+            triples,
+        } => {
+            text(b" 0, n");
+            number(bits);
+            text(b", m");
+            number(checks);
+            text(b", triples");
+            number(triples);
+        }
+    }
+    text(b"\n");
+}
+
+// The splitting's number, and both lists after it: of so many entries, at most 16, each 9 before.
+pub fn splitting(label: &[u8], code: &[u8], triples: usize, counts: usize) {
+    if triples <= 16 {
+        if counts <= 16 {
+            let mut t = [9u16; 16];
+            let mut c = [9u16; 16];
+            split(label, code, &mut t[0..triples], &mut c[0..counts]);
+        }
+    }
+}
+
+fn split(label: &[u8], code: &[u8], triples: &mut [u16], counts: &mut [u16]) {
+    let cause = triples::split(code, triples, counts);
+    text(label);
+    text(b":");
+    number(cause as usize);
+    list(b", triples", triples);
+    list(b", counts", counts);
+    text(b"\n");
+}
