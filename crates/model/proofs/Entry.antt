@@ -208,15 +208,27 @@ module _ (g : System) (o : Settings) (costs : List ℤ) where
 
     longer : Course g o costs (suc more) k a e
     longer = record {
-      steps = suc (r .steps); count = omega (arith, r .count); few = omega (arith, r .few); last = r .last ∙ after-first (r .steps) a; going = going; ending = ending;
-      none = λ h. absurd (omega arith); early = λ h. r .early (omega arith);
+      steps = suc (r .steps);
+      count = omega (arith, r .count);
+      few = omega (arith, r .few);
+      last = r .last ∙ after-first (r .steps) a;
+      going = going;
+      ending = ending;
+      none = λ h. absurd (omega arith);
+      early = λ h. r .early (omega arith);
     }
 
   course : (more k : ℕ) (a : State) → Course g o costs more k a (runFrom quotient g o costs more k a)
   unfolding after runFrom
   course zero k a = record {
-    steps = 0; count = omega arith; few = omega arith; last = refl; going = λ i h. absurd (omega arith); ending = λ i h. absurd (omega arith);
-    none = λ _. refl; early = λ h. absurd (omega arith);
+    steps = 0;
+    count = omega arith;
+    few = omega arith;
+    last = refl;
+    going = λ i h. absurd (omega arith);
+    ending = λ i h. absurd (omega arith);
+    none = λ _. refl;
+    early = λ h. absurd (omega arith);
   }
   course (suc more) k a = by (settles a 0) refl (course more (suc k) (iterate quotient g o costs a))
     where
@@ -225,9 +237,14 @@ module _ (g : System) (o : Settings) (costs : List ℤ) where
       by zero e r =
           subst (Course g o costs (suc more) k a) (sym (goes-on quotient g o costs more k a e)) (longer more k a (runFrom quotient g o costs more (suc k) (iterate quotient g o costs a)) e r)
       by (suc n) e r = subst (Course g o costs (suc more) k a) (sym (stops quotient g o costs more k a n e)) (record {
-        steps = 1; count = omega arith; few = omega arith; last = refl; going = λ i h. absurd (omega arith);
+        steps = 1;
+        count = omega arith;
+        few = omega arith;
+        last = refl;
+        going = λ i h. absurd (omega arith);
         ending = λ i h. (let z : 0 ≡ i = omega arith in subst (λ (j : ℕ). suc n ≡ settles a j) z (sym e));
-        none = λ h. absurd (omega arith); early = λ _. settled-one n (a .rows) (iterate quotient g o costs a .rows) e;
+        none = λ h. absurd (omega arith);
+        early = λ _. settled-one n (a .rows) (iterate quotient g o costs a .rows) e;
       })
 
 module _ (b : List ℕ) (o : Settings) (costs : List ℤ) (l : Lists) (h : decoderCause b o costs l ≡ 0) where
@@ -243,7 +260,9 @@ module _ (b : List ℕ) (o : Settings) (costs : List ℤ) (l : Lists) (h : decod
   pub iterated : Iterated b o costs l (decoder b o costs l)
   unfolding decodedBy
   iterated = subst (Iterated b o costs l) (sym (ran-is b o costs l h)) (record {
-    course = path; count = count-is; settled = refl;
+    course = path;
+    count = count-is;
+    settled = refl;
     sums = ap (λ (a : State). written (a .sums) (l .sums)) last-is;
     values = ap (λ (a : State). written (a .values) (l .values)) last-is;
     rows = ap (λ (a : State). written (a .rows) (l .rows)) last-is;
