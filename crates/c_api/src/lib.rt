@@ -149,11 +149,7 @@ pub extern "C" fn widagbe_channel_erasing(
     ensures number { λ r. ⌜ r ≡ channelFront (Channel.Erasing (record { floor = floor; weight = weight })) (now (samples .entry)) (now (costs .entry)) .number ⌝ }
     ensures costs { λ r. ⌜ now (costs .exit) ≡ channelFront (Channel.Erasing (record { floor = floor; weight = weight })) (now (samples .entry)) (now (costs .entry)) .costs ⌝ }
 {
-    channel::front(
-        Channel::Erasing(Erasure { floor, weight }),
-        samples,
-        costs,
-    )
+    channel::front(Channel::Erasing(Erasure { floor, weight }), samples, costs)
 }
 
 #[no_mangle]
