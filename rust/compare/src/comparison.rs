@@ -1,7 +1,7 @@
 //! The comparison itself: every case of a family, every answer and list.
 
 use crate::case::Case;
-use crate::families::{all, Effort};
+use crate::families::{all, Effort, Family};
 use crate::outcome::outcome;
 use crate::tally::Tally;
 use interface::Library;
@@ -34,8 +34,17 @@ impl fmt::Debug for Failure {
 
 /// Compares a library with the reference on every case; counts what was met.
 pub fn compare_all(library: &dyn Library, effort: Effort) -> Result<Tally, Box<Failure>> {
+    compare(library, all(), effort)
+}
+
+/// Compares on every case of these families.
+pub fn compare(
+    library: &dyn Library,
+    families: Vec<Family>,
+    effort: Effort,
+) -> Result<Tally, Box<Failure>> {
     let mut tally = Tally::default();
-    for family in all() {
+    for family in families {
         family.visit(effort, |seed, case| {
             let expected = outcome(&Reference, &case);
             tally.add(&case, &expected);

@@ -150,12 +150,20 @@ impl Tally {
     /// Fails unless each number, line and event was met at least this often,
     /// and no other number or line.
     pub fn assert_complete(&self, least: u64) {
-        let mut expected = Vec::new();
-        for (entry, numbers) in NUMBERS {
-            expected.extend(numbers.iter().map(|number| format!("{entry} {number}")));
-        }
-        expected.extend(LINES.map(|line| format!("frames {line}")));
-        expected.extend(EVENTS.map(String::from));
+        self.assert_met([calls(), program()].concat(), least);
+    }
+
+    /// The same of the library's calls alone.
+    pub fn assert_calls_complete(&self, least: u64) {
+        self.assert_met(calls(), least);
+    }
+
+    /// The same of the frame program alone.
+    pub fn assert_program_complete(&self, least: u64) {
+        self.assert_met(program(), least);
+    }
+
+    fn assert_met(&self, expected: Vec<String>, least: u64) {
         for what in &expected {
             let count = self.of(what);
             assert!(count >= least, "{what:?} was met {count} times only");
@@ -175,6 +183,20 @@ impl Tally {
         let counts = counts.join(", ");
         format!("seed {}, {} cases; {counts}", seed(), self.cases)
     }
+}
+
+/// What the library's calls are to meet.
+fn calls() -> Vec<String> {
+    let numbers = NUMBERS.iter().flat_map(|(entry, numbers)| {
+        let number = move |number| format!("{entry} {number}");
+        numbers.iter().map(number)
+    });
+    numbers.chain(EVENTS.map(String::from)).collect()
+}
+
+/// What the frame program is to meet.
+fn program() -> Vec<String> {
+    LINES.map(|line| format!("frames {line}")).into()
 }
 
 fn quotient_events(problem: &Problem, iterate: &Iterate) -> [(&'static str, bool); 6] {

@@ -90,10 +90,21 @@ impl Family {
 
 /// The families of every entry.
 pub fn all() -> Vec<Family> {
+    let mut families = calls();
+    families.extend(program());
+    families
+}
+
+/// The families of the library's calls.
+pub fn calls() -> Vec<Family> {
     let mut families = records::families();
     families.extend(words::families());
     families.extend(channels::families());
     families.extend(decoding::families());
-    families.extend(programs::families());
     families
+}
+
+/// The families of the frame program.
+pub fn program() -> Vec<Family> {
+    programs::families()
 }

@@ -1,0 +1,17 @@
+-- `c_api::widagbe_read` meets its contract: what the reader found, told. Assumes nothing.
+use mathlib.Core.Path.{_∙_}
+use borrow.Author.Needs.{needs}
+use Rattle.c_api.proofs.widagbe_read.Statement.{statement}
+use Rattle.c_api.proofs.widagbe_read.Tie as tie
+
+read-requires : tie.Need-read-requires
+read-requires c κs = search needs
+
+code-answer-requires : tie.Need-code-answer-requires
+code-answer-requires c κs = search needs
+
+returns : tie.Need-returns
+returns c = c .code-answer .ensures ∙ c .before .read .ensures
+
+pub widagbe-read-spec : {M : Type 1} → statement M
+widagbe-read-spec = tie.close (tie.spec read-requires code-answer-requires returns)

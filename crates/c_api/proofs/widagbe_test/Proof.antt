@@ -1,0 +1,17 @@
+-- `c_api::widagbe_test` meets its contract: what the test found, told. Assumes nothing.
+use mathlib.Core.Path.{_∙_}
+use borrow.Author.Needs.{needs}
+use Rattle.c_api.proofs.widagbe_test.Statement.{statement}
+use Rattle.c_api.proofs.widagbe_test.Tie as tie
+
+test-requires : tie.Need-test-requires
+test-requires c κs = search needs
+
+word-answer-requires : tie.Need-word-answer-requires
+word-answer-requires c κs = search needs
+
+returns : tie.Need-returns
+returns c = c .word-answer .ensures ∙ c .before .test .ensures
+
+pub widagbe-test-spec : {M : Type 1} → statement M
+widagbe-test-spec = tie.close (tie.spec test-requires word-answer-requires returns)

@@ -1,0 +1,29 @@
+-- `c_api::word_answer` meets its contract: case by case. Assumes nothing.
+use mathlib.Core.Path.{sym, ap}
+use borrow.Author.Needs.{needs}
+use Rattle.model.specs.Calls.{verdictTold}
+use Rattle.c_api.proofs.word_answer.Statement.{statement}
+use Rattle.c_api.proofs.word_answer.Tie as tie
+
+enum-told : tie.Need-enum-told
+enum-told c = search needs
+
+enum-known-verdict : tie.Need-enum-known-verdict
+enum-known-verdict c = search needs
+
+enum-known-verdict-2 : tie.Need-enum-known-verdict-2
+enum-known-verdict-2 c = search needs
+
+returns : tie.Need-returns
+returns c = ap verdictTold (sym (c .enum-told .given .1))
+
+returns-2 : tie.Need-returns-2
+returns-2 c = ap verdictTold (sym (c .before .verdict .given .1))
+
+returns-3 : tie.Need-returns-3
+returns-3 c = ap verdictTold (sym (c .before .verdict2 .given .1))
+
+pub word-answer-spec : {M : Type 1} → statement M
+word-answer-spec =
+    tie.close
+    (tie.spec enum-told enum-known-verdict enum-known-verdict-2 returns returns-2 returns-3)

@@ -1,0 +1,218 @@
+// The library for C. A slice is a pointer and a length; include/widagbe.h says what the caller owes.
+ghost use mathlib.Core.Path.{_≡_};
+ghost use Rattle.model.specs.declared.Settings.{Settings};
+ghost use Rattle.model.specs.Calls.{readingTold, reader, splitter, verdictTold, codewordTest, Extended, extension, Lists, decodingTold, decoder, channelFront, reflector};
+ghost use Rattle.triples.specs.Splits.{Splits};
+ghost use Rattle.c_api.specs.Answers.{codeAnswer, wordAnswer, decodeAnswer};
+use model::Channel;
+use model::Decoding;
+use model::Erasure;
+use model::Reading;
+use model::Settings;
+use model::Verdict;
+
+// ---- the answers
+
+// The sizes of a code.
+#[repr(C)]
+pub struct CodeAnswer {
+    pub number: u32,
+    pub bits: usize,
+    pub checks: usize,
+    pub triples: usize,
+}
+
+// The answer about a word; the place is a check.
+#[repr(C)]
+pub struct WordAnswer {
+    pub number: u32,
+    pub place: usize,
+}
+
+// The answer of a run; the place is a bit or a check.
+#[repr(C)]
+pub struct DecodeAnswer {
+    pub number: u32,
+    pub place: usize,
+    pub k: u32,
+    pub settled: u32,
+}
+
+fn code_answer(reading: Reading) -> CodeAnswer
+    ensures { λ r. ⌜ codeAnswer r ≡ readingTold reading ⌝ }
+{
+    match reading {
+        Reading::Code {
+            bits,
+            checks,
+            triples,
+        } => CodeAnswer {
+            number: 0,
+            bits,
+            checks,
+            triples,
+        },
+        Reading::Refused(number) => CodeAnswer {
+            number,
+            bits: 0,
+            checks: 0,
+            triples: 0,
+        },
+    }
+}
+
+fn word_answer(verdict: Verdict) -> WordAnswer
+    ensures { λ r. ⌜ wordAnswer r ≡ verdictTold verdict ⌝ }
+{
+    match verdict {
+        Verdict::Codeword => WordAnswer {
+            number: 0,
+            place: 0,
+        },
+        Verdict::Odd(place) => WordAnswer { number: 17, place },
+        Verdict::Refused(number) => WordAnswer { number, place: 0 },
+    }
+}
+
+fn decode_answer(decoding: Decoding) -> DecodeAnswer
+    ensures { λ r. ⌜ decodeAnswer r ≡ decodingTold decoding ⌝ }
+{
+    match decoding {
+        Decoding::Word(ending) => DecodeAnswer {
+            number: 0,
+            place: 0,
+            k: ending.k,
+            settled: ending.settled,
+        },
+        Decoding::Undecided(place, ending) => DecodeAnswer {
+            number: 16,
+            place,
+            k: ending.k,
+            settled: ending.settled,
+        },
+        Decoding::Odd(place, ending) => DecodeAnswer {
+            number: 17,
+            place,
+            k: ending.k,
+            settled: ending.settled,
+        },
+        Decoding::Refused(number) => DecodeAnswer {
+            number,
+            place: 0,
+            k: 0,
+            settled: 0,
+        },
+    }
+}
+
+// ---- codes
+
+#[no_mangle]
+pub extern "C" fn widagbe_read(code: &[u8]) -> CodeAnswer
+    ensures { λ r. ⌜ codeAnswer r ≡ reader (now (code .entry)) ⌝ }
+{
+    code_answer(records::read(code))
+}
+
+#[no_mangle]
+pub extern "C" fn widagbe_split(code: &[u8], triples: &mut [u16], counts: &mut [u16]) -> u32
+    ensures { λ r. ⌜ Splits (splitter (now (code .entry)) (now (triples .entry)) (now (counts .entry))) r (now (triples .exit)) (now (counts .exit)) ⌝ }
+{
+    triples::split(code, triples, counts)
+}
+
+// ---- costs
+
+#[no_mangle]
+pub extern "C" fn widagbe_channel_gaussian(scale: f32, samples: &[f32], costs: &mut [i16]) -> u32
+    ensures number { λ r. ⌜ r ≡ channelFront (Channel.Gaussian scale) (now (samples .entry)) (now (costs .entry)) .number ⌝ }
+    ensures costs { λ r. ⌜ now (costs .exit) ≡ channelFront (Channel.Gaussian scale) (now (samples .entry)) (now (costs .entry)) .costs ⌝ }
+{
+    channel::front(Channel::Gaussian(scale), samples, costs)
+}
+
+#[no_mangle]
+pub extern "C" fn widagbe_channel_hard(weight: f32, samples: &[f32], costs: &mut [i16]) -> u32
+    ensures number { λ r. ⌜ r ≡ channelFront (Channel.Hard weight) (now (samples .entry)) (now (costs .entry)) .number ⌝ }
+    ensures costs { λ r. ⌜ now (costs .exit) ≡ channelFront (Channel.Hard weight) (now (samples .entry)) (now (costs .entry)) .costs ⌝ }
+{
+    channel::front(Channel::Hard(weight), samples, costs)
+}
+
+#[no_mangle]
+pub extern "C" fn widagbe_channel_erasing(
+    floor: f32,
+    weight: f32,
+    samples: &[f32],
+    costs: &mut [i16],
+) -> u32
+    ensures number { λ r. ⌜ r ≡ channelFront (Channel.Erasing (record { floor = floor; weight = weight })) (now (samples .entry)) (now (costs .entry)) .number ⌝ }
+    ensures costs { λ r. ⌜ now (costs .exit) ≡ channelFront (Channel.Erasing (record { floor = floor; weight = weight })) (now (samples .entry)) (now (costs .entry)) .costs ⌝ }
+{
+    channel::front(Channel::Erasing(Erasure { floor, weight }), samples, costs)
+}
+
+#[no_mangle]
+pub extern "C" fn widagbe_reflect(costs: &[i16], word: &[u8], result: &mut [i16]) -> u32
+    ensures number { λ r. ⌜ r ≡ reflector (now (costs .entry)) (now (word .entry)) (now (result .entry)) .number ⌝ }
+    ensures costs { λ r. ⌜ now (result .exit) ≡ reflector (now (costs .entry)) (now (word .entry)) (now (result .entry)) .costs ⌝ }
+{
+    reflector::reflect(costs, word, result)
+}
+
+// ---- words
+
+#[no_mangle]
+pub extern "C" fn widagbe_test(code: &[u8], word: &[u8]) -> WordAnswer
+    ensures { λ r. ⌜ wordAnswer r ≡ codewordTest (now (code .entry)) (now (word .entry)) ⌝ }
+{
+    word_answer(codeword::test(code, word))
+}
+
+#[no_mangle]
+pub extern "C" fn widagbe_extend(code: &[u8], word: &[u8], point: &mut [u8]) -> WordAnswer
+    ensures { λ r. ⌜ _≡_ {A = Extended} (record { outcome = wordAnswer r; point = now (point .exit) }) (extension (now (code .entry)) (now (word .entry)) (now (point .entry))) ⌝ }
+{
+    word_answer(codeword::extend(code, word, point))
+}
+
+// ---- the decoder
+
+#[no_mangle]
+pub extern "C" fn widagbe_decode(
+    code: &[u8],
+    weight: u32,
+    ratio: u32,
+    limit: u32,
+    tolerance: u32,
+    costs: &[i16],
+    triples: &mut [u16],
+    counts: &mut [u16],
+    sums: &mut [i64],
+    values: &mut [i16],
+    rows: &mut [i32],
+    word: &mut [u8],
+) -> DecodeAnswer
+    ensures { λ r. ⌜ (
+        let settings : Settings = record { weight = weight; ratio = ratio; limit = limit; tolerance = tolerance } in
+        let before : Lists = record { triples = now (triples .entry); counts = now (counts .entry); sums = now (sums .entry); values = now (values .entry); rows = now (rows .entry); word = now (word .entry) } in
+        let after : Lists = record { triples = now (triples .exit); counts = now (counts .exit); sums = now (sums .exit); values = now (values .exit); rows = now (rows .exit); word = now (word .exit) } in
+        record { answer = decodeAnswer r; lists = after } ≡ decoder (now (code .entry)) settings (now (costs .entry)) before) ⌝ }
+{
+    decode_answer(decoder::decode(
+        code,
+        Settings {
+            weight,
+            ratio,
+            limit,
+            tolerance,
+        },
+        costs,
+        triples,
+        counts,
+        sums,
+        values,
+        rows,
+        word,
+    ))
+}

@@ -1,0 +1,208 @@
+/*
+ * Widagbe: a decoder for binary LDPC codes by QP-ADMM, in whole numbers.
+ *
+ * Link with target/staticlib/libc_api.a, which `rt staticlib c_api` writes (x86-64 Linux).
+ *
+ * Lists
+ *   A list is a pointer and its number of entries, not of bytes. Code, costs, samples and words are whole lists: a length that
+ *   does not fit is refused with 12. Lists that a call fills may be longer than needed: the entries past those needed stay as
+ *   they were. A list that is too short is refused with 10.
+ *
+ *   The sizes of a code are n (bits), m (checks), T (triples: the sum over all checks of degree - 2) and V (variables):
+ *
+ *       V = n + T - m
+ *
+ *   widagbe_read hands back n, m and T. Whatever the code, n <= 4096, m <= 2048, T <= 8192, V <= 12288; so the constants
+ *   below are always enough.
+ *
+ * Answers
+ *   Every call answers with a number: 0, or one of enum widagbe_number. A call refused with 1 to 15 leaves every list as it
+ *   was, and all other fields of its answer are 0. Where more than one cause holds, the first in this order is told: those of the
+ *   records (1 to 6 as they are read, then 9, 7, 8), then 11, 12, 13, 14, 15, 10, and last 16 and 17.
+ *
+ * What the caller owes
+ *   - No pointer is null, also where the length is 0; each is aligned for its type.
+ *   - Each list has as many entries as its length says, all of them set to some value.
+ *   - A list that a call fills shares no memory with any other list of that call. Lists that are only read may overlap.
+ *   - Nothing else writes to any list of a call, or reads a list that it fills, until the call returns.
+ *   No call keeps a pointer, allocates memory or has state of its own: calls in different threads do not disturb each other.
+ *   A call needs a few kilobytes of stack.
+ */
+#ifndef WIDAGBE_H
+#define WIDAGBE_H
+
+#include <stddef.h>
+#include <stdint.h>
+
+#ifdef __cplusplus
+extern "C" {
+#endif
+
+/* Room that is enough for every code. */
+#define WIDAGBE_MAX_BITS 4096       /* n */
+#define WIDAGBE_MAX_CHECKS 2048     /* m */
+#define WIDAGBE_MAX_TRIPLES 8192    /* T */
+#define WIDAGBE_MAX_VARIABLES 12288 /* V */
+
+enum widagbe_number {
+    WIDAGBE_OK = 0,
+    WIDAGBE_CUT = 1,              /* the bytes end inside a record */
+    WIDAGBE_MARK = 2,             /* another mark than the due one */
+    WIDAGBE_SIZE = 3,             /* n outside 3..4096, or m outside 1..2048 */
+    WIDAGBE_DEGREE = 4,           /* a degree outside 3..32 */
+    WIDAGBE_INDEX = 5,            /* an index of n or above */
+    WIDAGBE_NOT_RISING = 6,       /* an index not above the one before */
+    WIDAGBE_TRIPLES = 7,          /* more than 8192 triples */
+    WIDAGBE_BIT_IN_NO_CHECK = 8,  /* a bit in no check */
+    WIDAGBE_BYTES_LEFT = 9,       /* bytes after the last check */
+    WIDAGBE_NO_ROOM = 10,         /* a list to fill is too short */
+    WIDAGBE_SETTING = 11,         /* a run or channel setting outside its range */
+    WIDAGBE_LENGTHS = 12,         /* lengths that must agree do not */
+    WIDAGBE_COST = 13,            /* a cost of -32768 */
+    WIDAGBE_SAMPLE = 14,          /* a sample that is not finite */
+    WIDAGBE_NOT_BINARY = 15,      /* a word entry that is neither 0 nor 1 */
+    WIDAGBE_UNDECIDED = 16,       /* the run left a bit undecided */
+    WIDAGBE_NOT_A_CODEWORD = 17   /* a check has an odd sum */
+};
+
+/*
+ * ---- Codes
+ *
+ * A code is a list of bytes; two-byte numbers have the high byte first:
+ *   header: 0x4C 0x48, n (two bytes), m (two bytes);
+ *   then m checks: 0x4C 0x43, degree d (one byte, 3 to 32), d bit indices from 0, strictly rising (two bytes each).
+ * Each bit lies in some check.
+ */
+
+/* number 0: the sizes of the code. */
+typedef struct {
+    uint32_t number;
+    size_t bits;    /* n */
+    size_t checks;  /* m */
+    size_t triples; /* T */
+} widagbe_code_answer;
+
+/*
+ * Reads a code.
+ * Numbers: 0 to 9.
+ */
+widagbe_code_answer widagbe_read(const uint8_t *code, size_t code_len);
+
+/*
+ * Splits the checks of a code into triples of variables: the bits are 0 to n - 1, the auxiliaries n to V - 1.
+ *   triples  3T entries: the three variables of each triple
+ *   counts   V entries: in how many triples each variable is
+ * Numbers: 0 to 10.
+ */
+uint32_t widagbe_split(const uint8_t *code, size_t code_len,
+                       uint16_t *triples, size_t triples_len,
+                       uint16_t *counts, size_t counts_len);
+
+/*
+ * ---- Costs
+ *
+ * A cost is a whole number from -32767 to 32767, one for each bit; a cost above 0 speaks for bit 0, one below 0 for bit 1.
+ * The three channels turn samples into costs, rounded to nearest, halves away from zero, and limited.
+ *   costs    samples_len entries
+ * Numbers: 0, 10, 11, 14. No samples at all are accepted.
+ */
+
+/* Each sample times the scale, which is finite and above 0. */
+uint32_t widagbe_channel_gaussian(float scale,
+                                  const float *samples, size_t samples_len,
+                                  int16_t *costs, size_t costs_len);
+
+/* The weight, which is finite and above 0, for a sample above 0; its negative for one below; 0 at zero. */
+uint32_t widagbe_channel_hard(float weight,
+                              const float *samples, size_t samples_len,
+                              int16_t *costs, size_t costs_len);
+
+/* The same, and 0 for a sample whose size is below the floor, which is finite and not below 0. */
+uint32_t widagbe_channel_erasing(float floor, float weight,
+                                 const float *samples, size_t samples_len,
+                                 int16_t *costs, size_t costs_len);
+
+/*
+ * Costs, negated where the word has 1.
+ *   word     costs_len entries, each 0 or 1
+ *   result   costs_len entries
+ * Numbers: 0, 10, 12, 13, 15. No costs at all are accepted.
+ */
+uint32_t widagbe_reflect(const int16_t *costs, size_t costs_len,
+                         const uint8_t *word, size_t word_len,
+                         int16_t *result, size_t result_len);
+
+/*
+ * ---- Words
+ *
+ * A word has one entry 0 or 1 for each bit. It is a codeword when its sum over each check is even.
+ */
+
+/* number 17: place is the first check with an odd sum, from 0. */
+typedef struct {
+    uint32_t number;
+    size_t place;
+} widagbe_word_answer;
+
+/*
+ * Tests whether a word is a codeword.
+ *   word     n entries
+ * Numbers: 0 to 9, 12, 15, 17.
+ */
+widagbe_word_answer widagbe_test(const uint8_t *code, size_t code_len,
+                                 const uint8_t *word, size_t word_len);
+
+/*
+ * Extends a codeword to its point: an entry 0 or 1 for each variable, the word first. 17 leaves the point as it was.
+ *   word     n entries
+ *   point    V entries
+ * Numbers: 0 to 10, 12, 15, 17.
+ */
+widagbe_word_answer widagbe_extend(const uint8_t *code, size_t code_len,
+                                   const uint8_t *word, size_t word_len,
+                                   uint8_t *point, size_t point_len);
+
+/*
+ * ---- The decoder
+ */
+
+/* number 16: place is the lowest undecided bit; 17: place is the first check with an odd sum; both from 0. */
+typedef struct {
+    uint32_t number;
+    size_t place;
+    uint32_t k;       /* iterations made; with the numbers 0, 16 and 17 */
+    uint32_t settled; /* 1 where the run stopped because it settled, 0 where the limit ended it */
+} widagbe_decode_answer;
+
+/*
+ * Decodes one frame.
+ *   weight     1 to 65535: how much the costs weigh
+ *   ratio      0 to 1023: the penalty that drives values away from the middle, in parts of 256
+ *   limit      1 to 1000: the most iterations
+ *   tolerance  any: the run settles when, after an iteration, neither the squares of the changes of all multipliers nor those of
+ *              all slacks add up to more
+ *   costs      n entries
+ *   triples    3T entries, as widagbe_split fills it
+ *   counts     V entries, as widagbe_split fills it
+ *   sums       V entries: the sum of each variable in the last iteration
+ *   values     V entries, -16384 to 16384: the value of each variable, above 0 for bit 1, below 0 for bit 0
+ *   rows       4T entries: for each row the multiplier where above 0, the slack negated where below 0
+ *   word       n entries: the codeword, written with number 0 only
+ * With 16 and 17 all lists but the word are filled. What they held before does not matter.
+ * Numbers: 0 to 13, 16, 17.
+ */
+widagbe_decode_answer widagbe_decode(const uint8_t *code, size_t code_len,
+                                     uint32_t weight, uint32_t ratio, uint32_t limit, uint32_t tolerance,
+                                     const int16_t *costs, size_t costs_len,
+                                     uint16_t *triples, size_t triples_len,
+                                     uint16_t *counts, size_t counts_len,
+                                     int64_t *sums, size_t sums_len,
+                                     int16_t *values, size_t values_len,
+                                     int32_t *rows, size_t rows_len,
+                                     uint8_t *word, size_t word_len);
+
+#ifdef __cplusplus
+}
+#endif
+
+#endif
