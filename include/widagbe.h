@@ -26,7 +26,7 @@
  *   - A list that a call fills shares no memory with any other list of that call. Lists that are only read may overlap.
  *   - Nothing else writes to any list of a call, or reads a list that it fills, until the call returns.
  *   No call keeps a pointer, allocates memory or has state of its own: calls in different threads do not disturb each other.
- *   A call needs a few kilobytes of stack.
+ *   A call needs less than 16 kilobytes of stack.
  */
 #ifndef WIDAGBE_H
 #define WIDAGBE_H
