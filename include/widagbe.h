@@ -4,9 +4,9 @@
  * Link with target/staticlib/libc_api.a, which `rt staticlib c_api` writes (x86-64 Linux).
  *
  * Lists
- *   A list is a pointer and its number of entries, not of bytes. Code, costs, samples and words are whole lists: a length that
- *   does not fit is refused with 12. Lists that a call fills may be longer than needed: the entries past those needed stay as
- *   they were. A list that is too short is refused with 10.
+ *   A list is a pointer and its number of entries, not of bytes. Code, costs, samples and words are whole lists: their length
+ *   is exact (else 12; for a code 1 or 9). Lists that a call fills may be longer than needed: the entries past those needed
+ *   stay as they were. One that is too short is refused with 10.
  *
  *   The sizes of a code are n (bits), m (checks), T (triples: the sum over all checks of degree - 2) and V (variables):
  *
@@ -26,7 +26,7 @@
  *   - A list that a call fills shares no memory with any other list of that call. Lists that are only read may overlap.
  *   - Nothing else writes to any list of a call, or reads a list that it fills, until the call returns.
  *   No call keeps a pointer, allocates memory or has state of its own: calls in different threads do not disturb each other.
- *   A call needs a few kilobytes of stack.
+ *   A call needs less than 16 kilobytes of stack.
  */
 #ifndef WIDAGBE_H
 #define WIDAGBE_H

@@ -17,7 +17,7 @@ const CODE: [u8; 39] = [
 /// received as 1.
 const SAMPLES: [f32; 7] = [-0.9, 1.1, -1.2, -0.8, -0.1, 0.7, -1.0];
 
-const SETTINGS: Settings = Settings {
+pub const SETTINGS: Settings = Settings {
     weight: 8_000,
     ratio: 150,
     limit: 300,

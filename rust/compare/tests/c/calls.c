@@ -1,0 +1,66 @@
+/* Every call of the header once, with all that it answers and fills; tests/examples.rs makes the same calls from Rust. */
+#include <inttypes.h>
+#include <stdio.h>
+
+#include "widagbe.h"
+
+enum { N = 5, M = 2, T = 3, V = N + T - M };
+
+static const uint8_t code[] = {
+    0x4c, 0x48, 0, N, 0, M,
+    0x4c, 0x43, 4, 0, 0, 0, 1, 0, 2, 0, 3,
+    0x4c, 0x43, 3, 0, 1, 0, 3, 0, 4,
+};
+
+#define LIST(list) list, sizeof list / sizeof list[0]
+
+#define SHOW(list)                                           \
+    do {                                                     \
+        for (size_t i = 0; i < sizeof list / sizeof list[0]; i++) \
+            printf(" %" PRId64, (int64_t)list[i]);           \
+        printf("\n");                                        \
+    } while (0)
+
+int main(void)
+{
+    widagbe_code_answer sizes = widagbe_read(LIST(code));
+    printf("read %" PRIu32 " %zu %zu %zu\n", sizes.number, sizes.bits, sizes.checks, sizes.triples);
+
+    uint16_t triples[3 * T + 1] = {0}, counts[V + 1] = {0};
+    printf("split %" PRIu32 "\n", widagbe_split(LIST(code), LIST(triples), LIST(counts)));
+    SHOW(triples);
+    SHOW(counts);
+
+    static const float samples[N] = {-1.5f, 0.25f, 2.0f, -0.125f, 1.0f};
+    int16_t costs[N] = {0}, result[N + 1] = {0};
+    printf("hard %" PRIu32 "\n", widagbe_channel_hard(300.0f, LIST(samples), LIST(costs)));
+    SHOW(costs);
+    printf("erasing %" PRIu32 "\n", widagbe_channel_erasing(0.2f, 300.0f, LIST(samples), LIST(costs)));
+    SHOW(costs);
+    printf("gaussian %" PRIu32 "\n", widagbe_channel_gaussian(300.0f, LIST(samples), LIST(costs)));
+    SHOW(costs);
+
+    static const uint8_t codeword[N] = {1, 0, 0, 1, 1}, other[N] = {1, 0, 1, 0, 1};
+    printf("reflect %" PRIu32 "\n", widagbe_reflect(LIST(costs), LIST(codeword), LIST(result)));
+    SHOW(result);
+
+    widagbe_word_answer answer = widagbe_test(LIST(code), LIST(other));
+    printf("test %" PRIu32 " %zu\n", answer.number, answer.place);
+    uint8_t point[V + 1] = {0};
+    answer = widagbe_extend(LIST(code), LIST(codeword), LIST(point));
+    printf("extend %" PRIu32 " %zu\n", answer.number, answer.place);
+    SHOW(point);
+
+    int64_t sums[V + 1] = {0};
+    int16_t values[V + 1] = {0};
+    int32_t rows[4 * T + 1] = {0};
+    uint8_t word[N + 1] = {0};
+    widagbe_decode_answer run = widagbe_decode(LIST(code), 8000, 150, 300, 1000000, LIST(costs), LIST(triples), LIST(counts),
+                                               LIST(sums), LIST(values), LIST(rows), LIST(word));
+    printf("decode %" PRIu32 " %zu %" PRIu32 " %" PRIu32 "\n", run.number, run.place, run.k, run.settled);
+    SHOW(sums);
+    SHOW(values);
+    SHOW(rows);
+    SHOW(word);
+    return 0;
+}
