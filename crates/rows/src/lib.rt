@@ -83,7 +83,7 @@ fn renew(s: [i32; 4], sums: [i32; 4], r: usize) -> i32
     requires { ⌜ (r < 4) × (natAbs (at s r) ≤ 131072000) × (natAbs (at sums r) ≤ 49152) ⌝ }
     ensures { λ z. ⌜ z ≡ renewed (at s r) (at sums r) ⌝ }
 {
-    positive(s[r]) + sums[r] - UNIT
+    positive(s[r]) + (sums[r] - UNIT)
 }
 
 pub fn renew_all(s: [i32; 4], sums: [i32; 4]) -> [i32; 4]

@@ -1,12 +1,12 @@
 -- `rows::renew` meets its contract. Assumes nothing.
-use mathlib.Core.Path.{ap, _∙_}
+use mathlib.Core.Path.{_≡_, ap, _∙_}
 use native.Mathlib.Omega.{arith}
 use borrow.Author.Needs.{needs}
-use lib.IntN.{ℤ, pos, _+ℤ_}
+use lib.IntN.{ℤ, pos, _+ℤ_, _-ℤ_}
 use mir.Syntax.{w32}
 use mir.Val.{toZ, ofZ}
 use Rattle.integers.proofs.Machine.{Worth, fits, stored, local, held, literal, plus, minus}
-use Rattle.integers.proofs.Linear.{about}
+use Rattle.integers.proofs.Linear.{split, toℕ, about}
 use Rattle.model.specs.Iteration.{at, multiplier}
 use Rattle.rows.proofs.renew.Statement.{statement}
 use Rattle.rows.proofs.renew.Tie as tie
@@ -23,8 +23,13 @@ multiplier-is c =
     local w32 131072000 (c .positive .ok) (c .positive .ensures ∙ ap (λ (z : ℤ). pos (multiplier z)) (held w32 (row s) 131072000 tt (s .pre .1) .is))
     (omega (arith, about (row s), s .pre .1))
 
-added : (c : tie.After-result) → Worth (toZ w32 (ofZ w32 (c .before .positive .result)) +ℤ toZ w32 (ofZ w32 (sum (c .before .before .before)))) (pos (multiplier (row (c .before .before .before))) +ℤ sum (c .before .before .before)) 131121152
-added c = let s = c .before .before .before in plus (multiplier-is (c .before)) (held w32 (sum s) 49152 tt (s .pre .2))
+-- sum - U
+lowered : (s : tie.Start) → Worth (toZ w32 (ofZ w32 (sum s)) -ℤ pos 16384) (sum s -ℤ pos 16384) 65536
+lowered s = minus (held w32 (sum s) 49152 tt (s .pre .2)) (literal (pos 16384))
+
+-- p + (sum - U) is p + sum - U
+regrouped : (a b c : ℤ) → a +ℤ (b -ℤ c) ≡ a +ℤ b -ℤ c
+regrouped a b c = rw (split a, split b, split c) (simp toℕ (omega arith))
 
 mul-positive : tie.Need-mul-positive
 mul-positive c = search needs
@@ -41,14 +46,16 @@ mul-result c = search needs
 array-copy-out-result : tie.Need-array-copy-out-result
 array-copy-out-result c = search needs
 
-add-result : tie.Need-add-result
-add-result c = fits (added c) w32 tt
-
 sub-result : tie.Need-sub-result
-sub-result c = fits (minus (stored (added c) w32 tt) (literal (pos 16384))) w32 tt
+sub-result c = fits (lowered (c .before .before .before)) w32 tt
+
+add-result : tie.Need-add-result
+add-result c = fits (plus (multiplier-is (c .before)) (stored (lowered (c .before .before .before)) w32 tt)) w32 tt
 
 returns : tie.Need-returns
-returns c = stored (minus (stored (added c) w32 tt) (literal (pos 16384))) w32 tt .is
+returns c =
+    let s = c .before .before .before in
+    stored (plus (multiplier-is (c .before)) (stored (lowered s) w32 tt)) w32 tt .is ∙ regrouped (pos (multiplier (row s))) (sum s) (pos 16384)
 
 pub renew-spec : {M : Type 1} → statement M
 renew-spec =
@@ -59,6 +66,6 @@ renew-spec =
     positive-requires
     mul-result
     array-copy-out-result
-    add-result
     sub-result
+    add-result
     returns)
