@@ -1,12 +1,18 @@
 // The figures of document 01 that are not marked for proof: each run by the library and printed, a line each. The stored output is what
 // they should be. A section is a module with a function `run`.
 mod codes;
+mod decoding;
 mod examples;
+mod front;
 mod reader;
+mod reflection;
 mod show;
 mod splitting;
 
 fn main() {
     reader::run();
     splitting::run();
+    front::run();
+    reflection::run();
+    decoding::run();
 }

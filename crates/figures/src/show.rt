@@ -1,4 +1,6 @@
 // What is printed: a label, and the answer behind it.
+ghost use Prim.Native.Nat.{_≤_};
+ghost use lib.IntN.{natAbs};
 use model::Reading;
 
 pub fn text(s: &[u8]) {
@@ -72,4 +74,55 @@ fn split(label: &[u8], code: &[u8], triples: &mut [u16], counts: &mut [u16]) {
     list(b", triples", triples);
     list(b", counts", counts);
     text(b"\n");
+}
+
+fn magnitude(x: i64) -> u64
+    requires { ⌜ natAbs x ≤ 2147483648 ⌝ }
+{
+    if x < 0 { (-x) as u64 } else { x as u64 }
+}
+
+fn signed(x: i64)
+    requires { ⌜ natAbs x ≤ 2147483648 ⌝ }
+{
+    if x < 0 {
+        text(b" -");
+    } else {
+        text(b" ");
+    }
+    io::print_decimal(1, magnitude(x));
+}
+
+fn wide(x: i16) -> i64
+    ensures { λ r. ⌜ natAbs r ≤ 2147483648 ⌝ }
+{
+    x as i64
+}
+
+fn wide_row(x: i32) -> i64
+    ensures { λ r. ⌜ natAbs r ≤ 2147483648 ⌝ }
+{
+    x as i64
+}
+
+// The entries of a list of costs or values.
+pub fn values(name: &[u8], l: &[i16]) {
+    text(name);
+    for i in 0..l.len() {
+        signed(wide(l[i]));
+    }
+}
+
+pub fn rows(name: &[u8], l: &[i32]) {
+    text(name);
+    for i in 0..l.len() {
+        signed(wide_row(l[i]));
+    }
+}
+
+pub fn bits(name: &[u8], l: &[u8]) {
+    text(name);
+    for i in 0..l.len() {
+        number(records::wide(l[i]));
+    }
 }
