@@ -51,8 +51,7 @@ fn no_room(bits: usize, total: usize, variables: usize, room: Room) -> bool
     (room.triples < 3 * total)
         | ((room.counts < variables)
             | ((room.sums < variables)
-                | ((room.values < variables)
-                    | ((room.rows < 4 * total) | (room.word < bits)))))
+                | ((room.values < variables) | ((room.rows < 4 * total) | (room.word < bits)))))
 }
 
 // The first of 11, 12, 13 and 10, or 0.
@@ -75,7 +74,18 @@ fn cause(settings: Settings, costs: &[i16], bits: usize, short: bool) -> u32
 // ---- an accepted call
 
 // The triples and the counts of the code are written, and its system is run.
-fn run_system(code: &[u8], settings: Settings, costs: &[i16], total: usize, variables: usize, triples: &mut [u16], counts: &mut [u16], sums: &mut [i64], values: &mut [i16], rows: &mut [i32]) -> Ending
+fn run_system(
+    code: &[u8],
+    settings: Settings,
+    costs: &[i16],
+    total: usize,
+    variables: usize,
+    triples: &mut [u16],
+    counts: &mut [u16],
+    sums: &mut [i64],
+    values: &mut [i16],
+    rows: &mut [i32],
+) -> Ending
     requires { ⌜ (judge (now code) ≡ 0) × (total ≡ Code.triples (codeOf (now code))) × (variables ≡ Code.variables (codeOf (now code))) ⌝ }
     requires { ⌜ (Calls.wild settings ≡ false) × ((v : ℕ) → natAbs (at (now costs) v) ≤ 32767) ⌝ }
     requires { ⌜ (3 * total ≤ length (now triples)) × (variables ≤ length (now counts)) ⌝ }
@@ -101,7 +111,21 @@ fn run_system(code: &[u8], settings: Settings, costs: &[i16], total: usize, vari
 }
 
 // The run, and what its last values say.
-fn decode_accepted(code: &[u8], settings: Settings, costs: &[i16], bits: usize, checks: usize, total: usize, variables: usize, triples: &mut [u16], counts: &mut [u16], sums: &mut [i64], values: &mut [i16], rows: &mut [i32], word: &mut [u8]) -> Decoding
+fn decode_accepted(
+    code: &[u8],
+    settings: Settings,
+    costs: &[i16],
+    bits: usize,
+    checks: usize,
+    total: usize,
+    variables: usize,
+    triples: &mut [u16],
+    counts: &mut [u16],
+    sums: &mut [i64],
+    values: &mut [i16],
+    rows: &mut [i32],
+    word: &mut [u8],
+) -> Decoding
     requires { ⌜ (judge (now code) ≡ 0) × (bits ≡ codeOf (now code) .bits) × (checks ≡ length (codeOf (now code) .checks)) × (total ≡ Code.triples (codeOf (now code))) × (variables ≡ Code.variables (codeOf (now code))) ⌝ }
     requires { ⌜ (Calls.wild settings ≡ false) × ((v : ℕ) → natAbs (at (now costs) v) ≤ 32767) ⌝ }
     requires { ⌜ (3 * total ≤ length (now triples)) × (variables ≤ length (now counts)) ⌝ }
@@ -129,7 +153,17 @@ fn decode_accepted(code: &[u8], settings: Settings, costs: &[i16], bits: usize, 
 // ---- the entry
 
 // The decoder. A refused call leaves every list as it was; the word is written with the number 0 alone.
-pub fn decode(code: &[u8], settings: Settings, costs: &[i16], triples: &mut [u16], counts: &mut [u16], sums: &mut [i64], values: &mut [i16], rows: &mut [i32], word: &mut [u8]) -> Decoding
+pub fn decode(
+    code: &[u8],
+    settings: Settings,
+    costs: &[i16],
+    triples: &mut [u16],
+    counts: &mut [u16],
+    sums: &mut [i64],
+    values: &mut [i16],
+    rows: &mut [i32],
+    word: &mut [u8],
+) -> Decoding
     ensures { λ d. ⌜ (
         let before : Lists = record { triples = now (triples .entry); counts = now (counts .entry); sums = now (sums .entry); values = now (values .entry); rows = now (rows .entry); word = now (word .entry) } in
         let after : Lists = record { triples = now (triples .exit); counts = now (counts .exit); sums = now (sums .exit); values = now (values .exit); rows = now (rows .exit); word = now (word .exit) } in
@@ -157,8 +191,19 @@ pub fn decode(code: &[u8], settings: Settings, costs: &[i16], triples: &mut [u16
                 return Decoding::Refused(refused);
             }
             decode_accepted(
-                code, settings, costs, bits, checks, total, variables, triples, counts, sums,
-                values, rows, word,
+                code,
+                settings,
+                costs,
+                bits,
+                checks,
+                total,
+                variables,
+                triples,
+                counts,
+                sums,
+                values,
+                rows,
+                word,
             )
         }
     }

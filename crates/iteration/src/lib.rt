@@ -120,7 +120,14 @@ fn cost_of(costs: &[i16], v: usize) -> i16
 }
 
 // "First every c is renewed"
-pub fn renew_values(sums: &[i64], counts: &[u16], costs: &[i16], weight: u32, ratio: u32, values: &mut [i16])
+pub fn renew_values(
+    sums: &[i64],
+    counts: &[u16],
+    costs: &[i16],
+    weight: u32,
+    ratio: u32,
+    values: &mut [i16],
+)
     requires { ⌜ (length (now sums) ≡ length (now values)) × (length (now counts) ≡ length (now values)) × (weight ≤ 65535) × (ratio ≤ 1023) ⌝ }
     requires { ⌜ ((v : ℕ) → v < length (now values) → (natAbs (at (now sums) v) ≤ 2 ^ 40) × (natAbs (at (now costs) v) ≤ 32767)
         × (natAbs (numerator weight (at (now sums) v) (at (now costs) v)) ≤ 2 ^ 48) × (1 ≤ getD (now counts) v 0) × (getD (now counts) v 0 ≤ 2048)) ⌝ }
@@ -185,7 +192,13 @@ struct Totals {
 }
 
 // The rows are renewed, and the totals formed, until one of them exceeds the tolerance.
-fn renew_counted(triples: &[u16], values: &[i16], rows: &mut [i32], count: usize, tolerance: u64) -> Totals
+fn renew_counted(
+    triples: &[u16],
+    values: &[i16],
+    rows: &mut [i32],
+    count: usize,
+    tolerance: u64,
+) -> Totals
     requires { ⌜ (count ≤ 8192) × (3 * count ≡ length (now triples)) × (4 * count ≡ length (now rows)) ⌝ }
     requires { ⌜ ((i : ℕ) → i < length (now triples) → getD (now triples) i 0 < length (now values)) × ((v : ℕ) → natAbs (at (now values) v) ≤ 16384) ⌝ }
     requires { ⌜ RowsWithin 3999 (now rows) ⌝ }
@@ -231,11 +244,21 @@ fn renew_rest(triples: &[u16], values: &[i16], rows: &mut [i32], from: usize, co
 fn settles(multipliers: u64, slacks: u64, tolerance: u64) -> u32
     ensures { λ settled. ⌜ settled ≡ 1 if (leb multipliers tolerance && leb slacks tolerance) ⌝ }
 {
-    if (multipliers <= tolerance) & (slacks <= tolerance) { 1 } else { 0 }
+    if (multipliers <= tolerance) & (slacks <= tolerance) {
+        1
+    } else {
+        0
+    }
 }
 
 // "Then each row"; and whether "neither total exceeds X".
-pub fn renew_rows(triples: &[u16], values: &[i16], rows: &mut [i32], count: usize, tolerance: u64) -> u32
+pub fn renew_rows(
+    triples: &[u16],
+    values: &[i16],
+    rows: &mut [i32],
+    count: usize,
+    tolerance: u64,
+) -> u32
     requires { ⌜ (count ≤ 8192) × (3 * count ≡ length (now triples)) × (4 * count ≡ length (now rows)) ⌝ }
     requires { ⌜ ((i : ℕ) → i < length (now triples) → getD (now triples) i 0 < length (now values)) × ((v : ℕ) → natAbs (at (now values) v) ≤ 16384) ⌝ }
     requires { ⌜ RowsWithin 3999 (now rows) ⌝ }
@@ -250,7 +273,16 @@ pub fn renew_rows(triples: &[u16], values: &[i16], rows: &mut [i32], count: usiz
 // ---- one iteration
 
 // The lists of a run afterwards are those of `iterate`; the answer says whether the run stops, settled.
-pub fn iterate(settings: Settings, triples: &[u16], counts: &[u16], costs: &[i16], count: usize, sums: &mut [i64], values: &mut [i16], rows: &mut [i32]) -> u32
+pub fn iterate(
+    settings: Settings,
+    triples: &[u16],
+    counts: &[u16],
+    costs: &[i16],
+    count: usize,
+    sums: &mut [i64],
+    values: &mut [i16],
+    rows: &mut [i32],
+) -> u32
     requires { ⌜ (3 * count ≡ length (now triples)) × (length (now sums) ≡ length (now values)) × (4 * count ≡ length (now rows)) ⌝ }
     requires { ⌜ ((i : ℕ) → i < length (now triples) → getD (now triples) i 0 < length (now values)) ⌝ }
     requires { ⌜ (let g : System = record { variables = length (now values); triples = count; members = now triples } in

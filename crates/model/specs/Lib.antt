@@ -18,3 +18,4 @@ pub mod Claims
 pub mod Paper
 pub mod Table
 pub mod ChannelClaims
+pub mod Frames

@@ -74,7 +74,14 @@ fn first_odd(code: &[u8], bits: usize, checks: usize, values: &[i16]) -> usize
 }
 
 // What the last values say; the word is written where they are a codeword.
-pub fn conclude(code: &[u8], bits: usize, checks: usize, values: &[i16], ending: Ending, word: &mut [u8]) -> Decoding
+pub fn conclude(
+    code: &[u8],
+    bits: usize,
+    checks: usize,
+    values: &[i16],
+    ending: Ending,
+    word: &mut [u8],
+) -> Decoding
     requires { ⌜ (judge (now code) ≡ 0) × (bits ≡ codeOf (now code) .bits) × (checks ≡ length (codeOf (now code) .checks)) ⌝ }
     requires { ⌜ (bits ≤ 4096) × (bits ≤ length (now values)) × (bits ≤ length (now word)) ⌝ }
     ensures { λ d. ⌜ (let out = outcome (codeOf (now (code .entry))) (now (values .entry)) in

@@ -44,7 +44,7 @@ module _ (g : System) (o : Settings) (costs : List ℤ) where
     within = subst (RowsWithin 0) (sym e) (start-within g);
     few = omega arith;
     remains = let m : o .limit - 0 ≡ o .limit = omega arith in
-      ap (λ (n : ℕ). runFrom quotient g o costs n 0 a) m ∙ same-rows (o .limit) 0 a (start g) h e;
+        ap (λ (n : ℕ). runFrom quotient g o costs n 0 a) m ∙ same-rows (o .limit) 0 a (start g) h e;
   }
 
   pub going-next : (a : State) (k : ℕ) → Ready g o costs → k < o .limit → Going g o costs a k 0

@@ -25,7 +25,16 @@ fn clear(rows: &mut [i32])
 }
 
 // The run of the system that the lists hold: its ending, with S, c and s of the last iteration in the lists.
-pub fn run(settings: Settings, triples: &[u16], counts: &[u16], costs: &[i16], count: usize, sums: &mut [i64], values: &mut [i16], rows: &mut [i32]) -> Ending
+pub fn run(
+    settings: Settings,
+    triples: &[u16],
+    counts: &[u16],
+    costs: &[i16],
+    count: usize,
+    sums: &mut [i64],
+    values: &mut [i16],
+    rows: &mut [i32],
+) -> Ending
     requires { ⌜ (3 * count ≡ length (now triples)) × (length (now sums) ≡ length (now values)) × (4 * count ≡ length (now rows)) ⌝ }
     requires { ⌜ ((i : ℕ) → i < length (now triples) → getD (now triples) i 0 < length (now values)) ⌝ }
     requires { ⌜ (let g : System = record { variables = length (now values); triples = count; members = now triples } in

@@ -123,8 +123,7 @@ decode-accepted-requires c κs =
     let a2 = or-false (short (vars q) (l q .counts)) _ (a1 .1) in
     let a3 = or-false (short (vars q) (l q .sums)) _ (a2 .1) in
     let a4 = or-false (short (vars q) (l q .values)) _ (a3 .1) in
-    let a5 = or-false (short (4 * total q) (l q .rows)) _ (a4 .1) in
-    (
+    let a5 = or-false (short (4 * total q) (l q .rows)) _ (a4 .1) in (
       (r .judged, r .bits, r .checks, r .triples, r .variables),
       (
         (unless 10 (wild (s q .args .settings)) (none e .0), q .cause .ensures .1 (e .if1 .left)),

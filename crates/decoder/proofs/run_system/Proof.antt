@@ -129,8 +129,7 @@ run-requires : tie.Need-run-requires
 run-requires c κs =
     let w = c .before .before .before .before .before .before .before .before .before in
     let a = s w .args in
-    let wide = or-false (outside 1 65535 (a .settings .weight)) _ (s w .pre .1 .0 .0) in
-    (
+    let wide = or-false (outside 1 65535 (a .settings .weight)) _ (s w .pre .1 .0 .0) in (
       (sym (ts-long w), sums-long w ∙ sym (n-is w), sym (rows-long w)),
       (
         members-below w,
@@ -162,8 +161,7 @@ returns c =
     let w = c .before .before .before .before .before .before .before .before .before .before .before .before .before in
     let a = s w .args in
     let e : record { k = r .result .k; settled = r .result .settled; last = record { sums = r .last .1 .1 .1 .1 .1 .0; values = r .last .1 .1 .1 .1 .1 .1 .0; rows = r .last .1 .1 .1 .1 .1 .1 .1 .0 } } ≡ run quotient (systemOf (k w)) (a .settings) (a .costs .now)
-    = r .ensures ∙ ap (λ (h : System). run quotient h (a .settings) (a .costs .now)) (system-is w) in
-    (
+    = r .ensures ∙ ap (λ (h : System). run quotient h (a .settings) (a .costs .now)) (system-is w) in (
       (w .write-system .ensures .members, w .write-system .ensures .occurring),
       (
         ap (λ (x : Ended). x .k) e,

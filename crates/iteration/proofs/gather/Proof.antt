@@ -51,8 +51,7 @@ long c = ap length (c .loop .inv .1) ∙ length-tab (n c) (S c (c .loop .t))
 give-requires : tie.Need-give-requires Inv-loop μ-loop
 give-requires c κs =
     let l = c .before .before in
-    let s = start l in
-    (
+    let s = start l in (
       (omega (arith, s .pre .0), omega (arith, s .pre .0), omega (arith, s .pre .0)),
       (λ i h. omega (arith, long l, cleared (l .before .before), s .pre .1 .0 i h), (s .pre .1 .1, λ v. rw (l .loop .inv .1) (at-tab (λ z. natAbs z ≤ 2 ^ 59) (n l) (S l (l .loop .t)) v (λ _. sums-small (s .args .triples .now) (s .args .rows .now) (s .pre .1 .1) (l .loop .t) v (omega (arith, s .pre .0))) (omega arith)))),
     )
@@ -68,12 +67,11 @@ unfolding sumOf
 loop-again c =
     let l = c .before .before .before .before in
     let t = l .loop .t in
-    let more : ℕ → ℤ = λ u. sumℤ 3 (λ p. share (start l .args .rows .now) t p when eqb (member (start l .args .triples .now) t p) u) in
-    (
+    let more : ℕ → ℤ = λ u. sumℤ 3 (λ p. share (start l .args .rows .now) t p when eqb (member (start l .args .triples .now) t p) u) in (
       omega arith,
       c .before .give .ensures
-      ∙ rw (add-one t, long l) (tab-same (n l) (λ u. at (l .loop .sums) u +ℤ more u) (S l (suc t)) (λ u h.
-      ap (λ (z : ℤ). z +ℤ more u) (ap (λ (k : List ℤ). at k u) (l .loop .inv .1) ∙ getD-tab (n l) (S l t) u (pos 0) h))),
+          ∙ rw (add-one t, long l) (tab-same (n l) (λ u. at (l .loop .sums) u +ℤ more u) (S l (suc t)) (λ u h.
+          ap (λ (z : ℤ). z +ℤ more u) (ap (λ (k : List ℤ). at k u) (l .loop .inv .1) ∙ getD-tab (n l) (S l t) u (pos 0) h))),
     )
 
 returns : tie.Need-returns Inv-loop μ-loop

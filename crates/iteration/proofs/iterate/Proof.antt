@@ -64,8 +64,7 @@ module _ (c : tie.After-gather) where
 renew-values-requires : tie.Need-renew-values-requires
 renew-values-requires c κs =
     let m = c .before .before .before in
-    let s = first m in
-    (
+    let s = first m in (
       (sums-length m, count-length s, is-ready s .weight, is-ready s .ratio),
       λ v h. (
         rw (sums-are m) (omega (arith, bound s .sums v)),
@@ -125,10 +124,9 @@ returns : tie.Need-returns
 returns c =
     let m = c .before .before .before .before .before .before in
     let s = first (given m) in
-    let settled : ℕ → List ℤ → List ℤ → ℕ = settledBy (s .args .settings .tolerance) in
-    (
+    let settled : ℕ → List ℤ → List ℤ → ℕ = settledBy (s .args .settings .tolerance) in (
       equal (record { sums = given m .gather .last .1 .1 .1 .0; values = m .renew-values .last .1 .1 .1 .1 .1 .0; rows = c .before .renew-rows .last .1 .1 .0 }) (b s)
-      (sums-are (given m)) (values-are m) (rows-are c),
+          (sums-are (given m)) (values-are m) (rows-are c),
       c .before .renew-rows .ensures .1 ∙ ap (settled (s .args .count) (a s .rows)) (sym (c .before .renew-rows .ensures .0)),
     )
 

@@ -118,8 +118,11 @@ more c part n k p q =
 add-multipliers : tie.Need-add-multipliers Inv-loop μ-loop
 add-multipliers c =
     let l = at-loop (c .before) in
-    omega (arith, more (c .before) multiplier (l .loop .multipliers) (c .multiplier-changes .result) (l .loop .inv .2) (c .multiplier-changes .ensures),
-    multipliers-most (ts l) (ss l) (cs l) (within l) (small l) (start l .args .count) (start l .pre .0 .0) (suc (l .loop .t)) (below (made (c .before) .before .before .before)))
+    omega (
+      arith,
+      more (c .before) multiplier (l .loop .multipliers) (c .multiplier-changes .result) (l .loop .inv .2) (c .multiplier-changes .ensures),
+      multipliers-most (ts l) (ss l) (cs l) (within l) (small l) (start l .args .count) (start l .pre .0 .0) (suc (l .loop .t)) (below (made (c .before) .before .before .before)),
+    )
 
 slack-changes-requires : tie.Need-slack-changes-requires Inv-loop μ-loop
 slack-changes-requires c κs = both (c .before)
@@ -127,8 +130,11 @@ slack-changes-requires c κs = both (c .before)
 add-slacks : tie.Need-add-slacks Inv-loop μ-loop
 add-slacks c =
     let l = at-loop (c .before .before) in
-    omega (arith, more (c .before .before) slack (l .loop .slacks) (c .slack-changes .result) (l .loop .inv .3) (c .slack-changes .ensures),
-    slacks-most (ts l) (ss l) (cs l) (within l) (small l) (start l .args .count) (start l .pre .0 .0) (suc (l .loop .t)) (below (made (c .before .before) .before .before .before)))
+    omega (
+      arith,
+      more (c .before .before) slack (l .loop .slacks) (c .slack-changes .result) (l .loop .inv .3) (c .slack-changes .ensures),
+      slacks-most (ts l) (ss l) (cs l) (within l) (small l) (start l .args .count) (start l .pre .0 .0) (suc (l .loop .t)) (below (made (c .before .before) .before .before .before)),
+    )
 
 add-t : tie.Need-add-t Inv-loop μ-loop
 add-t c = let l = at-loop (c .before .before) in omega (arith, start l .pre .0)
@@ -138,8 +144,7 @@ loop-less c = omega (arith, below (made (c .before .before) .before .before .bef
 
 loop-again : tie.Need-loop-again Inv-loop μ-loop
 loop-again c =
-    let l = at-loop (c .before .before) in
-    (
+    let l = at-loop (c .before .before) in (
       omega (arith, below (made (c .before .before) .before .before .before)),
       rw (add-one (l .loop .t)) (put-is (c .before .before .before)),
       rw (add-one (l .loop .t)) (more (c .before .before) multiplier (l .loop .multipliers) (c .before .multiplier-changes .result) (l .loop .inv .2) (c .before .multiplier-changes .ensures)),

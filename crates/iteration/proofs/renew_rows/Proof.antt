@@ -48,8 +48,7 @@ module _ (c : tie.After-renew-counted) where
 renew-rest-requires : tie.Need-renew-rest-requires
 renew-rest-requires c κs =
     let m = c .before .before in
-    let h = first m .pre in
-    (
+    let h = first m .pre in (
       (m .renew-counted .ensures .0 .0, h .0 .0, h .0 .1, mid-length m),
       (
         h .1 .0,
@@ -71,13 +70,12 @@ returns c =
     let m = c .before .before .before .before .before in
     let T = first m .args .count in
     let r = m .renew-counted in
-    let all = tab (4 * T) (renewedAt (ts m) (ss m) (cs m)) in
-    (
+    let all = tab (4 * T) (renewedAt (ts m) (ss m) (cs m)) in (
       c .before .before .renew-rest .ensures
-      ∙ ap (λ (l : List ℤ). over (4 * d m) (at l) (tab (4 * T) (renewedAt (ts m) l (cs m)))) (mid-is m)
-      ∙ in-two (ts m) (ss m) (cs m) (d m) T (r .ensures .0 .0),
+          ∙ ap (λ (l : List ℤ). over (4 * d m) (at l) (tab (4 * T) (renewedAt (ts m) l (cs m)))) (mid-is m)
+          ∙ in-two (ts m) (ss m) (cs m) (d m) T (r .ensures .0 .0),
       c .settles .ensures
-      ∙ settled-is (first m .args .tolerance) (d m) T (ss m) all (r .ensures .0 .0) (r .result .multipliers) (r .result .slacks) (r .ensures .1 .1 .0) (r .ensures .1 .1 .1) (r .ensures .0 .1),
+          ∙ settled-is (first m .args .tolerance) (d m) T (ss m) all (r .ensures .0 .0) (r .result .multipliers) (r .result .slacks) (r .ensures .1 .1 .0) (r .ensures .1 .1 .1) (r .ensures .0 .1),
     )
 
 pub renew-rows-spec : {M : Type 1} → statement M

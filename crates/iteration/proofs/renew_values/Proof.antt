@@ -61,7 +61,7 @@ cost-is : (c : tie.After-cost-of Inv-loop μ-loop) → Worth (toZ w16 (ofZ w16 (
 cost-is c = let l = c .before .before .before in local w16 32767 (c .cost-of .ok) (c .cost-of .ensures) (start l .pre .1 (l .loop .v) (omega arith) .1)
 
 value-requires : tie.Need-value-requires Inv-loop μ-loop
-value-requires c κs = 
+value-requires c κs =
     let l = c .before .before .before .before in
     let p = start l .pre .1 (l .loop .v) (omega arith) in
     rw (sum-is l (omega arith) .is, cost-is (c .before) .is) ((p .0, p .1, start l .pre .0 .2, start l .pre .0 .3), (p .2, p .3, p .4))
@@ -79,7 +79,7 @@ loop-less : tie.Need-loop-less Inv-loop μ-loop
 loop-less c = omega arith
 
 loop-again : tie.Need-loop-again Inv-loop μ-loop
-loop-again c = 
+loop-again c =
     let l = c .before .before .before .before .before in
     let s = start l in
     let v = l .loop .v in

@@ -59,12 +59,11 @@ sums-are c = c .sums .ensures ∙ rw (first (c .before) .is, second (c .before) 
 
 renew-all-requires : tie.Need-renew-all-requires
 renew-all-requires c κs r =
-    let s = start (c .before) in
-    (
+    let s = start (c .before) in (
       s .pre .1 .1 .1 r,
       rw (sums-are c)
-      (at-tab (λ z. natAbs z ≤ 49152) 4 (sumAt (s .args .triples .now) (s .args .values .now) (s .args .t)) r
-      (λ h. rowSum-bound r (x s 0) (x s 1) (x s 2) h (s .pre .1 .1 .0 (v s 0)) (s .pre .1 .1 .0 (v s 1)) (s .pre .1 .1 .0 (v s 2))) (omega arith)),
+          (at-tab (λ z. natAbs z ≤ 49152) 4 (sumAt (s .args .triples .now) (s .args .values .now) (s .args .t)) r
+          (λ h. rowSum-bound r (x s 0) (x s 1) (x s 2) h (s .pre .1 .1 .0 (v s 0)) (s .pre .1 .1 .0 (v s 1)) (s .pre .1 .1 .0 (v s 2))) (omega arith)),
     )
 
 returns : tie.Need-returns

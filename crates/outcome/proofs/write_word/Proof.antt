@@ -55,8 +55,7 @@ loop-again : tie.Need-loop-again Inv-loop μ-loop
 loop-again c =
     let l = c .before .before .before in
     let v = l .loop .v in
-    let e : c .bit .result ≡ f l v = c .bit .ensures ∙ ap bitOf (kept w16 (at (first l .args .values .now) v) (c .before .bit-arg .given)) in
-    (
+    let e : c .bit .result ≡ f l v = c .bit .ensures ∙ ap bitOf (kept w16 (at (first l .args .values .now) v) (c .before .bit-arg .given)) in (
       omega (arith, c .before .before .loop-test .taken),
       rw (add-one v, l .loop .inv .1) (over-next v (f l) (first l .args .word .now) (c .bit .result) (omega (arith, first l .pre .1, c .before .before .loop-test .taken)) (sym e)),
     )

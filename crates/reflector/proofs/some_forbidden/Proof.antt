@@ -50,21 +50,19 @@ loop-again c =
     let costs = l .before .args .costs .now in
     let i = l .loop .i in
     let z = getD costs i (pos 0) in
-    let e : c .is-forbidden .result ≡ forbidden z = c .is-forbidden .ensures ∙ ap forbidden (kept w16 z (c .before .cost .given)) in
-    (
+    let e : c .is-forbidden .result ≡ forbidden z = c .is-forbidden .ensures ∙ ap forbidden (kept w16 z (c .before .cost .given)) in (
       rw e (found-next forbidden costs (l .loop .found) i (pos 0) (c .before .before .loop-test .taken) (l .loop .inv .0)),
       λ k. let none = or-false (l .loop .found) (c .is-forbidden .result) k in
-        below-next (λ v. natAbs (at costs v) ≤ 32767) i (l .loop .inv .1 (none .0)) (allowed z (c .before .cost .given) (sym e ∙ none .1)),
+          below-next (λ v. natAbs (at costs v) ≤ 32767) i (l .loop .inv .1 (none .0)) (allowed z (c .before .cost .given) (sym e ∙ none .1)),
     )
 
 returns : tie.Need-returns Inv-loop μ-loop
 returns c =
     let l = c .before in
-    let costs = l .before .args .costs .now in
-    (
+    let costs = l .before .args .costs .now in (
       found-end forbidden costs (l .loop .found) (l .loop .i) (c .loop-test .left) (l .loop .inv .0),
       λ k v. subst (λ (m : List ℤ). natAbs (at m v) ≤ 32767) (tab-getD costs (pos 0))
-        (at-tab (λ z. natAbs z ≤ 32767) (length costs) (at costs) v (λ h. l .loop .inv .1 k v (omega (arith, c .loop-test .left))) (omega arith)),
+          (at-tab (λ z. natAbs z ≤ 32767) (length costs) (at costs) v (λ h. l .loop .inv .1 k v (omega (arith, c .loop-test .left))) (omega arith)),
     )
 
 pub some-forbidden-spec : {M : Type 1} → statement M

@@ -87,8 +87,7 @@ iterate-requires : tie.Need-iterate-requires Inv-loop μ-loop
 iterate-requires c κs =
     let t = c .before .before .before in
     let l = t .before .before in
-    let s = first l in
-    (
+    let s = first l in (
       (s .pre .0 .0, l .loop .inv .sums ∙ sym (l .loop .inv .values), sym (l .loop .inv .rows)),
       (
         λ i h. subst (λ (n : ℕ). getD (s .args .triples .now) i 0 < n) (sym (l .loop .inv .values)) (s .pre .1 .0 i h),
