@@ -196,6 +196,12 @@ fn put_number(x: usize, out: &mut [u8], at: usize) -> usize
     put(48 + (x % 10) as u8, out, next)
 }
 
+fn glyph(bit: u8) -> u8
+    ensures { λ r. ⌜ r ≡ Frames.glyph bit ⌝ }
+{
+    if bit == 0 { 48 } else { 49 }
+}
+
 // The bits of a word, from `at` on; where the next byte goes.
 fn put_bits(word: &[u8], out: &mut [u8], at: usize) -> usize
     requires { ⌜ at + length (now word) ≤ length (now out) ⌝ }
@@ -203,7 +209,7 @@ fn put_bits(word: &[u8], out: &mut [u8], at: usize) -> usize
 {
     let mut next = at;
     for i in 0..word.len() {
-        next = put(if word[i] == 0 { 48 } else { 49 }, out, next);
+        next = put(glyph(word[i]), out, next);
     }
     next
 }
