@@ -3,6 +3,7 @@ use mathlib.Core.Path.{_≡_, refl, sym, ap, _∙_}
 use mathlib.Core.List.{List, map}
 use Prim.Native.Nat.{ℕ, zero, suc, _+_, _-_, _*_, _<_}
 use native.Mathlib.Omega.{arith}
+use native.Mathlib.Nat.{zero-add}
 use lib.IntN.{ℤ, pos, negsuc, _-ℤ_}
 use lib.ListN.{length, getD, drop, length-map}
 use lib.Seq.{drop-drop}
@@ -15,7 +16,7 @@ use Rattle.records.proofs.Walk.{number-at}
 
 pub minus-one : (y : ℕ) → negsuc 0 -ℤ pos y ≡ negsuc y
 minus-one zero = refl
-minus-one (suc y) = refl
+minus-one (suc y) = ap (λ (n : ℕ). negsuc (suc n)) (zero-add y)
 
 -- cost i
 abbrev pub costAt : List ℕ → ℕ → ℤ

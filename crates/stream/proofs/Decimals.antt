@@ -14,14 +14,15 @@ use Rattle.model.specs.Frames.{digits, decimal}
 enough : (f g x : ℕ) → x < f → x < g → digits f x ≡ digits g x
 enough zero g x h k = absurd (omega arith)
 enough (suc f) zero x h k = absurd (omega arith)
-enough (suc f) (suc g) x h k = by (ltb x 10) refl
+enough (suc f) (suc g) x h k = by (ltb x 10) refl (enough f g (x / 10))
   where
-    by : (t : Bool) → ltb x 10 ≡ t → cond t [] (digits f (x / 10)) ++ ((48 + x % 10) ∷ []) ≡ cond t [] (digits g (x / 10)) ++ ((48 + x % 10) ∷ [])
-    by true e = refl
-    by false e =
+    by : (t : Bool) → ltb x 10 ≡ t → (x / 10 < f → x / 10 < g → digits f (x / 10) ≡ digits g (x / 10))
+        → cond t [] (digits f (x / 10)) ++ ((48 + x % 10) ∷ []) ≡ cond t [] (digits g (x / 10)) ++ ((48 + x % 10) ∷ [])
+    by true e ih = refl
+    by false e ih =
         let l = ltb-false x 10 e in
         let less = div-lt-self {n = x} {k = 10} (omega arith) (omega arith) in
-        ap (λ (d : List ℕ). d ++ ((48 + x % 10) ∷ [])) (enough f g (x / 10) (omega arith) (omega arith))
+        ap (λ (d : List ℕ). d ++ ((48 + x % 10) ∷ [])) (ih (omega arith) (omega arith))
 
 pub decimal-one : (x : ℕ) → x < 10 → decimal x ≡ (48 + x % 10) ∷ []
 unfolding decimal
@@ -35,14 +36,15 @@ decimal-more x h =
 
 few : (f d x : ℕ) → x < 10 ^ suc d → length (digits f x) ≤ suc d
 few zero d x h = omega arith
-few (suc f) d x h = by (ltb x 10) refl d h
+few (suc f) d x h = by (ltb x 10) refl d h (λ d. few f d (x / 10))
   where
-    by : (t : Bool) → ltb x 10 ≡ t → (d : ℕ) → x < 10 ^ suc d → length (cond t [] (digits f (x / 10)) ++ ((48 + x % 10) ∷ [])) ≤ suc d
-    by true e d h = omega arith
-    by false e zero h = absurd (omega (arith, ltb-false x 10 e))
-    by false e (suc d) h =
+    by : (t : Bool) → ltb x 10 ≡ t → (d : ℕ) → x < 10 ^ suc d → ((d : ℕ) → x / 10 < 10 ^ suc d → length (digits f (x / 10)) ≤ suc d)
+        → length (cond t [] (digits f (x / 10)) ++ ((48 + x % 10) ∷ [])) ≤ suc d
+    by true e d h ih = omega arith
+    by false e zero h ih = absurd (omega (arith, ltb-false x 10 e))
+    by false e (suc d) h ih =
         let less = div-lt-iff-lt-mul {k = 10} {x = x} {y = 10 ^ suc d} (omega arith) .from (omega arith) in
-        omega (arith, length-append (digits f (x / 10)) ((48 + x % 10) ∷ []), few f d (x / 10) less)
+        omega (arith, length-append (digits f (x / 10)) ((48 + x % 10) ∷ []), ih d less)
 
 -- a number of 64 bits has at most 20
 pub decimal-few : (x : ℕ) → x < 2 ^ 64 → length (decimal x) ≤ 20

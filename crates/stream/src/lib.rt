@@ -55,9 +55,9 @@ pub fn judge_code(code: &[u8]) -> u32
     match reading {
         Reading::Refused(cause) => cause,
         Reading::Code {
-            bits: _,
-            checks: _,
-            triples: _,
+            bits,
+            checks,
+            triples,
         } => 0,
     }
 }

@@ -1,11 +1,14 @@
 -- `stream::judge_check` meets its contract: the record's cause, then the triples with its own. Assumes nothing.
 use mathlib.Core.Path.{_≡_, sym, _∙_}
+use mathlib.Core.List.{[], _∷_}
 use Prim.Native.Nat.{_+_, _<_, _≤_}
 use native.Mathlib.Omega.{arith}
+use lib.Dec.{ltb}
 use borrow.Author.Needs.{needs}
 use borrow.Author.Tests.{lt-ltb, le-ltb}
 use lib.ListN.{drop}
 use Rattle.model.specs.Code.{tripleCount}
+use Rattle.model.specs.Causes.{_if_}
 use Rattle.model.specs.Records.{degree, indices, judgeCheck}
 use Rattle.model.specs.Frames.{judgeHeldCheck}
 use Rattle.model.proofs.Accepted.{record-sound, length-numbers}
@@ -18,7 +21,10 @@ judge-check-requires c κs = search needs
 
 returns : tie.Need-returns
 unfolding judgeHeldCheck
-returns c = let e = c .before .judge-check .ensures in e ∙ sym (refused _ _ (λ z. c .if1 .taken (e ∙ z)))
+returns c =
+    let a = c .before .before .before .args in
+    let e = c .before .judge-check .ensures in
+    e ∙ sym (refused (judgeCheck (a .bits) (a .s .now)) (10 if ltb 1024 (a .triples + tripleCount (indices (a .s .now))) ∷ []) (λ z. c .if1 .taken (e ∙ z)))
 
 sound : (c : tie.Else1) → let a = c .before .before .before .args in judgeCheck (a .bits) (a .s .now) ≡ 0
 sound c = sym (c .before .judge-check .ensures) ∙ c .if1 .left

@@ -1,8 +1,7 @@
 -- `stream::judge_code` meets its contract: the reader's number. Assumes nothing.
-use mathlib.Core.Path.{_≡_, sym, ap, subst, _∙_}
+use mathlib.Core.Path.{_≡_, sym, ap, _∙_}
 use borrow.Author.Needs.{needs}
-use Rattle.model.specs.declared.Reading.{Reading}
-use Rattle.model.specs.Calls.{readingTold, reader}
+use Rattle.model.specs.Calls.{readingTold}
 use Rattle.records.proofs.Answers.{told-code, told-refused}
 use Rattle.stream.proofs.judge_code.Statement.{statement}
 use Rattle.stream.proofs.judge_code.Tie as tie
@@ -13,8 +12,8 @@ read-requires c κs = search needs
 enum-known-reading : tie.Need-enum-known-reading
 enum-known-reading c = search needs
 
-enum-told : tie.Need-enum-told
-enum-told c = search needs
+enum-known-reading-2 : tie.Need-enum-known-reading-2
+enum-known-reading-2 c = search needs
 
 returns : tie.Need-returns
 returns c = ?
@@ -23,4 +22,4 @@ returns-2 : tie.Need-returns-2
 returns-2 c = ?
 
 pub judge-code-spec : {M : Type 1} → statement M
-judge-code-spec = tie.close (tie.spec read-requires enum-known-reading enum-told returns returns-2)
+judge-code-spec = tie.close (tie.spec read-requires enum-known-reading returns enum-known-reading-2 returns-2)

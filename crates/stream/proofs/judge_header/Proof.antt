@@ -1,9 +1,12 @@
 -- `stream::judge_header` meets its contract: the header's cause, then the bits. Assumes nothing.
 use mathlib.Core.Path.{_≡_, sym, _∙_}
+use mathlib.Core.List.{[], _∷_}
 use Prim.Native.Nat.{_<_}
 use native.Mathlib.Omega.{arith}
+use lib.Dec.{ltb}
 use borrow.Author.Needs.{needs}
 use borrow.Author.Tests.{lt-ltb, le-ltb}
+use Rattle.model.specs.Causes.{_if_}
 use Rattle.model.specs.Records.{bitCount, judgeHeader}
 use Rattle.model.specs.Frames.{judgeHeldHeader}
 use Rattle.model.proofs.Accepted.{header-sound}
@@ -16,7 +19,10 @@ judge-header-requires c κs = search needs
 
 returns : tie.Need-returns
 unfolding judgeHeldHeader
-returns c = let e = c .before .judge-header .ensures in e ∙ sym (refused _ _ (λ z. c .if1 .taken (e ∙ z)))
+returns c =
+    let s = c .before .before .before .args .s .now in
+    let e = c .before .judge-header .ensures in
+    e ∙ sym (refused (judgeHeader s) (10 if ltb 512 (bitCount s) ∷ []) (λ z. c .if1 .taken (e ∙ z)))
 
 sound : (c : tie.Else1) → judgeHeader (c .before .before .before .args .s .now) ≡ 0
 sound c = sym (c .before .judge-header .ensures) ∙ c .if1 .left

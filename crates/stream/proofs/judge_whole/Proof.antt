@@ -1,37 +1,40 @@
+-- `stream::judge_whole` meets its contract: the tests in the definition's order. Assumes nothing.
+use mathlib.Core.Path.{_≡_, sym, _∙_}
+use Prim.Native.Nat.{_≤_, _<_}
 use borrow.Author.Needs.{needs}
+use borrow.Author.Tests.{lt-ltb, le-ltb, ne-eqb}
+use Rattle.model.specs.Records.{twoBytes}
+use Rattle.model.specs.Frames.{judgeWhole}
 use Rattle.stream.proofs.judge_whole.Statement.{statement}
 use Rattle.stream.proofs.judge_whole.Tie as tie
-use Rattle.stream.proofs.judge_whole.Reads as reads
-use Rattle.stream.proofs.judge_whole.Lts as lts
-use Rattle.records.proofs.two_bytes.Reads as two-bytes-reads
 
--- src/lib.rt:140:9
 returns : tie.Need-returns
-returns c = ?
+unfolding judgeWhole
+returns c = rw (lt-ltb _ 2 (c .if1 .taken))
 
--- src/lib.rt:142:8
 two-bytes-requires : tie.Need-two-bytes-requires
 two-bytes-requires c κs = search needs
 
--- src/lib.rt:143:9
 returns-2 : tie.Need-returns-2
-returns-2 c = ?
+unfolding judgeWhole
+returns-2 c = rw (le-ltb _ 2 (c .before .before .if1 .left), ne-eqb _ 0x4C46 (λ e. c .if2 .taken (c .before .two-bytes .ensures .0 ∙ e)))
 
--- src/lib.rt:145:18
 mul-if3 : tie.Need-mul-if3
 mul-if3 c = search needs
 
--- src/lib.rt:145:14
 add-if3 : tie.Need-add-if3
 add-if3 c = search needs
 
--- src/lib.rt:134:1
-returns-3 : tie.Need-returns-3
-returns-3 c = ?
+mark : (c : tie.Else2) → twoBytes (c .before .before .before .before .args .s .now) ≡ 0x4C46
+mark c = sym (c .before .two-bytes .ensures .0) ∙ c .if2 .left
 
--- src/lib.rt:134:1
+returns-3 : tie.Need-returns-3
+unfolding judgeWhole
+returns-3 c = rw (le-ltb _ 2 (c .before .before .before .if1 .left), mark (c .before), lt-ltb _ _ (c .if3 .taken))
+
 returns-4 : tie.Need-returns-4
-returns-4 c = ?
+unfolding judgeWhole
+returns-4 c = rw (le-ltb _ 2 (c .before .before .before .if1 .left), mark (c .before), le-ltb _ _ (c .if3 .left))
 
 pub judge-whole-spec : {M : Type 1} → statement M
 judge-whole-spec =

@@ -51,7 +51,10 @@ cast-t12 c = search needs
 
 -- src/lib.rt:102:1
 returns : tie.Need-returns
-returns c = ?
+returns c =
+    let w = c .before .before .before .before .before in
+    let t = c .before in
+    rw (w .two-bytes .ensures .0)
 
 pub settings-spec : {M : Type 1} → statement M
 settings-spec =
