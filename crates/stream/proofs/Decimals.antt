@@ -43,7 +43,7 @@ few (suc f) d x h = by (ltb x 10) refl d h (λ d. few f d (x / 10))
     by true e d h ih = omega arith
     by false e zero h ih = absurd (omega (arith, ltb-false x 10 e))
     by false e (suc d) h ih =
-        let less = div-lt-iff-lt-mul {k = 10} {x = x} {y = 10 ^ suc d} (omega arith) .from (omega arith) in
+        let less = div-lt-iff-lt-mul {k = 10} {x = x} {y = 10 ^ suc d} (omega arith) .1 (omega arith) in
         omega (arith, length-append (digits f (x / 10)) ((48 + x % 10) ∷ []), ih d less)
 
 -- a number of 64 bits has at most 20

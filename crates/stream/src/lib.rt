@@ -1,7 +1,7 @@
 // The records of the frame program and the lines that it writes (document 01, 'The frame program'), on slices.
 ghost use mathlib.Core.Path.{_≡_};
 ghost use mathlib.Core.List.{[], _∷_, _++_, map};
-ghost use Prim.Native.Nat.{_+_, _*_, _≤_, _<_};
+ghost use Prim.Native.Nat.{_+_, _*_, _%_, _≤_, _<_};
 ghost use lib.ListN.{length};
 ghost use Rattle.lists.specs.Tabulated.{written};
 ghost use Rattle.model.specs.Causes.{accepted};
@@ -184,18 +184,44 @@ fn put(byte: u8, out: &mut [u8], at: usize) -> usize
     at + 1
 }
 
+// The last decimal digit of `x`.
+fn digit(x: usize) -> u8
+    ensures { λ r. ⌜ r ≡ 48 + x % 10 ⌝ }
+{
+    48 + (x % 10) as u8
+}
+
 // The decimal digits of `x`, from `at` on; where the next byte goes.
 fn put_number(x: usize, out: &mut [u8], at: usize) -> usize
     requires { ⌜ at + length (Frames.decimal x) ≤ length (now out) ⌝ }
     ensures { λ r. ⌜ Appended at (Frames.decimal x) (now (out .entry)) (now (out .exit)) r ⌝ }
 {
-    let mut next = at;
-    if 10 <= x {
-        next = put_number(x / 10, out, at);
+    if x < 10 {
+        return put(digit(x), out, at);
     }
-    put(48 + (x % 10) as u8, out, next)
+    let next = put_number(x / 10, out, at);
+    put(digit(x), out, next)
 }
 
+// A number and the byte after it, from `at` on; where the next byte goes.
+fn put_field(x: usize, end: u8, out: &mut [u8], at: usize) -> usize
+    requires { ⌜ at + 21 ≤ length (now out) ⌝ }
+    ensures { λ r. ⌜ Appended at (Frames.decimal x ++ (end ∷ [])) (now (out .entry)) (now (out .exit)) r × (r ≤ at + 21) ⌝ }
+{
+    let next = put_number(x, out, at);
+    put(end, out, next)
+}
+
+// The letter of a line and the space after it; where the next byte goes.
+fn put_letter(letter: u8, out: &mut [u8]) -> usize
+    requires { ⌜ 2 ≤ length (now out) ⌝ }
+    ensures { λ r. ⌜ Appended 0 (letter ∷ 32 ∷ []) (now (out .entry)) (now (out .exit)) r × (r ≡ 2) ⌝ }
+{
+    let next = put(letter, out, 0);
+    put(b' ', out, next)
+}
+
+// The character of a bit.
 fn glyph(bit: u8) -> u8
     ensures { λ r. ⌜ r ≡ Frames.glyph bit ⌝ }
 {
@@ -219,24 +245,18 @@ pub fn refusal(cause: u32, out: &mut [u8]) -> usize
     requires { ⌜ 128 ≤ length (now out) ⌝ }
     ensures { λ r. ⌜ Appended 0 (Frames.refusal cause) (now (out .entry)) (now (out .exit)) r ⌝ }
 {
-    let a = put(b'R', out, 0);
-    let b = put(b' ', out, a);
-    let c = put_number(cause as usize, out, b);
-    put(b'\n', out, c)
+    let next = put_letter(b'R', out);
+    put_field(cause as usize, b'\n', out, next)
 }
 
 // How the line of an answer begins, to the bits or the place; where they go.
 fn open(letter: u8, ending: Ending, out: &mut [u8]) -> usize
     requires { ⌜ 128 ≤ length (now out) ⌝ }
-    ensures { λ r. ⌜ Appended 0 (Frames.opening letter (ending .k) (ending .settled)) (now (out .entry)) (now (out .exit)) r ⌝ }
-    ensures { λ r. ⌜ r ≤ 44 ⌝ }
+    ensures { λ r. ⌜ Appended 0 (Frames.opening letter (ending .k) (ending .settled)) (now (out .entry)) (now (out .exit)) r × (r ≤ 44) ⌝ }
 {
-    let a = put(letter, out, 0);
-    let b = put(b' ', out, a);
-    let c = put_number(ending.k as usize, out, b);
-    let d = put(b' ', out, c);
-    let e = put_number(ending.settled as usize, out, d);
-    put(b' ', out, e)
+    let first = put_letter(letter, out);
+    let second = put_field(ending.k as usize, b' ', out, first);
+    put_field(ending.settled as usize, b' ', out, second)
 }
 
 // The line of an answer with a place.
@@ -244,9 +264,8 @@ fn place_line(letter: u8, place: usize, ending: Ending, out: &mut [u8]) -> usize
     requires { ⌜ 128 ≤ length (now out) ⌝ }
     ensures { λ r. ⌜ Appended 0 (Frames.opening letter (ending .k) (ending .settled) ++ (Frames.decimal place ++ (10 ∷ []))) (now (out .entry)) (now (out .exit)) r ⌝ }
 {
-    let a = open(letter, ending, out);
-    let b = put_number(place, out, a);
-    put(b'\n', out, b)
+    let next = open(letter, ending, out);
+    put_field(place, b'\n', out, next)
 }
 
 // The line of a word.
@@ -254,9 +273,9 @@ fn word_line(word: &[u8], ending: Ending, out: &mut [u8]) -> usize
     requires { ⌜ 128 + length (now word) ≤ length (now out) ⌝ }
     ensures { λ r. ⌜ Appended 0 (Frames.opening 87 (ending .k) (ending .settled) ++ (map Frames.glyph (now (word .entry)) ++ (10 ∷ []))) (now (out .entry)) (now (out .exit)) r ⌝ }
 {
-    let a = open(b'W', ending, out);
-    let b = put_bits(word, out, a);
-    put(b'\n', out, b)
+    let next = open(b'W', ending, out);
+    let last = put_bits(word, out, next);
+    put(b'\n', out, last)
 }
 
 // The line of an answer, by its number.

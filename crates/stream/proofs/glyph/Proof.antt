@@ -1,15 +1,13 @@
+-- `stream::glyph` meets its contract: the definition's own test. Assumes nothing.
+use borrow.Author.Tests.{eq-eqb, ne-eqb}
 use Rattle.stream.proofs.glyph.Statement.{statement}
 use Rattle.stream.proofs.glyph.Tie as tie
-use Rattle.stream.proofs.glyph.Reads as reads
-use Rattle.stream.proofs.glyph.Lts as lts
 
--- src/lib.rt:199:1
 returns : tie.Need-returns
-returns c = ?
+returns c = rw (c .if1 .taken)
 
--- src/lib.rt:199:1
 returns-2 : tie.Need-returns-2
-returns-2 c = ?
+returns-2 c = rw (ne-eqb _ 0 (c .if1 .left))
 
 pub glyph-spec : {M : Type 1} → statement M
 glyph-spec = tie.close (tie.spec returns returns-2)

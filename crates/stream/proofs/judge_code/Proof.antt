@@ -16,10 +16,15 @@ enum-known-reading-2 : tie.Need-enum-known-reading-2
 enum-known-reading-2 c = search needs
 
 returns : tie.Need-returns
-returns c = ?
+returns c =
+    let s = c .before .before .before .before .before .args .code .now in
+    sym (told-refused s (c .before .reading .given .0 .0) (ap readingTold (sym (c .before .reading .given .1)) ∙ c .before .before .before .read .ensures) .0)
 
 returns-2 : tie.Need-returns-2
-returns-2 c = ?
+returns-2 c =
+    let s = c .before .before .before .before .before .args .code .now in
+    let g = c .before .reading2 .given in
+    sym (told-code s (g .0 .0) (g .0 .1 .0) (g .0 .1 .1 .0) (ap readingTold (sym (g .1)) ∙ c .before .before .before .read .ensures) .judged)
 
 pub judge-code-spec : {M : Type 1} → statement M
-judge-code-spec = tie.close (tie.spec read-requires enum-known-reading returns enum-known-reading-2 returns-2)
+judge-code-spec = tie.close (tie.spec read-requires enum-known-reading enum-known-reading-2 returns returns-2)
