@@ -34,6 +34,9 @@ decimal-more x h =
     let less = div-lt-self {n = x} {k = 10} (omega arith) (omega arith) in
     rw (le-ltb x 10 h, enough x (suc (x / 10)) (x / 10) less (omega arith))
 
+pub decimal-longer : (x : ℕ) → 10 ≤ x → length (decimal x) ≡ length (decimal (x / 10)) + 1
+decimal-longer x h = ap length (decimal-more x h) ∙ length-append (decimal (x / 10)) ((48 + x % 10) ∷ [])
+
 few : (f d x : ℕ) → x < 10 ^ suc d → length (digits f x) ≤ suc d
 few zero d x h = omega arith
 few (suc f) d x h = by (ltb x 10) refl d h (λ d. few f d (x / 10))
