@@ -14,13 +14,13 @@ none at a = let e : at + 0 ≡ at = omega arith in record { list = rw e (sym (ta
 pub one : (at x : ℕ) (a : List ℕ) → at < length a → Appended at (x ∷ []) a (set a at x) (at + 1)
 one at x a h = record { list = rw (add-one at) (set-split a at x h); ends = refl }
 
-module _ {at : ℕ} {t a b : List ℕ} {i : ℕ} (fits : at + length t ≤ length a) (p : Appended at t a b i) where
+module _ {at : ℕ} {t a b : List ℕ} {i : ℕ} (fits : i ≤ length a) (p : Appended at t a b i) where
   -- the text so far, and what follows it
   begun : b ≡ (take at a ++ t) ++ drop i a
   begun = rw (p .list, p .ends) (sym (append-assoc (take at a) t (drop (at + length t) a)))
 
   size : length (take at a ++ t) ≡ i
-  size = length-append (take at a) t ∙ omega (arith, length-take-le at a (omega arith), p .ends)
+  size = length-append (take at a) t ∙ omega (arith, length-take-le at a (omega (arith, p .ends)), p .ends)
 
   pub long : length b ≡ length a
   long = ap length begun ∙ length-append (take at a ++ t) (drop i a) ∙ omega (arith, size, length-drop i a, p .ends)

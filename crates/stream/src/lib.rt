@@ -250,7 +250,7 @@ pub fn refusal(cause: u32, out: &mut [u8]) -> usize
 }
 
 // How the line of an answer begins, to the bits or the place; where they go.
-fn open(letter: u8, ending: Ending, out: &mut [u8]) -> usize
+fn begin(letter: u8, ending: Ending, out: &mut [u8]) -> usize
     requires { ⌜ 128 ≤ length (now out) ⌝ }
     ensures { λ r. ⌜ Appended 0 (Frames.opening letter (ending .k) (ending .settled)) (now (out .entry)) (now (out .exit)) r × (r ≤ 44) ⌝ }
 {
@@ -264,7 +264,7 @@ fn place_line(letter: u8, place: usize, ending: Ending, out: &mut [u8]) -> usize
     requires { ⌜ 128 ≤ length (now out) ⌝ }
     ensures { λ r. ⌜ Appended 0 (Frames.opening letter (ending .k) (ending .settled) ++ (Frames.decimal place ++ (10 ∷ []))) (now (out .entry)) (now (out .exit)) r ⌝ }
 {
-    let next = open(letter, ending, out);
+    let next = begin(letter, ending, out);
     put_field(place, b'\n', out, next)
 }
 
@@ -273,7 +273,7 @@ fn word_line(word: &[u8], ending: Ending, out: &mut [u8]) -> usize
     requires { ⌜ 128 + length (now word) ≤ length (now out) ⌝ }
     ensures { λ r. ⌜ Appended 0 (Frames.opening 87 (ending .k) (ending .settled) ++ (map Frames.glyph (now (word .entry)) ++ (10 ∷ []))) (now (out .entry)) (now (out .exit)) r ⌝ }
 {
-    let next = open(b'W', ending, out);
+    let next = begin(b'W', ending, out);
     let last = put_bits(word, out, next);
     put(b'\n', out, last)
 }

@@ -1,26 +1,24 @@
+-- `stream::place_line` meets its contract: the opening, then the place. Assumes nothing.
+use native.Mathlib.Omega.{arith}
 use borrow.Author.Needs.{needs}
+use Rattle.stream.proofs.Text.{then}
 use Rattle.stream.proofs.place_line.Statement.{statement}
 use Rattle.stream.proofs.place_line.Tie as tie
-use Rattle.stream.proofs.place_line.Reads as reads
-use Rattle.stream.proofs.place_line.Lts as lts
-use Rattle.stream.proofs.open.Reads as open-reads
-use Rattle.stream.proofs.put_field.Reads as put-field-reads
 
--- src/lib.rt:267:9
-open-requires : tie.Need-open-requires
-open-requires c κs = search needs
+begin-requires : tie.Need-begin-requires
+begin-requires c κs = search needs
 
--- src/lib.rt:268:5
 put-field-requires : tie.Need-put-field-requires
 put-field-requires c κs = search needs
 
--- src/lib.rt:263:1
 same-length : tie.Need-same-length
 same-length c = search needs
 
--- src/lib.rt:263:1
 returns : tie.Need-returns
-returns c = ?
+returns c =
+    let f = c .before .before in
+    let b = f .before .before .before .before in
+    then (omega (arith, b .begin .ensures .1, b .before .before .before .pre)) (b .begin .ensures .0) (f .put-field .ensures .0)
 
 pub place-line-spec : {M : Type 1} → statement M
-place-line-spec = tie.close (tie.spec open-requires put-field-requires same-length returns)
+place-line-spec = tie.close (tie.spec begin-requires put-field-requires same-length returns)

@@ -1,26 +1,26 @@
+-- `stream::refusal` meets its contract: the letter, then the number. Assumes nothing.
+use native.Mathlib.Omega.{arith}
 use borrow.Author.Needs.{needs}
+use Rattle.model.specs.Frames.{refusal}
+use Rattle.stream.proofs.Text.{then}
 use Rattle.stream.proofs.refusal.Statement.{statement}
 use Rattle.stream.proofs.refusal.Tie as tie
-use Rattle.stream.proofs.refusal.Reads as reads
-use Rattle.stream.proofs.refusal.Lts as lts
-use Rattle.stream.proofs.put_field.Reads as put-field-reads
-use Rattle.stream.proofs.put_letter.Reads as put-letter-reads
 
--- src/lib.rt:248:9
 put-letter-requires : tie.Need-put-letter-requires
 put-letter-requires c κs = search needs
 
--- src/lib.rt:249:5
 put-field-requires : tie.Need-put-field-requires
 put-field-requires c κs = search needs
 
--- src/lib.rt:244:1
 same-length : tie.Need-same-length
 same-length c = search needs
 
--- src/lib.rt:244:1
 returns : tie.Need-returns
-returns c = ?
+unfolding refusal
+returns c =
+    let f = c .before .before in
+    let l = f .before .before .before .before in
+    then (omega (arith, l .put-letter .ensures .1, l .before .before .before .pre)) (l .put-letter .ensures .0) (f .put-field .ensures .0)
 
 pub refusal-spec : {M : Type 1} → statement M
 refusal-spec = tie.close (tie.spec put-letter-requires put-field-requires same-length returns)
