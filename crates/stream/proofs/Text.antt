@@ -8,22 +8,22 @@ use lib.ListN.{length, take, drop, set, length-append, length-drop, take-append-
 use lib.Seq.{take-at, drop-at, drop-drop, length-take-le, set-split}
 use Rattle.stream.specs.Text.{Appended}
 
-pub none : (at : ℕ) (a : List ℕ) → Appended at [] a a at
-none at a = let e : at + 0 ≡ at = omega arith in record { list = rw e (sym (take-append-drop at a)); ends = omega arith }
+pub none : (at : ℕ) (a : List ℕ) → at ≤ length a → Appended at [] a a at
+none at a h = let e : at + 0 ≡ at = omega arith in record { list = rw e (sym (take-append-drop at a)); ends = omega arith; fits = h }
 
 pub one : (at x : ℕ) (a : List ℕ) → at < length a → Appended at (x ∷ []) a (set a at x) (at + 1)
-one at x a h = record { list = rw (add-one at) (set-split a at x h); ends = refl }
+one at x a h = record { list = rw (add-one at) (set-split a at x h); ends = refl; fits = omega arith }
 
-module _ {at : ℕ} {t a b : List ℕ} {i : ℕ} (fits : i ≤ length a) (p : Appended at t a b i) where
+module _ {at : ℕ} {t a b : List ℕ} {i : ℕ} (p : Appended at t a b i) where
   -- the text so far, and what follows it
   begun : b ≡ (take at a ++ t) ++ drop i a
   begun = rw (p .list, p .ends) (sym (append-assoc (take at a) t (drop (at + length t) a)))
 
   size : length (take at a ++ t) ≡ i
-  size = length-append (take at a) t ∙ omega (arith, length-take-le at a (omega (arith, p .ends)), p .ends)
+  size = length-append (take at a) t ∙ omega (arith, length-take-le at a (omega (arith, p)), p .ends)
 
   pub long : length b ≡ length a
-  long = ap length begun ∙ length-append (take at a ++ t) (drop i a) ∙ omega (arith, size, length-drop i a, p .ends)
+  long = ap length begun ∙ length-append (take at a ++ t) (drop i a) ∙ omega (arith, size, length-drop i a, p)
 
   pub then : {u c : List ℕ} {j : ℕ} → Appended i u b c j → Appended at (t ++ u) a c j
   then {u} q =
@@ -32,4 +32,9 @@ module _ {at : ℕ} {t a b : List ℕ} {i : ℕ} (fits : i ≤ length a) (p : Ap
       record {
         list = q .list ∙ rw (e, begun, take-at (take at a ++ t) (drop i a) i size, ← drop-drop (length u) i ((take at a ++ t) ++ drop i a), drop-at (take at a ++ t) (drop i a) i size, drop-drop (length u) i a) (simp append-assoc);
         ends = omega (arith, p .ends, q .ends);
+        fits = omega (arith, q .fits, long);
       }
+
+-- of text from the front: a loan of it
+pub counted : {t a b : List ℕ} {i : ℕ} → Appended 0 t a b i → (i ≤ length b) × (i ≡ length (take i b))
+counted {b = b} {i = i} p = let h : i ≤ length b = omega (arith, p .fits, long p) in (h, sym (length-take-le i b h))

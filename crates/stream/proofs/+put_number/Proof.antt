@@ -116,7 +116,7 @@ put-number-put-requires-2 t c κs =
     let s = i .before .before in
     let e = n .put-number .ensures in
     let more = decimal-longer (s .args .x) (i .if1 .left) in
-    omega (arith, more, s .pre .1, e .ends, long (omega (arith, more, s .pre .1, e .ends)) e)
+    omega (arith, more, s .pre .1, e .ends, long e)
 
 put-number-same-length-2 : (t : ℕ) → put-number-lts.Need-same-length-2 (
   digit-reads.Asked,
@@ -143,7 +143,7 @@ put-number-returns-2 t c =
     let i = n .before .before in
     let s = i .before .before in
     let more = decimal-longer (s .args .x) (i .if1 .left) in
-    rw (decimal-more (s .args .x) (i .if1 .left), ← d .digit2 .ensures) (then (omega (arith, more, s .pre .1, n .put-number .ensures .ends)) (n .put-number .ensures) (p .put2 .ensures))
+    rw (decimal-more (s .args .x) (i .if1 .left), ← d .digit2 .ensures) (then (n .put-number .ensures) (p .put2 .ensures))
 
 pub +put-number-spec : {M : Type 1} → statement M
 +put-number-spec = close μ-put-number λ t. put-number-lts.spec (

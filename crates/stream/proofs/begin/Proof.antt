@@ -38,7 +38,7 @@ returns c =
     let e = s .args .ending in
     (
       rw (← append-assoc (decimal (e .k)) (32 ∷ []) (decimal (e .settled) ++ (32 ∷ [])))
-          (then (omega (arith, a .1, b .1, s .pre)) (then (omega (arith, a .1, s .pre)) (a .0) (b .0)) (g .put-field2 .ensures .0)),
+          (then (then (a .0) (b .0)) (g .put-field2 .ensures .0)),
       omega (arith, a .1, b .1, g .put-field2 .ensures .1),
     )
 

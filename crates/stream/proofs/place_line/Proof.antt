@@ -18,7 +18,7 @@ returns : tie.Need-returns
 returns c =
     let f = c .before .before in
     let b = f .before .before .before .before in
-    then (omega (arith, b .begin .ensures .1, b .before .before .before .pre)) (b .begin .ensures .0) (f .put-field .ensures .0)
+    then (b .begin .ensures .0) (f .put-field .ensures .0)
 
 pub place-line-spec : {M : Type 1} → statement M
 place-line-spec = tie.close (tie.spec begin-requires put-field-requires same-length returns)

@@ -26,10 +26,10 @@ fits : (l : tie.At-loop Inv-loop μ-loop)
 fits l =
     let a = l .before .before .before .args in
     let e = length-map (take (l .loop .i) (a .word .now)) glyph ∙ length-take-le (l .loop .i) (a .word .now) (l .loop .inv .0) in
-    (e, long (omega (arith, e, l .loop .inv .1 .ends, l .before .before .before .pre)) (l .loop .inv .1))
+    (e, long (l .loop .inv .1))
 
 loop-holds : tie.Need-loop-holds Inv-loop μ-loop
-loop-holds c = (omega arith, none (c .before .before .args .at) (c .before .before .args .out .now))
+loop-holds c = (omega arith, none (c .before .before .args .at) (c .before .before .args .out .now) (omega (arith, c .before .before .pre)))
 
 shared-slice-read-glyph : tie.Need-shared-slice-read-glyph Inv-loop μ-loop
 shared-slice-read-glyph c = search needs
@@ -54,7 +54,7 @@ loop-again c =
     let w = a .word .now in
     let i = l .loop .i in
     let e : map glyph (take (i + 1) w) ≡ map glyph (take i w) ++ (glyph (getD w i 0) ∷ []) = rw (add-one i, take-suc w i 0 (omega arith), map-append glyph (take i w) (getD w i 0 ∷ [])) in
-    (omega arith, rw (e, ← p .before .before .glyph .ensures) (then (omega (arith, fits l, l .loop .inv .1 .ends, l .before .before .before .pre)) (l .loop .inv .1) (p .put .ensures)))
+    (omega arith, rw (e, ← p .before .before .glyph .ensures) (then (l .loop .inv .1) (p .put .ensures)))
 
 same-length : tie.Need-same-length Inv-loop μ-loop
 same-length c = fits (c .before) .1

@@ -20,7 +20,7 @@ put-requires c κs =
     let n = c .before .before .before in
     let s = n .before .before .before in
     let e = n .put-number .ensures in
-    omega (arith, few s, s .pre, e .ends, long (omega (arith, few s, s .pre, e .ends)) e)
+    omega (arith, few s, s .pre, e .ends, long e)
 
 same-length : tie.Need-same-length
 same-length c = search needs
@@ -31,7 +31,7 @@ returns c =
     let n = p .before .before .before .before in
     let s = n .before .before .before in
     let e = n .put-number .ensures in
-    (then (omega (arith, few s, s .pre, e .ends)) e (p .put .ensures), omega (arith, few s, e .ends, p .put .ensures .ends))
+    (then e (p .put .ensures), omega (arith, few s, e .ends, p .put .ensures .ends))
 
 pub put-field-spec : {M : Type 1} → statement M
 put-field-spec = tie.close (tie.spec put-number-requires put-requires same-length returns)

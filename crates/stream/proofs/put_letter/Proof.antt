@@ -20,7 +20,7 @@ returns c =
     let q = c .before .before in
     let p = q .before .before .before .before in
     let e = p .put .ensures in
-    (then (omega (arith, e .ends, p .before .before .before .pre)) e (q .put2 .ensures), omega (arith, e .ends, q .put2 .ensures .ends))
+    (then e (q .put2 .ensures), omega (arith, e .ends, q .put2 .ensures .ends))
 
 pub put-letter-spec : {M : Type 1} → statement M
 put-letter-spec = tie.close (tie.spec put-requires put-requires-2 same-length returns)

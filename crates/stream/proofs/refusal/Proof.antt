@@ -20,7 +20,7 @@ unfolding refusal
 returns c =
     let f = c .before .before in
     let l = f .before .before .before .before in
-    then (omega (arith, l .put-letter .ensures .1, l .before .before .before .pre)) (l .put-letter .ensures .0) (f .put-field .ensures .0)
+    then (l .put-letter .ensures .0) (f .put-field .ensures .0)
 
 pub refusal-spec : {M : Type 1} → statement M
 refusal-spec = tie.close (tie.spec put-letter-requires put-field-requires same-length returns)

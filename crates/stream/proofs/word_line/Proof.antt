@@ -31,12 +31,12 @@ module _ (c : tie.After-put-bits) where
   text = opening 87 (first .args .ending .k) (first .args .ending .settled) ++ map glyph (first .args .word .now)
 
   so-far : Appended 0 text (first .args .out .now) (c .put-bits .last .1 .0) (c .put-bits .result)
-  so-far = then (omega (arith, opened .begin .ensures .1, first .pre)) (opened .begin .ensures .0) (c .put-bits .ensures)
+  so-far = then (opened .begin .ensures .0) (c .put-bits .ensures)
 
 put-requires : tie.Need-put-requires
 put-requires c κs =
     let b = c .before .before .before in
-    omega (arith, room b, long (omega (arith, room b)) (so-far b))
+    omega (arith, room b, long (so-far b))
 
 same-length : tie.Need-same-length
 same-length c = search needs
@@ -46,7 +46,7 @@ returns c =
     let p = c .before .before in
     let b = p .before .before .before .before in
     let a = first b .args in
-    rw (← append-assoc (opening 87 (a .ending .k) (a .ending .settled)) (map glyph (a .word .now)) (10 ∷ [])) (then (omega (arith, room b)) (so-far b) (p .put .ensures))
+    rw (← append-assoc (opening 87 (a .ending .k) (a .ending .settled)) (map glyph (a .word .now)) (10 ∷ [])) (then (so-far b) (p .put .ensures))
 
 pub word-line-spec : {M : Type 1} → statement M
 word-line-spec =
