@@ -3,7 +3,6 @@
 ghost use mathlib.Core.Path.{_≡_};
 ghost use Prim.Native.Nat.{_+_, _*_, _≤_, _<_};
 ghost use lib.ListN.{length};
-use model::Decoding;
 use model::Settings;
 
 // At most `size` bytes of the input, to `buffer` from `at` on; how many came.
@@ -91,8 +90,119 @@ fn read_code(code: &mut [u8]) -> Collected
     Collected { bits, size }
 }
 
+// The run of a frame, and its line.
+fn answer(
+    code: &[u8],
+    settings: Settings,
+    costs: &[i16],
+    bits: usize,
+    triples: &mut [u16],
+    counts: &mut [u16],
+    sums: &mut [i64],
+    values: &mut [i16],
+    rows: &mut [i32],
+    word: &mut [u8],
+    out: &mut [u8],
+)
+    requires { ⌜ (bits ≤ length (now word)) × (128 + bits ≤ length (now out)) ⌝ }
+{
+    let decoding = decoder::decode(
+        code,
+        settings,
+        costs,
+        triples,
+        counts,
+        sums,
+        values,
+        rows,
+        word,
+    );
+    let end = stream::line(decoding, &word[..bits], out);
+    io::write_all(1, &out[..end]);
+}
+
+// A frame; whether the program goes on.
+fn step(
+    code: &[u8],
+    settings: Settings,
+    bits: usize,
+    frame: &mut [u8],
+    costs: &mut [i16],
+    triples: &mut [u16],
+    counts: &mut [u16],
+    sums: &mut [i64],
+    values: &mut [i16],
+    rows: &mut [i32],
+    word: &mut [u8],
+    out: &mut [u8],
+) -> bool
+    requires { ⌜ (bits ≤ 512) × (1026 ≤ length (now frame)) × (512 ≤ length (now costs)) × (512 ≤ length (now word)) × (640 ≤ length (now out)) ⌝ }
+{
+    let came = read(frame, 0, 2 + 2 * bits);
+    if came == 0 {
+        return false;
+    }
+    let cause = stream::read_frame(&frame[..came], bits, costs);
+    if cause == 0 {
+        answer(
+            code,
+            settings,
+            &costs[..bits],
+            bits,
+            triples,
+            counts,
+            sums,
+            values,
+            rows,
+            word,
+            out,
+        );
+        return true;
+    }
+    refuse(cause);
+    cause == 13
+}
+
 // The frames, to the end of the input or the first refusal that ends the program.
-fn decode_frames(code: &[u8], bits: usize, settings: Settings)
+fn steps(
+    code: &[u8],
+    settings: Settings,
+    bits: usize,
+    frame: &mut [u8],
+    costs: &mut [i16],
+    triples: &mut [u16],
+    counts: &mut [u16],
+    sums: &mut [i64],
+    values: &mut [i16],
+    rows: &mut [i32],
+    word: &mut [u8],
+    out: &mut [u8],
+)
+    requires { ⌜ (bits ≤ 512) × (1026 ≤ length (now frame)) × (512 ≤ length (now costs)) × (512 ≤ length (now word)) × (640 ≤ length (now out)) ⌝ }
+{
+    let mut turns = u64::MAX;
+    while 0 < turns
+        && step(
+            code,
+            settings,
+            bits,
+            frame,
+            costs,
+            triples,
+            counts,
+            sums,
+            values,
+            rows,
+            word,
+            out,
+        )
+    {
+        turns -= 1;
+    }
+}
+
+// The frames, in room for 512 bits and 1,024 triples.
+fn decode_frames(code: &[u8], settings: Settings, bits: usize)
     requires { ⌜ bits ≤ 512 ⌝ }
 {
     let mut frame = [0u8; 1026];
@@ -104,44 +214,26 @@ fn decode_frames(code: &[u8], bits: usize, settings: Settings)
     let mut rows = [0i32; 4096];
     let mut word = [0u8; 512];
     let mut out = [0u8; 640];
-    let mut turns = u64::MAX;
-    while 0 < turns {
-        let came = read(&mut frame, 0, 2 + 2 * bits);
-        if came == 0 {
-            return;
-        }
-        let cause = stream::read_frame(&frame[..came], bits, &mut costs);
-        if cause == 0 {
-            let decoding = decoder::decode(
-                code,
-                settings,
-                &costs[..bits],
-                &mut triples,
-                &mut counts,
-                &mut sums,
-                &mut values,
-                &mut rows,
-                &mut word,
-            );
-            let end = stream::line(decoding, &word[..bits], &mut out);
-            io::write_all(1, &out[..end]);
-        } else {
-            refuse(cause);
-            if cause != 13 {
-                return;
-            }
-        }
-        turns -= 1;
-    }
+    steps(
+        code,
+        settings,
+        bits,
+        &mut frame,
+        &mut costs,
+        &mut triples,
+        &mut counts,
+        &mut sums,
+        &mut values,
+        &mut rows,
+        &mut word,
+        &mut out,
+    );
 }
 
-fn main() {
-    let mut code = [0u8; 9289];
-    let collected = read_code(&mut code);
-    let size = collected.size;
-    if size == 0 {
-        return;
-    }
+// The settings, then the frames.
+fn decode(code: &[u8], bits: usize)
+    requires { ⌜ bits ≤ 512 ⌝ }
+{
     let mut record = [0u8; 12];
     let came = read(&mut record, 0, 12);
     let cause = stream::judge_settings(&record[..came]);
@@ -149,5 +241,14 @@ fn main() {
         refuse(cause);
         return;
     }
-    decode_frames(&code[..size], collected.bits, stream::settings(&record));
+    decode_frames(code, stream::settings(&record), bits);
+}
+
+fn main() {
+    let mut code = [0u8; 9289];
+    let collected = read_code(&mut code);
+    let size = collected.size;
+    if 0 < size {
+        decode(&code[..size], collected.bits);
+    }
 }

@@ -1,109 +1,87 @@
+-- `frames::read_checks` meets its contract: a triple takes at most nine bytes. Assumes nothing.
+use mathlib.Core.Path.{_≡_, refl, sym, ap, _∙_}
+use Prim.Native.Nat.{_+_, _*_, _≤_}
+use native.Mathlib.Omega.{arith}
+use borrow.Author.Needs.{needs}
+use lib.ListN.{length}
 use Rattle.frames.proofs.read_checks.Statement.{statement}
 use Rattle.frames.proofs.read_checks.Tie as tie
-use Rattle.frames.proofs.read_checks.Reads as reads
-use Rattle.frames.proofs.read_checks.Lts as lts
-use Rattle.frames.proofs.read_check.Reads as read-check-reads
-use Rattle.frames.proofs.refuse.Reads as refuse-reads
-use Rattle.records.proofs.wide.Reads as wide-reads
-use Rattle.stream.proofs.judge_check.Reads as judge-check-reads
 
 abbrev Inv-loop : tie.InvT-loop
-Inv-loop code₀ bits checks end₀ triples₀ left₀ code end triples left = ?
+Inv-loop code₀ bits checks end₀ triples₀ left₀ code end triples left =
+    (length code ≡ length code₀) × (end ≤ 6 + 9 * triples) × (triples ≤ 1024)
 
 abbrev μ-loop : tie.MeasureT-loop
-μ-loop code₀ bits checks end₀ triples₀ left₀ code end triples left = ?
+μ-loop code₀ bits checks end₀ triples₀ left₀ code end triples left = left
 
--- src/main.rt:53:5
 loop-holds : tie.Need-loop-holds Inv-loop μ-loop
-loop-holds c = ?
+loop-holds c = search needs
 
--- src/main.rt:54:13
 read-check-requires : tie.Need-read-check-requires Inv-loop μ-loop
-read-check-requires c κs = ?
+read-check-requires c κs = search needs
 
--- src/main.rt:55:52
 add-judge-check : tie.Need-add-judge-check Inv-loop μ-loop
-add-judge-check c = ?
+add-judge-check c = search needs
 
--- src/main.rt:55:41
 sub-judge-check : tie.Need-sub-judge-check Inv-loop μ-loop
-sub-judge-check c = ?
+sub-judge-check c = search needs
 
--- src/main.rt:55:41
 part-judge-check-start : tie.Need-part-judge-check-start Inv-loop μ-loop
-part-judge-check-start c = ?
+part-judge-check-start c = search needs
 
--- src/main.rt:55:41
 part-judge-check-end : tie.Need-part-judge-check-end Inv-loop μ-loop
-part-judge-check-end c = ?
+part-judge-check-end c = search needs
 
--- src/main.rt:55:13
 judge-check-requires : tie.Need-judge-check-requires Inv-loop μ-loop
-judge-check-requires c κs = ?
+judge-check-requires c κs = search needs
 
--- src/main.rt:57:13
 refuse-requires : tie.Need-refuse-requires Inv-loop μ-loop
-refuse-requires c κs = ?
+refuse-requires c κs = search needs
 
--- src/main.rt:58:13
 same-length : tie.Need-same-length Inv-loop μ-loop
-same-length c = ?
+same-length c = search needs
 
--- src/main.rt:58:13
 returns : tie.Need-returns Inv-loop μ-loop
-returns c = ?
+returns c = search needs
 
--- src/main.rt:60:41
 add-wide : tie.Need-add-wide Inv-loop μ-loop
-add-wide c = ?
+add-wide c = search needs
 
--- src/main.rt:60:36
 slice-read-wide : tie.Need-slice-read-wide Inv-loop μ-loop
-slice-read-wide c = ?
+slice-read-wide c = search needs
 
--- src/main.rt:60:13
 wide-requires : tie.Need-wide-requires Inv-loop μ-loop
-wide-requires c κs = ?
+wide-requires c κs = search needs
 
--- src/main.rt:61:20
 sub-triples : tie.Need-sub-triples Inv-loop μ-loop
-sub-triples c = ?
+sub-triples c = search needs
 
--- src/main.rt:61:9
 add-triples : tie.Need-add-triples Inv-loop μ-loop
-add-triples c = ?
+add-triples c = search needs
 
--- src/main.rt:62:20
 mul-end : tie.Need-mul-end Inv-loop μ-loop
-mul-end c = ?
+mul-end c = search needs
 
--- src/main.rt:62:16
 add-end : tie.Need-add-end Inv-loop μ-loop
-add-end c = ?
+add-end c = search needs
 
--- src/main.rt:62:9
 add-end-2 : tie.Need-add-end-2 Inv-loop μ-loop
-add-end-2 c = ?
+add-end-2 c = search needs
 
--- src/main.rt:63:9
 sub-left : tie.Need-sub-left Inv-loop μ-loop
-sub-left c = ?
+sub-left c = search needs
 
--- src/main.rt:53:5
 loop-less : tie.Need-loop-less Inv-loop μ-loop
-loop-less c = ?
+loop-less c = search needs
 
--- src/main.rt:53:5
 loop-again : tie.Need-loop-again Inv-loop μ-loop
-loop-again c = ?
+loop-again c = search needs
 
--- src/main.rt:46:1
 same-length-2 : tie.Need-same-length-2 Inv-loop μ-loop
-same-length-2 c = ?
+same-length-2 c = search needs
 
--- src/main.rt:46:1
 returns-2 : tie.Need-returns-2 Inv-loop μ-loop
-returns-2 c = ?
+returns-2 c = search needs
 
 pub read-checks-spec : {M : Type 1} → statement M
 read-checks-spec =

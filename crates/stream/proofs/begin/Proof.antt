@@ -35,8 +35,7 @@ returns c =
     let s = l .before .before .before in
     let a = l .put-letter .ensures in
     let b = f .put-field .ensures in
-    let e = s .args .ending in
-    (
+    let e = s .args .ending in (
       rw (← append-assoc (decimal (e .k)) (32 ∷ []) (decimal (e .settled) ++ (32 ∷ [])))
           (then (then (a .0) (b .0)) (g .put-field2 .ensures .0)),
       omega (arith, a .1, b .1, g .put-field2 .ensures .1),
