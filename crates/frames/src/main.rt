@@ -56,7 +56,7 @@ fn read_checks(code: &mut [u8], bits: usize, checks: usize) -> usize
             refuse(cause);
             return 0;
         }
-        let degree = records::wide(code[end + 2]);
+        let degree = records::degree(&code[end..end + came]);
         triples += degree - 2;
         end += 3 + 2 * degree;
         left -= 1;
@@ -76,8 +76,8 @@ fn read_code(code: &mut [u8]) -> Collected
         refuse(cause);
         return none;
     }
-    let bits = records::two_bytes(code, 2);
-    let checks = records::two_bytes(code, 4);
+    let bits = records::two_bytes(&code[..came], 2);
+    let checks = records::two_bytes(&code[..came], 4);
     let size = read_checks(code, bits, checks);
     if size == 0 {
         return none;

@@ -1,87 +1,117 @@
--- `frames::read_checks` meets its contract: a triple takes at most nine bytes. Assumes nothing.
-use mathlib.Core.Path.{_≡_, refl, sym, ap, _∙_}
-use Prim.Native.Nat.{_+_, _*_, _≤_}
-use native.Mathlib.Omega.{arith}
-use borrow.Author.Needs.{needs}
-use lib.ListN.{length}
 use Rattle.frames.proofs.read_checks.Statement.{statement}
 use Rattle.frames.proofs.read_checks.Tie as tie
+use Rattle.frames.proofs.read_checks.Reads as reads
+use Rattle.frames.proofs.read_checks.Lts as lts
+use Rattle.frames.proofs.read_check.Reads as read-check-reads
+use Rattle.frames.proofs.refuse.Reads as refuse-reads
+use Rattle.records.proofs.degree.Reads as degree-reads
+use Rattle.stream.proofs.judge_check.Reads as judge-check-reads
 
 abbrev Inv-loop : tie.InvT-loop
-Inv-loop code₀ bits checks end₀ triples₀ left₀ code end triples left =
-    (length code ≡ length code₀) × (end ≤ 6 + 9 * triples) × (triples ≤ 1024)
+Inv-loop code₀ bits checks end₀ triples₀ left₀ code end triples left = ?
 
 abbrev μ-loop : tie.MeasureT-loop
-μ-loop code₀ bits checks end₀ triples₀ left₀ code end triples left = left
+μ-loop code₀ bits checks end₀ triples₀ left₀ code end triples left = ?
 
+-- src/main.rt:52:5
 loop-holds : tie.Need-loop-holds Inv-loop μ-loop
-loop-holds c = search needs
+loop-holds c = ?
 
+-- src/main.rt:53:13
 read-check-requires : tie.Need-read-check-requires Inv-loop μ-loop
-read-check-requires c κs = search needs
+read-check-requires c κs = ?
 
+-- src/main.rt:54:52
 add-judge-check : tie.Need-add-judge-check Inv-loop μ-loop
-add-judge-check c = search needs
+add-judge-check c = ?
 
+-- src/main.rt:54:41
 sub-judge-check : tie.Need-sub-judge-check Inv-loop μ-loop
-sub-judge-check c = search needs
+sub-judge-check c = ?
 
+-- src/main.rt:54:41
 part-judge-check-start : tie.Need-part-judge-check-start Inv-loop μ-loop
-part-judge-check-start c = search needs
+part-judge-check-start c = ?
 
+-- src/main.rt:54:41
 part-judge-check-end : tie.Need-part-judge-check-end Inv-loop μ-loop
-part-judge-check-end c = search needs
+part-judge-check-end c = ?
 
+-- src/main.rt:54:13
 judge-check-requires : tie.Need-judge-check-requires Inv-loop μ-loop
-judge-check-requires c κs = search needs
+judge-check-requires c κs = ?
 
+-- src/main.rt:56:13
 refuse-requires : tie.Need-refuse-requires Inv-loop μ-loop
-refuse-requires c κs = search needs
+refuse-requires c κs = ?
 
+-- src/main.rt:57:13
 same-length : tie.Need-same-length Inv-loop μ-loop
-same-length c = search needs
+same-length c = ?
 
+-- src/main.rt:57:13
 returns : tie.Need-returns Inv-loop μ-loop
-returns c = search needs
+returns c = ?
 
-add-wide : tie.Need-add-wide Inv-loop μ-loop
-add-wide c = search needs
+-- src/main.rt:59:49
+add-degree : tie.Need-add-degree Inv-loop μ-loop
+add-degree c = ?
 
-slice-read-wide : tie.Need-slice-read-wide Inv-loop μ-loop
-slice-read-wide c = search needs
+-- src/main.rt:59:38
+sub-degree : tie.Need-sub-degree Inv-loop μ-loop
+sub-degree c = ?
 
-wide-requires : tie.Need-wide-requires Inv-loop μ-loop
-wide-requires c κs = search needs
+-- src/main.rt:59:38
+part-degree-start : tie.Need-part-degree-start Inv-loop μ-loop
+part-degree-start c = ?
 
+-- src/main.rt:59:38
+part-degree-end : tie.Need-part-degree-end Inv-loop μ-loop
+part-degree-end c = ?
+
+-- src/main.rt:59:13
+degree-requires : tie.Need-degree-requires Inv-loop μ-loop
+degree-requires c κs = ?
+
+-- src/main.rt:60:20
 sub-triples : tie.Need-sub-triples Inv-loop μ-loop
-sub-triples c = search needs
+sub-triples c = ?
 
+-- src/main.rt:60:9
 add-triples : tie.Need-add-triples Inv-loop μ-loop
-add-triples c = search needs
+add-triples c = ?
 
+-- src/main.rt:61:20
 mul-end : tie.Need-mul-end Inv-loop μ-loop
-mul-end c = search needs
+mul-end c = ?
 
+-- src/main.rt:61:16
 add-end : tie.Need-add-end Inv-loop μ-loop
-add-end c = search needs
+add-end c = ?
 
+-- src/main.rt:61:9
 add-end-2 : tie.Need-add-end-2 Inv-loop μ-loop
-add-end-2 c = search needs
+add-end-2 c = ?
 
+-- src/main.rt:62:9
 sub-left : tie.Need-sub-left Inv-loop μ-loop
-sub-left c = search needs
+sub-left c = ?
 
+-- src/main.rt:52:5
 loop-less : tie.Need-loop-less Inv-loop μ-loop
-loop-less c = search needs
+loop-less c = ?
 
+-- src/main.rt:52:5
 loop-again : tie.Need-loop-again Inv-loop μ-loop
-loop-again c = search needs
+loop-again c = ?
 
+-- src/main.rt:45:1
 same-length-2 : tie.Need-same-length-2 Inv-loop μ-loop
-same-length-2 c = search needs
+same-length-2 c = ?
 
+-- src/main.rt:45:1
 returns-2 : tie.Need-returns-2 Inv-loop μ-loop
-returns-2 c = search needs
+returns-2 c = ?
 
 pub read-checks-spec : {M : Type 1} → statement M
 read-checks-spec =
@@ -99,9 +129,11 @@ read-checks-spec =
     refuse-requires
     same-length
     returns
-    add-wide
-    slice-read-wide
-    wide-requires
+    add-degree
+    sub-degree
+    part-degree-start
+    part-degree-end
+    degree-requires
     sub-triples
     add-triples
     mul-end
