@@ -1,117 +1,115 @@
+-- `frames::read_checks` meets its contract: a triple takes at most nine bytes. Assumes nothing.
+use mathlib.Core.Path.{_≡_, sym, _∙_}
+use Prim.Native.Nat.{_+_, _*_, _≤_}
+use native.Mathlib.Omega.{arith}
+use borrow.Author.Needs.{needs}
+use lib.ListN.{length}
+use Rattle.stream.proofs.Refusals.{Held, held-check}
 use Rattle.frames.proofs.read_checks.Statement.{statement}
 use Rattle.frames.proofs.read_checks.Tie as tie
-use Rattle.frames.proofs.read_checks.Reads as reads
-use Rattle.frames.proofs.read_checks.Lts as lts
-use Rattle.frames.proofs.read_check.Reads as read-check-reads
-use Rattle.frames.proofs.refuse.Reads as refuse-reads
-use Rattle.records.proofs.degree.Reads as degree-reads
-use Rattle.stream.proofs.judge_check.Reads as judge-check-reads
 
 abbrev Inv-loop : tie.InvT-loop
-Inv-loop code₀ bits checks end₀ triples₀ left₀ code end triples left = ?
+Inv-loop code₀ bits checks end₀ triples₀ left₀ code end triples left =
+    (length code ≡ length code₀) × (end ≤ 6 + 9 * triples) × (triples ≤ 1024)
 
 abbrev μ-loop : tie.MeasureT-loop
-μ-loop code₀ bits checks end₀ triples₀ left₀ code end triples left = ?
+μ-loop code₀ bits checks end₀ triples₀ left₀ code end triples left = left
 
--- src/main.rt:52:5
 loop-holds : tie.Need-loop-holds Inv-loop μ-loop
-loop-holds c = ?
+loop-holds c = search needs
 
--- src/main.rt:53:13
 read-check-requires : tie.Need-read-check-requires Inv-loop μ-loop
-read-check-requires c κs = ?
+read-check-requires c κs = search needs
 
--- src/main.rt:54:52
 add-judge-check : tie.Need-add-judge-check Inv-loop μ-loop
-add-judge-check c = ?
+add-judge-check c = search needs
 
--- src/main.rt:54:41
 sub-judge-check : tie.Need-sub-judge-check Inv-loop μ-loop
-sub-judge-check c = ?
+sub-judge-check c = search needs
 
--- src/main.rt:54:41
 part-judge-check-start : tie.Need-part-judge-check-start Inv-loop μ-loop
-part-judge-check-start c = ?
+part-judge-check-start c = search needs
 
--- src/main.rt:54:41
 part-judge-check-end : tie.Need-part-judge-check-end Inv-loop μ-loop
-part-judge-check-end c = ?
+part-judge-check-end c = search needs
 
--- src/main.rt:54:13
 judge-check-requires : tie.Need-judge-check-requires Inv-loop μ-loop
-judge-check-requires c κs = ?
+judge-check-requires c κs = search needs
 
--- src/main.rt:56:13
 refuse-requires : tie.Need-refuse-requires Inv-loop μ-loop
-refuse-requires c κs = ?
+refuse-requires c κs = search needs
 
--- src/main.rt:57:13
 same-length : tie.Need-same-length Inv-loop μ-loop
-same-length c = ?
+same-length c = search needs
 
--- src/main.rt:57:13
 returns : tie.Need-returns Inv-loop μ-loop
-returns c = ?
+returns c = search needs
 
--- src/main.rt:59:49
 add-degree : tie.Need-add-degree Inv-loop μ-loop
-add-degree c = ?
+add-degree c = search needs
 
--- src/main.rt:59:38
 sub-degree : tie.Need-sub-degree Inv-loop μ-loop
-sub-degree c = ?
+sub-degree c = search needs
 
--- src/main.rt:59:38
 part-degree-start : tie.Need-part-degree-start Inv-loop μ-loop
-part-degree-start c = ?
+part-degree-start c = search needs
 
--- src/main.rt:59:38
 part-degree-end : tie.Need-part-degree-end Inv-loop μ-loop
-part-degree-end c = ?
+part-degree-end c = search needs
 
--- src/main.rt:59:13
 degree-requires : tie.Need-degree-requires Inv-loop μ-loop
-degree-requires c κs = ?
+degree-requires c κs =
+    let e = c .before .before in
+    let h = held-check _ _ _ (sym (e .before .judge-check .ensures) ∙ e .if1 .left) in
+    h .room
 
--- src/main.rt:60:20
 sub-triples : tie.Need-sub-triples Inv-loop μ-loop
-sub-triples c = ?
+sub-triples c =
+    let e = c .before .before .before in
+    let h = held-check _ _ _ (sym (e .before .judge-check .ensures) ∙ e .if1 .left) in
+    omega (arith, h .least, h .triples, c .degree .ensures)
 
--- src/main.rt:60:9
 add-triples : tie.Need-add-triples Inv-loop μ-loop
-add-triples c = ?
+add-triples c =
+    let e = c .before .before .before in
+    let h = held-check _ _ _ (sym (e .before .judge-check .ensures) ∙ e .if1 .left) in
+    omega (arith, h .least, h .triples, c .degree .ensures)
 
--- src/main.rt:61:20
 mul-end : tie.Need-mul-end Inv-loop μ-loop
-mul-end c = ?
+mul-end c =
+    let e = c .before .before .before in
+    let h = held-check _ _ _ (sym (e .before .judge-check .ensures) ∙ e .if1 .left) in
+    omega (arith, h .least, h .triples, c .degree .ensures)
 
--- src/main.rt:61:16
 add-end : tie.Need-add-end Inv-loop μ-loop
-add-end c = ?
+add-end c =
+    let e = c .before .before .before in
+    let h = held-check _ _ _ (sym (e .before .judge-check .ensures) ∙ e .if1 .left) in
+    omega (arith, h .least, h .triples, c .degree .ensures)
 
--- src/main.rt:61:9
 add-end-2 : tie.Need-add-end-2 Inv-loop μ-loop
-add-end-2 c = ?
+add-end-2 c =
+    let e = c .before .before .before in
+    let h = held-check _ _ _ (sym (e .before .judge-check .ensures) ∙ e .if1 .left) in
+    omega (arith, h .least, h .triples, c .degree .ensures)
 
--- src/main.rt:62:9
 sub-left : tie.Need-sub-left Inv-loop μ-loop
-sub-left c = ?
+sub-left c = search needs
 
--- src/main.rt:52:5
 loop-less : tie.Need-loop-less Inv-loop μ-loop
-loop-less c = ?
+loop-less c = search needs
 
--- src/main.rt:52:5
 loop-again : tie.Need-loop-again Inv-loop μ-loop
-loop-again c = ?
+loop-again c =
+    let e = c .before .before .before in
+    let h = held-check _ _ _ (sym (e .before .judge-check .ensures) ∙ e .if1 .left) in
+    (search needs, omega (arith, h .least, h .triples, c .degree .ensures), omega (arith, h .least, h .triples, c .degree .ensures))
 
--- src/main.rt:45:1
 same-length-2 : tie.Need-same-length-2 Inv-loop μ-loop
-same-length-2 c = ?
+same-length-2 c = search needs
 
--- src/main.rt:45:1
 returns-2 : tie.Need-returns-2 Inv-loop μ-loop
-returns-2 c = ?
+returns-2 c = search needs
 
 pub read-checks-spec : {M : Type 1} → statement M
 read-checks-spec =
