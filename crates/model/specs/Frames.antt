@@ -1,5 +1,5 @@
 -- Document 01, 'The frame program': what it writes for a whole input. Definitions only.
-use mathlib.Core.Bool.{Bool, not, cond}
+use mathlib.Core.Bool.{not, cond}
 use mathlib.Core.List.{List, [], _∷_, _++_, map}
 use Prim.Native.Nat.{ℕ, zero, suc, _+_, _-_, _*_, _/_, _%_}
 use lib.Dec.{ltb, eqb}
@@ -13,7 +13,7 @@ use Rattle.model.specs.Code.{Code, tripleCount}
 use Rattle.model.specs.Records.{twoBytes, numbers, bitCount, checkCount, indices, afterCheck, afterChecks, codeOf, judgeHeader, judgeCheck, covered}
 use Rattle.model.specs.Splitting.{systemOf}
 use Rattle.model.specs.Run.{mostIterations, run}
-use Rattle.model.specs.Calls.{forbidden, Lists, Answer, Decoded, decodedBy}
+use Rattle.model.specs.Calls.{forbidden, Lists, Answer, decodedBy}
 
 -- ---- code records: "It holds 1,024 triples and 512 bits: a sound header with more bits, or the sound check that brings more triples,
 -- gets R 10 right there."

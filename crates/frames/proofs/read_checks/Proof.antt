@@ -4,7 +4,7 @@ use Prim.Native.Nat.{_+_, _*_, _≤_}
 use native.Mathlib.Omega.{arith}
 use borrow.Author.Needs.{needs}
 use lib.ListN.{length}
-use Rattle.stream.proofs.Refusals.{Held, held-check}
+use Rattle.stream.proofs.Refusals.{held-check}
 use Rattle.frames.proofs.read_checks.Statement.{statement}
 use Rattle.frames.proofs.read_checks.Tie as tie
 

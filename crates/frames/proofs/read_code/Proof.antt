@@ -1,6 +1,5 @@
 -- `frames::read_code` meets its contract: what the header says is within the program's limits. Assumes nothing.
-use mathlib.Core.Path.{_≡_, sym, _∙_}
-use Prim.Native.Nat.{_≤_}
+use mathlib.Core.Path.{sym, _∙_}
 use native.Mathlib.Omega.{arith}
 use lib.ListN.{length-take}
 use Rattle.stream.proofs.Refusals.{held-header}

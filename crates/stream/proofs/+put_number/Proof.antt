@@ -1,12 +1,10 @@
 -- The proof of the cycle of calls {put_number}: the digits before the last, then the last. The measure is the number. Assumes nothing.
-use mathlib.Core.Path.{_≡_, ap}
-use mathlib.Core.List.{[], _∷_}
-use Prim.Native.Nat.{_+_, _/_, _%_, _≤_}
+use mathlib.Core.Path.{ap}
+use Prim.Native.Nat.{_/_}
 use native.Mathlib.Nat.{div-lt-self}
 use native.Mathlib.Omega.{arith}
 use borrow.Author.Needs.{needs}
 use lib.ListN.{length}
-use Rattle.model.specs.Frames.{decimal}
 use Rattle.stream.proofs.Decimals.{decimal-one, decimal-more, decimal-longer}
 use Rattle.stream.proofs.Text.{long, then}
 use Prim.Native.Nat.{ℕ, _<_}
@@ -142,7 +140,6 @@ put-number-returns-2 t c =
     let n = d .before .before .before in
     let i = n .before .before in
     let s = i .before .before in
-    let more = decimal-longer (s .args .x) (i .if1 .left) in
     rw (decimal-more (s .args .x) (i .if1 .left), ← d .digit2 .ensures) (then (n .put-number .ensures) (p .put2 .ensures))
 
 pub +put-number-spec : {M : Type 1} → statement M

@@ -1,6 +1,5 @@
 -- `stream::begin` meets its contract: a letter and two fields. Assumes nothing.
 use mathlib.Core.List.{[], _∷_, _++_, append-assoc}
-use Prim.Native.Nat.{_≤_}
 use native.Mathlib.Omega.{arith}
 use borrow.Author.Needs.{needs}
 use Rattle.model.specs.Frames.{decimal, opening}

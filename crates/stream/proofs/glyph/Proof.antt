@@ -1,5 +1,5 @@
 -- `stream::glyph` meets its contract: the definition's own test. Assumes nothing.
-use borrow.Author.Tests.{eq-eqb, ne-eqb}
+use borrow.Author.Tests.{ne-eqb}
 use Rattle.stream.proofs.glyph.Statement.{statement}
 use Rattle.stream.proofs.glyph.Tie as tie
 

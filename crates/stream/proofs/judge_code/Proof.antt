@@ -1,5 +1,5 @@
 -- `stream::judge_code` meets its contract: the reader's number. Assumes nothing.
-use mathlib.Core.Path.{_≡_, sym, ap, _∙_}
+use mathlib.Core.Path.{sym, ap, _∙_}
 use borrow.Author.Needs.{needs}
 use Rattle.model.specs.Calls.{readingTold}
 use Rattle.records.proofs.Answers.{told-code, told-refused}

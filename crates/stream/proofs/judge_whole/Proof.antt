@@ -1,6 +1,5 @@
 -- `stream::judge_whole` meets its contract: the tests in the definition's order. Assumes nothing.
 use mathlib.Core.Path.{_≡_, sym, _∙_}
-use Prim.Native.Nat.{_≤_, _<_}
 use borrow.Author.Needs.{needs}
 use borrow.Author.Tests.{lt-ltb, le-ltb, ne-eqb}
 use Rattle.model.specs.Records.{twoBytes}

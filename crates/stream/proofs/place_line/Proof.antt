@@ -1,5 +1,4 @@
 -- `stream::place_line` meets its contract: the opening, then the place. Assumes nothing.
-use native.Mathlib.Omega.{arith}
 use borrow.Author.Needs.{needs}
 use Rattle.stream.proofs.Text.{then}
 use Rattle.stream.proofs.place_line.Statement.{statement}

@@ -1,11 +1,11 @@
 -- `stream::put_bits` meets its contract: after i turns the first i bits are written. Assumes nothing.
-use mathlib.Core.Path.{_≡_, refl, sym, ap, _∙_}
+use mathlib.Core.Path.{_≡_, _∙_}
 use mathlib.Core.List.{[], _∷_, _++_, map, map-append}
 use Prim.Native.Nat.{_+_, _-_, _≤_}
 use native.Mathlib.Numerals.{add-one}
 use native.Mathlib.Omega.{arith}
 use borrow.Author.Needs.{needs}
-use lib.ListN.{length, take, getD, length-map, length-take}
+use lib.ListN.{length, take, getD, length-map}
 use lib.Seq.{take-suc, take-all, length-take-le}
 use Rattle.model.specs.Frames.{glyph}
 use Rattle.stream.specs.Text.{Appended}

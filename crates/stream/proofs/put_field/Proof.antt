@@ -1,5 +1,5 @@
 -- `stream::put_field` meets its contract: the digits, then the byte. Assumes nothing.
-use Prim.Native.Nat.{_+_, _^_, _≤_, _<_}
+use Prim.Native.Nat.{_≤_}
 use native.Mathlib.Omega.{arith}
 use borrow.Author.Needs.{needs}
 use lib.ListN.{length}

@@ -1,5 +1,4 @@
 -- `stream::put_letter` meets its contract: two pieces. Assumes nothing.
-use Prim.Native.Nat.{_≤_}
 use native.Mathlib.Omega.{arith}
 use borrow.Author.Needs.{needs}
 use Rattle.stream.proofs.Text.{then}

@@ -3,14 +3,12 @@ use mathlib.Core.Path.{_≡_, refl, sym, ap, _∙_}
 use mathlib.Core.Bool.{Bool}
 use mathlib.Core.List.{List}
 use Prim.Native.Nat.{ℕ, zero, suc}
-use native.Mathlib.Omega.{arith}
 use lib.IntN.{ℤ}
 use lib.ListN.{length, take}
-use Rattle.lists.specs.Tabulated.{written}
 use Rattle.lists.specs.Entries.{some}
 use Rattle.model.specs.Causes.{_if_, accepted}
 use Rattle.model.specs.Calls.{forbidden}
-use Rattle.model.specs.Frames.{costsOf, judgeWhole, judgeFrame}
+use Rattle.model.specs.Frames.{judgeWhole, judgeFrame}
 use Rattle.stream.proofs.Costs.{whole-refused, whole, frame-judged, length-costs, take-costs}
 use borrow.Author.Needs.{needs}
 use Rattle.stream.proofs.read_frame.Statement.{statement}

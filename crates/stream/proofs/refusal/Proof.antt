@@ -1,5 +1,4 @@
 -- `stream::refusal` meets its contract: the letter, then the number. Assumes nothing.
-use native.Mathlib.Omega.{arith}
 use borrow.Author.Needs.{needs}
 use Rattle.model.specs.Frames.{refusal}
 use Rattle.stream.proofs.Text.{then}

@@ -1,13 +1,13 @@
 -- `stream::twos_complement` meets its contract: both parts fit. Assumes nothing.
-use mathlib.Core.Path.{_≡_, sym, ap, _∙_}
+use mathlib.Core.Path.{_≡_}
 use Prim.Native.Nat.{ℕ, _-_, _≤_}
 use native.Mathlib.Omega.{arith}
 use borrow.Author.Needs.{needs}
 use borrow.Author.Tests.{lt-ltb, le-ltb}
-use lib.IntN.{ℤ, pos, negsuc, _-ℤ_}
+use lib.IntN.{negsuc, _-ℤ_}
 use mir.Facts.{toZ-ofZ}
 use mir.Syntax.{w16}
-use mir.Val.{SFits, toZ, ofZ}
+use mir.Val.{SFits, toZ}
 use Rattle.integers.proofs.Machine.{unsigned}
 use Rattle.model.specs.Frames.{twosComplement}
 use Rattle.stream.proofs.Costs.{minus-one}
