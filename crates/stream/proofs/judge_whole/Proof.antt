@@ -2,8 +2,9 @@
 use mathlib.Core.Path.{_≡_, sym, _∙_}
 use borrow.Author.Needs.{needs}
 use borrow.Author.Tests.{lt-ltb, le-ltb, ne-eqb}
+use lib.ListN.{length}
 use Rattle.model.specs.Records.{twoBytes}
-use Rattle.model.specs.Frames.{judgeWhole}
+use Rattle.model.specs.Frames.{frameSize, judgeWhole}
 use Rattle.stream.proofs.judge_whole.Statement.{statement}
 use Rattle.stream.proofs.judge_whole.Tie as tie
 
@@ -29,11 +30,15 @@ mark c = sym (c .before .two-bytes .ensures .0) ∙ c .if2 .left
 
 returns-3 : tie.Need-returns-3
 unfolding judgeWhole
-returns-3 c = rw (le-ltb _ 2 (c .before .before .before .if1 .left), mark (c .before), lt-ltb _ _ (c .if3 .taken))
+returns-3 c =
+    let a = c .before .before .before .before .before .args in
+    rw (le-ltb _ 2 (c .before .before .before .if1 .left), mark (c .before), lt-ltb (length (a .s .now)) (frameSize (a .bits)) (c .if3 .taken))
 
 returns-4 : tie.Need-returns-4
 unfolding judgeWhole
-returns-4 c = rw (le-ltb _ 2 (c .before .before .before .if1 .left), mark (c .before), le-ltb _ _ (c .if3 .left))
+returns-4 c =
+    let a = c .before .before .before .before .before .args in
+    rw (le-ltb _ 2 (c .before .before .before .if1 .left), mark (c .before), le-ltb (length (a .s .now)) (frameSize (a .bits)) (c .if3 .left))
 
 pub judge-whole-spec : {M : Type 1} → statement M
 judge-whole-spec =
