@@ -2,7 +2,6 @@
 ghost use mathlib.Core.Path.{_≡_};
 ghost use Rattle.model.specs.declared.Settings.{Settings};
 ghost use Rattle.model.specs.Calls.{readingTold, reader, splitter, verdictTold, codewordTest, Extended, extension, Lists, decodingTold, decoder, channelFront, reflector};
-ghost use Rattle.triples.specs.Splits.{Splits};
 ghost use Rattle.c_api.specs.Answers.{codeAnswer, wordAnswer, decodeAnswer};
 use model::Channel;
 use model::Decoding;
@@ -116,7 +115,7 @@ pub extern "C" fn widagbe_read(code: &[u8]) -> CodeAnswer
 
 #[no_mangle]
 pub extern "C" fn widagbe_split(code: &[u8], triples: &mut [u16], counts: &mut [u16]) -> u32
-    ensures { λ r. ⌜ Splits (splitter (now (code .entry)) (now (triples .entry)) (now (counts .entry))) r (now (triples .exit)) (now (counts .exit)) ⌝ }
+    ensures { λ r. ⌜ record { number = r; triples = now (triples .exit); counts = now (counts .exit) } ≡ splitter (now (code .entry)) (now (triples .entry)) (now (counts .entry)) ⌝ }
 {
     triples::split(code, triples, counts)
 }

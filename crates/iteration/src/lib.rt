@@ -85,7 +85,7 @@ fn give(triples: &[u16], rows: &[i32], t: usize, sums: &mut [i64])
 }
 
 // "S is the sum over its rows of z + p", for every variable.
-pub fn gather(triples: &[u16], rows: &[i32], count: usize, sums: &mut [i64])
+fn gather(triples: &[u16], rows: &[i32], count: usize, sums: &mut [i64])
     requires { ⌜ (count ≤ 8192) × (3 * count ≡ length (now triples)) × (4 * count ≡ length (now rows)) ⌝ }
     requires { ⌜ ((i : ℕ) → i < length (now triples) → getD (now triples) i 0 < length (now sums)) ⌝ }
     requires { ⌜ RowsWithin 3999 (now rows) ⌝ }
@@ -120,7 +120,7 @@ fn cost_of(costs: &[i16], v: usize) -> i16
 }
 
 // "First every c is renewed"
-pub fn renew_values(
+fn renew_values(
     sums: &[i64],
     counts: &[u16],
     costs: &[i16],
@@ -252,7 +252,7 @@ fn settles(multipliers: u64, slacks: u64, tolerance: u64) -> u32
 }
 
 // "Then each row"; and whether "neither total exceeds X".
-pub fn renew_rows(
+fn renew_rows(
     triples: &[u16],
     values: &[i16],
     rows: &mut [i32],

@@ -16,7 +16,7 @@ use Rattle.lists.specs.Tabulated.{written}
 use Rattle.lists.proofs.Tabulated.{length-tab, written-in}
 use Rattle.quotient.specs.Quotient.{quotient}
 use Rattle.model.specs.Iteration.{at, slack, multiplier, sumOf, renewedAt, State, sumsOf, rowsOf, valueOf, valuesOf, iterate}
-use Rattle.model.specs.Calls.{wild, unequal, forbidden, Lists, Decoded, noRoom, decoderCause, decodedBy, decoder}
+use Rattle.model.specs.Calls.{wild, unequal, forbidden, Lists, Decoded, noRoom, decoderCauses, decoderCause, decodedBy, decoder}
 use Rattle.model.specs.Reflection.{turned, reflect, sumOfWords}
 use Rattle.model.specs.Claims.{ReflectedRun}
 use Rattle.model.specs.Causes.{_if_, firstOf, short, outside}
@@ -25,7 +25,7 @@ use Rattle.model.specs.Words.{entry, bitOf, wordOf, firstUndecided, firs
 use Rattle.model.specs.Records.{twoBytes, bitCount, checkCount, degree, afterCheck, afterChecks, codeOf, judgeHeader, judgeIndices, judgeCheck, judgeChecks, covered, judge}
 use Rattle.model.specs.Points.{Codeword, pointOf}
 use Rattle.model.specs.Code.{Code, triples, variables}
-use Rattle.model.specs.Entry.{causesOf, Refused, Ran, Course, Iterated, ReflectedCalls, EveryCall}
+use Rattle.model.specs.Entry.{Refused, Ran, Course, Iterated, ReflectedCalls, EveryCall}
 use Rattle.model.specs.Splitting.{System, systemOf}
 use Rattle.model.proofs.Runs.{stops, goes-on}
 use Rattle.model.proofs.Causes.{Clear, clear, unless}
@@ -127,7 +127,7 @@ module _ (b : List ℕ) (o : Settings) (costs : List ℤ) (l : Lists) where
   abbrev e : Ended
   e = run quotient g o costs
 
-  cause-is : decoderCause b o costs l ≡ firstOf (causesOf b o costs l)
+  cause-is : decoderCause b o costs l ≡ firstOf (decoderCauses b o costs l)
   unfolding decoderCause
   cause-is = refl
 
@@ -147,7 +147,7 @@ module _ (b : List ℕ) (o : Settings) (costs : List ℤ) (l : Lists) where
 
   pub refused : (c : ℕ) → decoderCause b o costs l ≡ suc c → Refused b o costs l (decoder b o costs l)
   refused c h =
-      let f = first-of (causesOf b o costs l) c (sym cause-is ∙ h) in
+      let f = first-of (decoderCauses b o costs l) c (sym cause-is ∙ h) in
       subst (Refused b o costs l) (sym (refusal c h))
       (record { place = f .place; cause = f .here; earlier = f .earlier; number = (omega arith, omega (arith, cause-most)); untouched = refl })
 
@@ -170,7 +170,7 @@ module _ (b : List ℕ) (o : Settings) (costs : List ℤ) (l : Lists) where
 
     pub ran : Ran b o costs l (decoder b o costs l)
     unfolding decodedBy
-    ran = subst (Ran b o costs l) (sym ran-is) (record { sound = none-of (causesOf b o costs l) (sym cause-is ∙ h); answer = (refl, refl); number = numbers (e .last .values) })
+    ran = subst (Ran b o costs l) (sym ran-is) (record { sound = none-of (decoderCauses b o costs l) (sym cause-is ∙ h); answer = (refl, refl); number = numbers (e .last .values) })
 
 -- ---- the iterates
 module _ (g : System) (o : Settings) (costs : List ℤ) where
@@ -302,8 +302,8 @@ module _ (b w : List ℕ) (o : Settings) (costs : List ℤ) (l m : Lists) (h : d
   abbrev end′ : Ended
   end′ = run quotient sys o (reflect w costs)
 
-  none : Clear (causesOf b o costs l)
-  none = clear (causesOf b o costs l) (sym (cause-is b o costs l) ∙ h)
+  none : Clear (decoderCauses b o costs l)
+  none = clear (decoderCauses b o costs l) (sym (cause-is b o costs l) ∙ h)
 
   fits : length costs ≡ code .bits
   fits = eqb-true (length costs) (code .bits) (not-false (eqb (length costs) (code .bits)) (unless 11 (unequal costs (code .bits)) (none .1 .1 .0)))

@@ -135,10 +135,13 @@ noRoom k l =
     short (3 * triples k) (l .triples) || (short (variables k) (l .counts) || (short (variables k) (l .sums)
     || (short (variables k) (l .values) || (short (4 * triples k) (l .rows) || short (k .bits) (l .word)))))
 
+-- the causes of a call, in their order
+abbrev pub decoderCauses : List ℕ → Settings → List ℤ → Lists → List ℕ
+decoderCauses b o costs l =
+    judge b ∷ 11 if wild o ∷ 12 if unequal costs (codeOf b .bits) ∷ 13 if some forbidden costs ∷ 10 if noRoom (codeOf b) l ∷ []
+
 unfoldable pub decoderCause : List ℕ → Settings → List ℤ → Lists → ℕ
-decoderCause b o costs l =
-    let k = codeOf b in
-    firstOf (judge b ∷ 11 if wild o ∷ 12 if unequal costs (k .bits) ∷ 13 if some forbidden costs ∷ 10 if noRoom k l ∷ [])
+decoderCause b o costs l = firstOf (decoderCauses b o costs l)
 
 -- what a run that ended with e leaves: "All three carry k and whether settled", and the word is written with the number 0
 unfoldable pub decodedBy : Code → Ended → Lists → Decoded

@@ -1,43 +1,36 @@
 -- What the decoder's contract says of every call, in the words of the demands. Statements only; the proofs are in proofs/Entry.antt.
-use mathlib.Core.List.{List, [], _∷_}
+use mathlib.Core.List.{List}
 use mathlib.Core.Logic.{_⊎_}
 use mathlib.Core.Path.{_≡_}
 use Prim.Native.Nat.{ℕ, suc, _+_, _≤_, _<_}
 use lib.IntN.{ℤ}
 use lib.ListN.{getD, take}
-use Rattle.lists.specs.Entries.{some}
 use Rattle.lists.specs.Tabulated.{written}
 use Rattle.quotient.specs.Quotient.{quotient}
 use Rattle.model.specs.Iteration.{at, row, State}
-use Rattle.model.specs.Calls.{wild, unequal, forbidden, Lists, Decoded, noRoom, decoderCause, decoder}
+use Rattle.model.specs.Calls.{Lists, Decoded, decoderCauses, decoderCause, decoder}
 use Rattle.model.specs.Reflection.{turned, reflect, sumOfWords, Opposite}
-use Rattle.model.specs.Causes.{_if_}
 use Rattle.model.specs.Run.{settledBy, start, Ended, after, run}
 use Rattle.model.specs.Words.{entry, outcome}
-use Rattle.model.specs.Records.{codeOf, judge}
+use Rattle.model.specs.Records.{codeOf}
 use Rattle.model.specs.Points.{Codeword, pointOf}
 use Rattle.model.specs.Code.{triples, variables}
 use Rattle.model.specs.Splitting.{System, systemOf}
 use Rattle.model.specs.declared.Settings.{Settings}
 
 -- ---- demand 1: "Every call ends with a number of the table; each number's cause holds and no earlier one does"
--- the causes of a call, in their order
-abbrev pub causesOf : List ℕ → Settings → List ℤ → Lists → List ℕ
-causesOf b o costs l =
-    judge b ∷ 11 if wild o ∷ 12 if unequal costs (codeOf b .bits) ∷ 13 if some forbidden costs ∷ 10 if noRoom (codeOf b) l ∷ []
-
 pub record Refused (b : List ℕ) (o : Settings) (costs : List ℤ) (l : Lists) (d : Decoded) : Type 0 where
   -- the place of its cause in the list, and that no cause before it holds
   pub place : ℕ
-  pub cause : getD (causesOf b o costs l) place 0 ≡ d .answer .number
-  pub earlier : (i : ℕ) → i < place → getD (causesOf b o costs l) i 0 ≡ 0
+  pub cause : getD (decoderCauses b o costs l) place 0 ≡ d .answer .number
+  pub earlier : (i : ℕ) → i < place → getD (decoderCauses b o costs l) i 0 ≡ 0
   pub number : (1 ≤ d .answer .number) × (d .answer .number ≤ 13)
   -- "a refused call leaves every list"
   pub untouched : d .lists ≡ l
 
 -- a call that is not refused: none of the causes holds, and the number says what the last values are
 pub record Ran (b : List ℕ) (o : Settings) (costs : List ℤ) (l : Lists) (d : Decoded) : Type 0 where
-  pub sound : (i : ℕ) → getD (causesOf b o costs l) i 0 ≡ 0
+  pub sound : (i : ℕ) → getD (decoderCauses b o costs l) i 0 ≡ 0
   pub answer : (d .answer .number ≡ outcome (codeOf b) (run quotient (systemOf (codeOf b)) o costs .last .values) .number)
       × (d .answer .place ≡ outcome (codeOf b) (run quotient (systemOf (codeOf b)) o costs .last .values) .place)
   pub number : (d .answer .number ≡ 0) ⊎ ((d .answer .number ≡ 16) ⊎ (d .answer .number ≡ 17))

@@ -14,7 +14,7 @@ use Rattle.lists.specs.Tabulated.{over}
 use Rattle.lists.proofs.Tabulated.{over-in, over-set}
 use Rattle.model.specs.Causes.{_if_}
 use Rattle.model.specs.Iteration.{occurrences}
-use Rattle.triples.specs.Splits.{counted}
+use Rattle.triples.specs.Counting.{counted}
 
 pub count-next : (n : ℕ) (f : ℕ → ℕ) (old : List ℕ) (v : ℕ) → v < n → counted (over n f old) v ≡ over n (λ u. f u + 1 if eqb v u) old
 count-next n f old v h =

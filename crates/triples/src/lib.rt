@@ -8,9 +8,9 @@ ghost use Rattle.model.specs.Records.{degree, indices, codeOf, judge};
 ghost use Rattle.model.specs.Sound.{SoundCheck};
 ghost use Rattle.model.specs.Splitting.{queue, systemOf};
 ghost use Rattle.model.specs.TripleRule.{items};
-ghost use Rattle.model.specs.Iteration.{occurrences};
+ghost use Rattle.model.specs.Iteration.{occurrences, countsOf};
 ghost use Rattle.model.specs.Calls.{splitter};
-ghost use Rattle.triples.specs.Splits.{counted, Written, Splits};
+ghost use Rattle.triples.specs.Counting.{counted};
 use model::Reading;
 
 // Item i of the queue of the check record that `s` begins with: its bits, then the auxiliaries from `next` on.
@@ -128,7 +128,8 @@ pub fn write_system(
     requires { ⌜ judge (now code) ≡ 0 ⌝ }
     requires { ⌜ (total ≡ systemOf (codeOf (now code)) .triples) × (variables ≡ systemOf (codeOf (now code)) .variables) ⌝ }
     requires { ⌜ (3 * total ≤ length (now triples)) × (variables ≤ length (now counts)) ⌝ }
-    ensures { λ _. ⌜ Written (now (code .entry)) (now (triples .entry)) (now (counts .entry)) (now (triples .exit)) (now (counts .exit)) ⌝ }
+    ensures { λ _. ⌜ now (triples .exit) ≡ written (systemOf (codeOf (now (code .entry))) .members) (now (triples .entry)) ⌝ }
+    ensures { λ _. ⌜ now (counts .exit) ≡ written (countsOf (systemOf (codeOf (now (code .entry))))) (now (counts .entry)) ⌝ }
 {
     write_triples(code, triples);
     write_counts(triples, total, variables, counts);
@@ -136,7 +137,7 @@ pub fn write_system(
 
 // The splitting of any code into lent lists: 0, or the first cause.
 pub fn split(code: &[u8], triples: &mut [u16], counts: &mut [u16]) -> u32
-    ensures { λ r. ⌜ Splits (splitter (now (code .entry)) (now (triples .entry)) (now (counts .entry))) r (now (triples .exit)) (now (counts .exit)) ⌝ }
+    ensures { λ r. ⌜ record { number = r; triples = now (triples .exit); counts = now (counts .exit) } ≡ splitter (now (code .entry)) (now (triples .entry)) (now (counts .entry)) ⌝ }
 {
     let reading = records::read(code);
     match reading {

@@ -51,7 +51,7 @@ module _ (w : tie.After-write-system) where
 
   ts-is : ts ≡ systemOf k .members
   ts-is =
-      ap (take (3 * s .args .total)) (w .write-system .ensures .members)
+      ap (take (3 * s .args .total)) (w .write-system .ensures .0)
       ∙ take-at (systemOf k .members) (drop (length (systemOf k .members)) (s .args .triples .now)) (3 * s .args .total) (members-long k sound ∙ ap (λ (t : ℕ). 3 * t) (sym (s .pre .0 .1)))
 
   length-counts : length (countsOf (systemOf k)) ≡ s .args .variables
@@ -60,7 +60,7 @@ module _ (w : tie.After-write-system) where
 
   cs-is : cs ≡ countsOf (systemOf k)
   cs-is =
-      ap (take (s .args .variables)) (w .write-system .ensures .occurring)
+      ap (take (s .args .variables)) (w .write-system .ensures .1)
       ∙ take-at (countsOf (systemOf k)) (drop (length (countsOf (systemOf k))) (s .args .counts .now)) (s .args .variables) length-counts
 
   n-is : n ≡ s .args .variables
@@ -162,7 +162,7 @@ returns c =
     let a = s w .args in
     let e : record { k = r .result .k; settled = r .result .settled; last = record { sums = r .last .1 .1 .1 .1 .1 .0; values = r .last .1 .1 .1 .1 .1 .1 .0; rows = r .last .1 .1 .1 .1 .1 .1 .1 .0 } } ≡ run quotient (systemOf (k w)) (a .settings) (a .costs .now)
     = r .ensures ∙ ap (λ (h : System). run quotient h (a .settings) (a .costs .now)) (system-is w) in (
-      (w .write-system .ensures .members, w .write-system .ensures .occurring),
+      (w .write-system .ensures .0, w .write-system .ensures .1),
       (
         ap (λ (x : Ended). x .k) e,
         ap (λ (x : Ended). x .settled) e,

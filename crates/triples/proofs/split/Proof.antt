@@ -1,5 +1,5 @@
 -- `triples::split` meets its contract: the causes in their order, and the lists of an accepted code. Assumes nothing.
-use mathlib.Core.Path.{_≡_, refl, sym, ap, _∙_}
+use mathlib.Core.Path.{_≡_, sym, ap, ap₂, _∙_}
 use mathlib.Core.Bool.{true, false, _||_}
 use mathlib.Core.List.{List}
 use Prim.Native.Nat.{ℕ, zero, suc, _*_, _<_}
@@ -11,27 +11,32 @@ use Rattle.model.specs.Causes.{short}
 use Rattle.model.specs.Code.{triples, variables}
 use Rattle.model.specs.Records.{codeOf, judge}
 use Rattle.model.specs.Splitting.{systemOf}
-use Rattle.model.specs.Calls.{readingTold, splitter}
+use Rattle.lists.specs.Tabulated.{written}
+use Rattle.model.specs.Iteration.{countsOf}
+use Rattle.model.specs.Calls.{readingTold, Split, splitter}
 use Rattle.records.proofs.Answers.{Read, told-code, told-refused}
-use Rattle.triples.specs.Splits.{Written, Splits}
 use Rattle.triples.proofs.split.Statement.{statement}
 use Rattle.triples.proofs.split.Tie as tie
 
 -- ---- the definition, by the causes in their order
+abbrev split : ℕ → List ℕ → List ℕ → Split
+split number ts cs = record { number = number; triples = ts; counts = cs }
+
 module _ (b ts cs : List ℕ) where
-  refused : (c : ℕ) → judge b ≡ c → 0 < c → Splits (splitter b ts cs) c ts cs
+  refused : (c : ℕ) → judge b ≡ c → 0 < c → split c ts cs ≡ splitter b ts cs
   unfolding splitter
   refused zero e h = absurd (omega arith)
-  refused (suc c) e h = rw e (record { answer = refl; triples-after = refl; counts-after = refl })
+  refused (suc c) e h = rw e
 
   module _ (judged : judge b ≡ 0) where
-    no-room : (short (3 * triples (codeOf b)) ts || short (variables (codeOf b)) cs) ≡ true → Splits (splitter b ts cs) 10 ts cs
+    no-room : (short (3 * triples (codeOf b)) ts || short (variables (codeOf b)) cs) ≡ true → split 10 ts cs ≡ splitter b ts cs
     unfolding splitter
-    no-room e = rw (judged, e) (record { answer = refl; triples-after = refl; counts-after = refl })
+    no-room e = rw (judged, e)
 
-    room : (l k : List ℕ) → (short (3 * triples (codeOf b)) ts || short (variables (codeOf b)) cs) ≡ false → Written b ts cs l k → Splits (splitter b ts cs) 0 l k
+    room : (l k : List ℕ) → (short (3 * triples (codeOf b)) ts || short (variables (codeOf b)) cs) ≡ false → l ≡ written (systemOf (codeOf b) .members) ts
+        → k ≡ written (countsOf (systemOf (codeOf b))) cs → split 0 l k ≡ splitter b ts cs
     unfolding splitter
-    room l k e w = rw (judged, e) (record { answer = refl; triples-after = w .members; counts-after = w .occurring })
+    room l k e p q = rw (judged, e) (ap₂ (split 0) p q)
 
 read-requires : tie.Need-read-requires
 read-requires c κs = search needs
@@ -108,7 +113,7 @@ returns-4 c =
       le-ltb (length (a .triples .now)) (3 * triples (codeOf (a .code .now))) (omega (arith, r .triples, e .before .if1 .left)),
       le-ltb (length (a .counts .now)) (variables (codeOf (a .code .now))) (omega (arith, r .variables, e .if2 .left)),
     ))
-    (w .write-system .ensures)
+    (w .write-system .ensures .0) (w .write-system .ensures .1)
 
 pub split-spec : {M : Type 1} → statement M
 split-spec =

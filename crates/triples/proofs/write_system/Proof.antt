@@ -51,11 +51,10 @@ returns : tie.Need-returns
 returns c =
     let k = c .before .before in
     let w = k .before .before .before .before .before in
-    let s = w .before .before .before .before .before in
-    record {
-      members = w .write-triples .ensures;
-      occurring = k .write-counts .ensures ∙ rw (w .write-triples .ensures) (counts-are (codeOf (s .args .code .now)) _ _ _ _ (sound s) (total-is s) (variables-are s));
-    }
+    let s = w .before .before .before .before .before in (
+      w .write-triples .ensures,
+      k .write-counts .ensures ∙ rw (w .write-triples .ensures) (counts-are (codeOf (s .args .code .now)) _ _ _ _ (sound s) (total-is s) (variables-are s)),
+    )
 
 pub write-system-spec : {M : Type 1} → statement M
 write-system-spec =
