@@ -14,7 +14,8 @@ ghost use Rattle.lists.specs.Tabulated.{tab, over};
 ghost use Rattle.quotient.specs.Quotient.{quotient};
 ghost use Rattle.model.specs.Causes.{_if_};
 ghost use Rattle.model.specs.Splitting.{System, member};
-ghost use Rattle.model.specs.Iteration.{at, row, sumAt, slack, multiplier, share, _when_, sumOf, numerator, divisor, renewed, renewedAt, State, countsOf};
+ghost use Rattle.iteration.specs.Inverses.{inversesOf};
+ghost use Rattle.model.specs.Iteration.{at, row, sumAt, slack, multiplier, share, _when_, sumOf, renewed, renewedAt, State, countsOf};
 ghost use Rattle.model.specs.Iteration as Iteration;
 ghost use Rattle.model.specs.Run.{changes, settledBy};
 ghost use Rattle.model.specs.Bounds.{RowsWithin, Ready};
@@ -58,13 +59,12 @@ fn clear(sums: &mut [i64])
     }
 }
 
-// The variable v is given what the four rows s hold for position p.
-fn add(sums: &mut [i64], v: usize, s: [i32; 4], p: usize)
-    requires { ⌜ (p < 3) × (v < length (now sums)) × (natAbs (at (now sums) v) ≤ 2 ^ 60) ⌝ }
-    requires { ⌜ ((r : ℕ) → natAbs (at s r) ≤ 131072000) ⌝ }
-    ensures { λ _. ⌜ now (sums .exit) ≡ tab (length (now (sums .entry))) (λ u. at (now (sums .entry)) u +ℤ (share s 0 p when eqb v u)) ⌝ }
+// The variable v is given x.
+fn add(sums: &mut [i64], v: usize, x: i32)
+    requires { ⌜ (v < length (now sums)) × (natAbs (at (now sums) v) ≤ 2 ^ 60) ⌝ }
+    ensures { λ _. ⌜ now (sums .exit) ≡ tab (length (now (sums .entry))) (λ u. at (now (sums .entry)) u +ℤ (x when eqb v u)) ⌝ }
 {
-    sums[v] += rows::share(s, p) as i64;
+    sums[v] += x as i64;
 }
 
 // Each variable of triple t is given its share.
@@ -75,13 +75,13 @@ fn give(triples: &[u16], rows: &[i32], t: usize, sums: &mut [i64])
     ensures { λ _. ⌜ now (sums .exit) ≡ tab (length (now (sums .entry))) (λ u.
         at (now (sums .entry)) u +ℤ sumℤ 3 (λ p. share (now (rows .entry)) t p when eqb (member (now (triples .entry)) t p) u)) ⌝ }
 {
-    let s = four(rows, t);
+    let shares = rows::shares(four(rows, t));
     let v0 = variable(triples, t, 0);
     let v1 = variable(triples, t, 1);
     let v2 = variable(triples, t, 2);
-    add(sums, v0, s, 0);
-    add(sums, v1, s, 1);
-    add(sums, v2, s, 2);
+    add(sums, v0, shares[0]);
+    add(sums, v1, shares[1]);
+    add(sums, v2, shares[2]);
 }
 
 // "S is the sum over its rows of z + p", for every variable.
@@ -101,15 +101,47 @@ fn gather(triples: &[u16], rows: &[i32], count: usize, sums: &mut [i64])
 
 // ---- c
 
-// "-(256 × S + W × L) divided by 256 × e - A, rounded to nearest, halves away from zero, then limited"
-fn value(sum: i64, cost: i16, count: u16, weight: u32, ratio: u32) -> i16
-    requires { ⌜ (natAbs sum ≤ 2 ^ 40) × (natAbs cost ≤ 32767) × (weight ≤ 65535) × (ratio ≤ 1023) ⌝ }
-    requires { ⌜ (natAbs (numerator weight sum cost) ≤ 2 ^ 48) × (1 ≤ count) × (count ≤ 2048) ⌝ }
-    ensures { λ c. ⌜ c ≡ quotient (numerator weight sum cost) (divisor (4 * count) ratio) ⌝ }
+// "-(256 × S + W × L)"
+fn numerator(weight: u32, sum: i64, cost: i16) -> i64
+    requires { ⌜ (weight ≤ 65535) × (natAbs sum ≤ 2 ^ 40) × (natAbs cost ≤ 32767) ⌝ }
+    ensures { λ z. ⌜ z ≡ Iteration.numerator weight sum cost ⌝ }
 {
-    let num = 256 * sum + (weight as i64) * (cost as i64);
-    let den = 1024 * (count as i64) - (ratio as i64);
-    quotient::divide(-num, den)
+    -(256 * sum + (weight as i64) * (cost as i64))
+}
+
+// "256 × e - A", for a variable in `count` triples
+fn divisor(count: usize, ratio: u32) -> i64
+    requires { ⌜ (count ≤ 2048) × (ratio ≤ 1023) ⌝ }
+    ensures { λ z. ⌜ z ≡ Iteration.divisor (4 * count) ratio ⌝ }
+{
+    1024 * (count as i64) - (ratio as i64)
+}
+
+// The inverses of the divisors of the counts 1, 2, on.
+pub fn write_inverses(ratio: u32, inverses: &mut [u64])
+    requires { ⌜ (ratio ≤ 1023) × (length (now inverses) ≤ 63) ⌝ }
+    ensures { λ _. ⌜ now (inverses .exit) ≡ inversesOf ratio (length (now (inverses .entry))) ⌝ }
+{
+    let n = inverses.len();
+    let mut i = 0;
+    while i < n {
+        inverses[i] = quotient::inverse(divisor(i + 1, ratio));
+        i += 1;
+    }
+}
+
+// "divided by 256 × e - A, rounded to nearest, halves away from zero, then limited": by an inverse where the list has one.
+fn divide(num: i64, count: usize, ratio: u32, inverses: &[u64]) -> i16
+    requires { ⌜ (natAbs num ≤ 2 ^ 48) × (1 ≤ count) × (count ≤ 2048) × (ratio ≤ 1023) ⌝ }
+    requires { ⌜ (length (now inverses) ≤ 63) × (now inverses ≡ inversesOf ratio (length (now inverses))) ⌝ }
+    ensures { λ c. ⌜ c ≡ quotient num (Iteration.divisor (4 * count) ratio) ⌝ }
+{
+    let den = divisor(count, ratio);
+    if count <= inverses.len() {
+        quotient::divide_by(num, den, inverses[count - 1])
+    } else {
+        quotient::divide(num, den)
+    }
 }
 
 // The cost of a variable: an auxiliary's is 0.
@@ -126,18 +158,21 @@ fn renew_values(
     costs: &[i16],
     weight: u32,
     ratio: u32,
+    inverses: &[u64],
     values: &mut [i16],
 )
     requires { ⌜ (length (now sums) ≡ length (now values)) × (length (now counts) ≡ length (now values)) × (weight ≤ 65535) × (ratio ≤ 1023) ⌝ }
     requires { ⌜ ((v : ℕ) → v < length (now values) → (natAbs (at (now sums) v) ≤ 2 ^ 40) × (natAbs (at (now costs) v) ≤ 32767)
-        × (natAbs (numerator weight (at (now sums) v) (at (now costs) v)) ≤ 2 ^ 48) × (1 ≤ getD (now counts) v 0) × (getD (now counts) v 0 ≤ 2048)) ⌝ }
+        × (natAbs (Iteration.numerator weight (at (now sums) v) (at (now costs) v)) ≤ 2 ^ 48) × (1 ≤ getD (now counts) v 0) × (getD (now counts) v 0 ≤ 2048)) ⌝ }
+    requires { ⌜ (length (now inverses) ≤ 63) × (now inverses ≡ inversesOf ratio (length (now inverses))) ⌝ }
     ensures { λ _. ⌜ now (values .exit) ≡ tab (length (now (values .entry))) (λ v.
-        quotient (numerator weight (at (now (sums .entry)) v) (at (now (costs .entry)) v)) (divisor (4 * getD (now (counts .entry)) v 0) ratio)) ⌝ }
+        quotient (Iteration.numerator weight (at (now (sums .entry)) v) (at (now (costs .entry)) v)) (Iteration.divisor (4 * getD (now (counts .entry)) v 0) ratio)) ⌝ }
 {
     let n = values.len();
     let mut v = 0;
     while v < n {
-        values[v] = value(sums[v], cost_of(costs, v), counts[v], weight, ratio);
+        let num = numerator(weight, sums[v], cost_of(costs, v));
+        values[v] = divide(num, index(counts[v]), ratio, inverses);
         v += 1;
     }
 }
@@ -279,6 +314,7 @@ pub fn iterate(
     counts: &[u16],
     costs: &[i16],
     count: usize,
+    inverses: &[u64],
     sums: &mut [i64],
     values: &mut [i16],
     rows: &mut [i32],
@@ -287,13 +323,21 @@ pub fn iterate(
     requires { ⌜ ((i : ℕ) → i < length (now triples) → getD (now triples) i 0 < length (now values)) ⌝ }
     requires { ⌜ (let g : System = record { variables = length (now values); triples = count; members = now triples } in
         (now counts ≡ countsOf g) × Ready g settings (now costs)) ⌝ }
-    requires { ⌜ RowsWithin 3999 (now rows) ⌝ }
+    requires { ⌜ (RowsWithin 3999 (now rows)) × (length (now inverses) ≤ 63) × (now inverses ≡ inversesOf (settings .ratio) (length (now inverses))) ⌝ }
     ensures { λ _. ⌜ (let g : System = record { variables = length (now (values .entry)); triples = count; members = now (triples .entry) } in
         let a : State = record { sums = now (sums .entry); values = now (values .entry); rows = now (rows .entry) } in
         record { sums = now (sums .exit); values = now (values .exit); rows = now (rows .exit) } ≡ Iteration.iterate quotient g settings (now (costs .entry)) a) ⌝ }
     ensures { λ settled. ⌜ settled ≡ settledBy (settings .tolerance) count (now (rows .entry)) (now (rows .exit)) ⌝ }
 {
     gather(triples, rows, count, sums);
-    renew_values(sums, counts, costs, settings.weight, settings.ratio, values);
+    renew_values(
+        sums,
+        counts,
+        costs,
+        settings.weight,
+        settings.ratio,
+        inverses,
+        values,
+    );
     renew_rows(triples, values, rows, count, settings.tolerance as u64)
 }

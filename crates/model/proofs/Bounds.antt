@@ -71,8 +71,8 @@ changes-bound part T old new few h =
 pub divisor-above : (e A : ℕ) → 1 ≤ e → A ≤ 1023 → pos 0 <ℤ divisor (4 * e) A
 divisor-above e A h k = simp toℕ (omega arith)
 
-pub divisor-below : (e A : ℕ) → e ≤ 2048 → divisor (4 * e) A ≤ℤ pos 2097152
-divisor-below e A h = simp toℕ (omega arith)
+pub divisor-below : (e A m : ℕ) → e ≤ m → divisor (4 * e) A ≤ℤ pos (1024 * m)
+divisor-below e A m h = simp toℕ (omega arith)
 
 -- ---- one iteration
 module _ (g : System) (o : Settings) (costs : List ℤ) (n : ℕ) (a : State) (ready : Ready g o costs) (within : RowsWithin n (a .rows)) where
@@ -152,7 +152,7 @@ module _ (g : System) (o : Settings) (costs : List ℤ) (n : ℕ) (a : State) (r
   unfolding iterate
   bounds = record {
     divisor-least = λ v h. divisor-above (e v) (o .ratio) (ready .some v h) (ready .ratio);
-    divisor-most = λ v. divisor-below (e v) (o .ratio) (ready .few v);
+    divisor-most = λ v. divisor-below (e v) (o .ratio) 2048 (ready .few v);
     sums = sums;
     numerators = numerators;
     values = values;

@@ -1,6 +1,6 @@
 -- Document 01, 'One iteration': "rounded to nearest, halves away from zero, then limited to −U..U".
 -- `quotient` is shut: no crate above can open it. What they have of it are the laws below, in `Laws`.
-use Prim.Native.Nat.{ℕ, suc, _+_, _*_, _≤_, _<_, min}
+use Prim.Native.Nat.{ℕ, suc, _+_, _*_, _/_, _^_, _≤_, _<_, min}
 use lib.IntN.{ℤ, pos, negsuc, negℤ, natAbs}
 use Rattle.integers.specs.Nearest.{nearest}
 pub mod Laws
@@ -23,3 +23,7 @@ pub record Rounded (n d q : ℕ) : Type 0 where
   pub range : q ≤ unit
   pub above : 2 * (d * q) ≤ 2 * n + d
   pub below : q < unit → 2 * n < 2 * (d * q) + d
+
+-- 2 ^ 48 / 2d, rounded up: a product with it, divided by 2 ^ 48, takes the place of a division by 2d
+unfoldable pub inverse : ℕ → ℕ
+inverse d = 2 ^ 48 / (2 * d) + 1

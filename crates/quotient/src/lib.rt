@@ -1,11 +1,17 @@
 // The rounded quotient (document 01, 'One iteration'): the lowest part of the decoder.
 ghost use mathlib.Core.Path.{_≡_};
-ghost use Prim.Native.Nat.{_<_, _≤_, _^_};
-ghost use lib.IntN.{pos, natAbs};
-ghost use lib.Signed.{_≤ℤ_, _<ℤ_};
-ghost use Rattle.quotient.specs.Quotient.{Rounded, quotient};
+ghost use mathlib.Core.Bool.{cond};
+ghost use Prim.Native.Nat.{_+_, _*_, _<_, _≤_, _^_, min};
+ghost use lib.IntN.{pos, negℤ, natAbs};
+ghost use lib.Signed.{ltZ, _≤ℤ_, _<ℤ_};
+ghost use Rattle.quotient.specs.Quotient as Quotient;
+ghost use Rattle.quotient.specs.Quotient.{unit, Rounded, quotient};
 
 const UNIT: u64 = 16384;
+
+const SCALE: u64 = 281474976710656;
+
+// ---- magnitudes
 
 fn magnitude(x: i64) -> u64
     requires { ⌜ natAbs x ≤ 2 ^ 48 ⌝ }
@@ -14,14 +20,48 @@ fn magnitude(x: i64) -> u64
     if x < 0 { (-x) as u64 } else { x as u64 }
 }
 
-// n / d, rounded to the nearest, halves up, and limited. The dividend is limited first: one division, and no branch that depends on the data.
+fn natural(x: i64) -> u64
+    requires { ⌜ pos 0 ≤ℤ x ⌝ }
+    ensures { λ r. ⌜ r ≡ natAbs x ⌝ }
+{
+    x as u64
+}
+
+// What is divided by 2d. The dividend is limited first: no branch depends on the data, and no quotient exceeds the unit.
+fn dividend(n: u64, d: u64) -> u64
+    requires { ⌜ (n ≤ 2 ^ 48) × (d ≤ 2097152) ⌝ }
+    ensures { λ r. ⌜ r ≡ 2 * min n (unit * d) + d ⌝ }
+{
+    let most = UNIT * d;
+    let cut = if n < most { n } else { most };
+    2 * cut + d
+}
+
+// n / d, rounded to the nearest, halves up, and limited.
 fn rounded(n: u64, d: u64) -> u64
     requires { ⌜ (n ≤ 2 ^ 48) × (0 < d) × (d ≤ 2097152) ⌝ }
     ensures { λ r. ⌜ Rounded n d r ⌝ }
 {
-    let most = UNIT * d;
-    let cut = if n < most { n } else { most };
-    (2 * cut + d) / (2 * d)
+    dividend(n, d) / (2 * d)
+}
+
+// The same by the inverse of d.
+fn rounded_by(n: u64, d: u64, inverse: u64) -> u64
+    requires { ⌜ (n ≤ 2 ^ 48) × (0 < d) × (d ≤ 64512) × (inverse ≡ Quotient.inverse d) ⌝ }
+    ensures { λ r. ⌜ Rounded n d r ⌝ }
+{
+    dividend(n, d) * inverse / SCALE
+}
+
+// ---- the sign
+
+// q with the sign of num.
+fn signed(q: u64, num: i64) -> i16
+    requires { ⌜ q ≤ unit ⌝ }
+    ensures { λ r. ⌜ r ≡ cond (ltZ num (pos 0)) (negℤ (pos q)) (pos q) ⌝ }
+{
+    let z = q as i16;
+    if num < 0 { -z } else { z }
 }
 
 // num / den, rounded to the nearest whole number, halves away from zero, and limited to -16384..=16384.
@@ -30,6 +70,23 @@ pub fn divide(num: i64, den: i64) -> i16
     requires { ⌜ (natAbs num ≤ 2 ^ 48) × (pos 0 <ℤ den) × (den ≤ℤ pos 2097152) ⌝ }
     ensures { λ r. ⌜ r ≡ quotient num den ⌝ }
 {
-    let q = rounded(magnitude(num), magnitude(den)) as i16;
-    if num < 0 { -q } else { q }
+    signed(rounded(magnitude(num), natural(den)), num)
+}
+
+// ---- by an inverse, where many are divided by one number
+
+// The inverse of den.
+pub fn inverse(den: i64) -> u64
+    requires { ⌜ (pos 0 <ℤ den) × (den ≤ℤ pos 64512) ⌝ }
+    ensures { λ r. ⌜ r ≡ Quotient.inverse (natAbs den) ⌝ }
+{
+    SCALE / (2 * natural(den)) + 1
+}
+
+// The quotient by a den whose inverse is at hand.
+pub fn divide_by(num: i64, den: i64, inverse: u64) -> i16
+    requires { ⌜ (natAbs num ≤ 2 ^ 48) × (pos 0 <ℤ den) × (den ≤ℤ pos 64512) × (inverse ≡ Quotient.inverse (natAbs den)) ⌝ }
+    ensures { λ r. ⌜ r ≡ quotient num den ⌝ }
+{
+    signed(rounded_by(magnitude(num), natural(den), inverse), num)
 }

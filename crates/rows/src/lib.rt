@@ -2,7 +2,7 @@
 // Rows of up to 4,000 iterations are taken: their magnitude is at most 131,072,000.
 ghost use mathlib.Core.Path.{_≡_};
 ghost use Prim.Native.Nat.{ℕ, _+_, _*_, _≤_, _<_};
-ghost use lib.IntN.{ℤ, pos, natAbs, _*ℤ_};
+ghost use lib.IntN.{ℤ, pos, natAbs, _+ℤ_, _*ℤ_};
 ghost use Rattle.integers.specs.Sum.{sumℕ, sumℤ};
 ghost use Rattle.lists.specs.Tabulated.{tab};
 ghost use Rattle.model.specs.Iteration.{at, sign, rowSum, slack, multiplier, renewed};
@@ -13,21 +13,22 @@ const SIGNS: [[i32; 3]; 4] = [[1, -1, -1], [-1, 1, -1], [-1, -1, 1], [1, 1, 1]];
 
 const UNIT: i32 = 16384;
 
-// x with the sign of position p in row r.
-fn signed(r: usize, p: usize, x: i32) -> i32
-    requires { ⌜ (r < 4) × (p < 3) × (natAbs x ≤ 131072000) ⌝ }
-    ensures { λ z. ⌜ z ≡ sign r p *ℤ x ⌝ }
+// x with the sign of position p in row r, and x once more: 2x or 0.
+fn doubled(r: usize, p: usize, x: i32) -> i32
+    requires { ⌜ (r < 4) × (p < 3) × (natAbs x ≤ 16384) ⌝ }
+    ensures { λ z. ⌜ z ≡ sign r p *ℤ x +ℤ x ⌝ }
 {
-    SIGNS[r][p] * x
+    (SIGNS[r][p] + 1) * x
 }
 
 // ---- the four sums
 
+// The signs are applied by doubling, and all three are taken off once: four sums in that form are formed side by side.
 fn sum(r: usize, a: i32, b: i32, c: i32) -> i32
     requires { ⌜ (r < 4) × (natAbs a ≤ 16384) × (natAbs b ≤ 16384) × (natAbs c ≤ 16384) ⌝ }
     ensures { λ z. ⌜ z ≡ rowSum r a b c ⌝ }
 {
-    signed(r, 0, a) + signed(r, 1, b) + signed(r, 2, c)
+    doubled(r, 0, a) + doubled(r, 1, b) + doubled(r, 2, c) - (a + b + c)
 }
 
 pub fn sums(a: i32, b: i32, c: i32) -> [i32; 4]
@@ -52,21 +53,31 @@ fn size(s: i32) -> i32
     if s < 0 { -s } else { s }
 }
 
-// What row r gives the variable at position p.
-fn part(s: [i32; 4], r: usize, p: usize) -> i32
-    requires { ⌜ (r < 4) × (p < 3) × (natAbs (at s r) ≤ 131072000) ⌝ }
-    ensures { λ z. ⌜ z ≡ sign r p *ℤ pos (slack (at s r) + multiplier (at s r)) ⌝ }
+fn size_at(s: [i32; 4], r: usize) -> i32
+    requires { ⌜ (r < 4) × (natAbs (at s r) ≤ 131072000) ⌝ }
+    ensures { λ z. ⌜ z ≡ pos (slack (at s r) + multiplier (at s r)) ⌝ }
 {
-    signed(r, p, size(s[r]))
+    size(s[r])
 }
 
-// What the four rows give it.
-pub fn share(s: [i32; 4], p: usize) -> i32
-    requires { ⌜ p < 3 ⌝ }
-    requires { ⌜ ((r : ℕ) → natAbs (at s r) ≤ 131072000) ⌝ }
-    ensures { λ z. ⌜ z ≡ sumℤ 4 (λ r. sign r p *ℤ pos (slack (at s r) + multiplier (at s r))) ⌝ }
+// The size of the last row less those of the others, and twice one of these: a plus instead of its minus.
+fn share(rest: i32, x: i32) -> i32
+    requires { ⌜ (natAbs rest ≤ 524288000) × (natAbs x ≤ 131072000) ⌝ }
+    ensures { λ z. ⌜ z ≡ rest +ℤ pos 2 *ℤ x ⌝ }
 {
-    part(s, 0, p) + part(s, 1, p) + part(s, 2, p) + part(s, 3, p)
+    rest + 2 * x
+}
+
+// What the four rows give each of the three variables. In SIGNS, position p has plus in rows p and 3 alone.
+pub fn shares(s: [i32; 4]) -> [i32; 3]
+    requires { ⌜ ((r : ℕ) → natAbs (at s r) ≤ 131072000) ⌝ }
+    ensures { λ l. ⌜ l ≡ tab 3 (λ p. sumℤ 4 (λ r. sign r p *ℤ pos (slack (at s r) + multiplier (at s r)))) ⌝ }
+{
+    let a = size_at(s, 0);
+    let b = size_at(s, 1);
+    let c = size_at(s, 2);
+    let rest = size_at(s, 3) - (a + b + c);
+    [share(rest, a), share(rest, b), share(rest, c)]
 }
 
 // ---- the renewal

@@ -9,6 +9,7 @@ ghost use Rattle.model.specs.Splitting.{System};
 ghost use Rattle.model.specs.Iteration.{State, countsOf};
 ghost use Rattle.model.specs.Run as Run;
 ghost use Rattle.model.specs.Bounds.{Ready};
+ghost use Rattle.iteration.specs.Inverses.{inversesOf};
 use model::Ending;
 use model::Settings;
 
@@ -24,7 +25,49 @@ fn clear(rows: &mut [i32])
     }
 }
 
-// The run of the system that the lists hold: its ending, with S, c and s of the last iteration in the lists.
+// Iterations from the start until it settles or K are done: the ending, with S, c and s of the last iteration in the lists.
+fn iterations(
+    settings: Settings,
+    triples: &[u16],
+    counts: &[u16],
+    costs: &[i16],
+    count: usize,
+    inverses: &[u64],
+    sums: &mut [i64],
+    values: &mut [i16],
+    rows: &mut [i32],
+) -> Ending
+    requires { ⌜ (3 * count ≡ length (now triples)) × (length (now sums) ≡ length (now values)) × (4 * count ≡ length (now rows)) ⌝ }
+    requires { ⌜ ((i : ℕ) → i < length (now triples) → getD (now triples) i 0 < length (now values)) ⌝ }
+    requires { ⌜ (let g : System = record { variables = length (now values); triples = count; members = now triples } in
+        (now counts ≡ countsOf g) × Ready g settings (now costs)) ⌝ }
+    requires { ⌜ (length (now inverses) ≤ 63) × (now inverses ≡ inversesOf (settings .ratio) (length (now inverses))) ⌝ }
+    requires { ⌜ (1 ≤ settings .limit) × (settings .limit ≤ 1000) ⌝ }
+    ensures { λ e. ⌜ (let g : System = record { variables = length (now (values .entry)); triples = count; members = now (triples .entry) } in
+        let last : State = record { sums = now (sums .exit); values = now (values .exit); rows = now (rows .exit) } in
+        record { k = e .k; settled = e .settled; last = last } ≡ Run.run quotient g settings (now (costs .entry))) ⌝ }
+{
+    clear(rows);
+    let mut k: u32 = 0;
+    let mut settled: u32 = 0;
+    while (k < settings.limit) & (settled == 0) {
+        settled = iteration::iterate(
+            settings,
+            triples,
+            counts,
+            costs,
+            count,
+            inverses,
+            sums,
+            values,
+            rows,
+        );
+        k += 1;
+    }
+    Ending { k, settled }
+}
+
+// The run of the system that the lists hold. Variables in up to 31 triples are divided by inverses.
 pub fn run(
     settings: Settings,
     triples: &[u16],
@@ -44,12 +87,17 @@ pub fn run(
         let last : State = record { sums = now (sums .exit); values = now (values .exit); rows = now (rows .exit) } in
         record { k = e .k; settled = e .settled; last = last } ≡ Run.run quotient g settings (now (costs .entry))) ⌝ }
 {
-    clear(rows);
-    let mut k: u32 = 0;
-    let mut settled: u32 = 0;
-    while (k < settings.limit) & (settled == 0) {
-        settled = iteration::iterate(settings, triples, counts, costs, count, sums, values, rows);
-        k += 1;
-    }
-    Ending { k, settled }
+    let mut inverses = [0u64; 31];
+    iteration::write_inverses(settings.ratio, &mut inverses);
+    iterations(
+        settings,
+        triples,
+        counts,
+        costs,
+        count,
+        &inverses,
+        sums,
+        values,
+        rows,
+    )
 }

@@ -35,7 +35,7 @@ module _ (s : tie.Start) where
   is-ready = s .pre .1 .1 .0 .1
 
   bound : Bounds g (s .args .settings) costs 3999 a
-  bound = bounds g (s .args .settings) costs 3999 a is-ready (s .pre .1 .1 .1)
+  bound = bounds g (s .args .settings) costs 3999 a is-ready (s .pre .1 .1 .1 .0)
 
   count-is : (v : ℕ) → v < g .variables → getD (s .args .counts .now) v 0 ≡ occurrences (g .members) (g .triples) v
   unfolding countsOf
@@ -46,12 +46,12 @@ module _ (s : tie.Start) where
   count-length = ap length (s .pre .1 .1 .0 .0) ∙ length-tab (g .variables) (occurrences (g .members) (g .triples))
 
 gather-requires : tie.Need-gather-requires
-gather-requires c κs = let s = c .before .before .before .before in ((is-ready s .triples, s .pre .0 .0, s .pre .0 .2), ((λ i h. rw (s .pre .0 .1) (s .pre .1 .0 i h)), s .pre .1 .1 .1))
+gather-requires c κs = let s = c .before .before .before .before .before in ((is-ready s .triples, s .pre .0 .0, s .pre .0 .2), ((λ i h. rw (s .pre .0 .1) (s .pre .1 .0 i h)), s .pre .1 .1 .1 .0))
 
 -- ---- S
 module _ (c : tie.After-gather) where
   abbrev first : tie.Start
-  first = c .before .before .before .before .before
+  first = c .before .before .before .before .before .before
 
   sums-are : c .gather .last .1 .1 .1 .0 ≡ b first .sums
   unfolding iterate sumsOf
@@ -66,12 +66,15 @@ renew-values-requires c κs =
     let m = c .before .before .before in
     let s = first m in (
       (sums-length m, count-length s, is-ready s .weight, is-ready s .ratio),
-      λ v h. (
-        rw (sums-are m) (omega (arith, bound s .sums v)),
-        is-ready s .cost v,
-        rw (sums-are m) (bound s .numerators (omega arith) v),
-        rw (count-is s v h) (is-ready s .some v h),
-        rw (count-is s v h) (is-ready s .few v),
+      (
+        λ v h. (
+          rw (sums-are m) (omega (arith, bound s .sums v)),
+          is-ready s .cost v,
+          rw (sums-are m) (bound s .numerators (omega arith) v),
+          rw (count-is s v h) (is-ready s .some v h),
+          rw (count-is s v h) (is-ready s .few v),
+        ),
+        (s .pre .1 .1 .1 .1, s .pre .1 .1 .1 .2),
       ),
     )
 
@@ -80,13 +83,13 @@ module _ (c : tie.After-renew-values) where
   abbrev given : tie.After-gather
   given = c .before .before .before .before
 
-  values-are : c .renew-values .last .1 .1 .1 .1 .1 .0 ≡ b (first given) .values
+  values-are : c .renew-values .last .1 .1 .1 .1 .1 .1 .0 ≡ b (first given) .values
   unfolding iterate valuesOf
   values-are =
       c .renew-values .ensures ∙ tab-same (g (first given) .variables) _ (valueOf quotient (g (first given)) (first given .args .settings) (costs (first given)) (b (first given) .sums))
       (λ v h. ap₂ (λ (l : List ℤ) (n : ℕ). quotient (numerator (first given .args .settings .weight) (at l v) (at (costs (first given)) v)) (divisor (4 * n) (first given .args .settings .ratio))) (sums-are given) (count-is (first given) v h))
 
-  values-length : length (c .renew-values .last .1 .1 .1 .1 .1 .0) ≡ g (first given) .variables
+  values-length : length (c .renew-values .last .1 .1 .1 .1 .1 .1 .0) ≡ g (first given) .variables
   unfolding iterate valuesOf
   values-length = ap length values-are ∙ length-tab (g (first given) .variables) (valueOf quotient (g (first given)) (first given .args .settings) (costs (first given)) (b (first given) .sums))
 
@@ -97,7 +100,7 @@ renew-rows-requires : tie.Need-renew-rows-requires
 renew-rows-requires c κs =
     let m = c .before .before .before .before in
     let s = first (given m) in
-    ((is-ready s .triples, s .pre .0 .0, s .pre .0 .2), (((λ i h. rw (values-length m) (s .pre .1 .0 i h)), (λ v. rw (values-are m) (bound s .values v))), s .pre .1 .1 .1))
+    ((is-ready s .triples, s .pre .0 .0, s .pre .0 .2), (((λ i h. rw (values-length m) (s .pre .1 .0 i h)), (λ v. rw (values-are m) (bound s .values v))), s .pre .1 .1 .1 .0))
 
 -- ---- s
 same-length : tie.Need-same-length
@@ -125,7 +128,7 @@ returns c =
     let m = c .before .before .before .before .before .before in
     let s = first (given m) in
     let settled : ℕ → List ℤ → List ℤ → ℕ = settledBy (s .args .settings .tolerance) in (
-      equal (record { sums = given m .gather .last .1 .1 .1 .0; values = m .renew-values .last .1 .1 .1 .1 .1 .0; rows = c .before .renew-rows .last .1 .1 .0 }) (b s)
+      equal (record { sums = given m .gather .last .1 .1 .1 .0; values = m .renew-values .last .1 .1 .1 .1 .1 .1 .0; rows = c .before .renew-rows .last .1 .1 .0 }) (b s)
           (sums-are (given m)) (values-are m) (rows-are c),
       c .before .renew-rows .ensures .1 ∙ ap (settled (s .args .count) (a s .rows)) (sym (c .before .renew-rows .ensures .0)),
     )

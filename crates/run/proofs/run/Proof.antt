@@ -1,168 +1,59 @@
--- `run::run` meets its contract: what has been done and what remains is the whole run. Assumes nothing.
-use mathlib.Core.Bool.{true, false, _&&_}
+-- `run::run` meets its contract. Assumes nothing.
 use mathlib.Core.List.{List}
-use mathlib.Core.Path.{_≡_, refl, sym, ap, _∙_, subst}
-use Prim.Native.Nat.{ℕ, suc, _-_, _*_, _≤_, _<_}
-use native.Mathlib.Numerals.{add-one}
+use mathlib.Core.Path.{_≡_, sym, ap, _∙_}
+use Prim.Native.Nat.{ℕ, suc, _*_}
 use native.Mathlib.Omega.{arith}
-use borrow.Author.Tests.{ltb-true, ltb-false, eqb-true, eq-eqb}
-use lib.Dec.{ltb, eqb}
-use lib.IntN.{ℤ, pos}
-use lib.ListN.{length, getD}
-use Rattle.lists.specs.Tabulated.{tab}
-use Rattle.lists.proofs.Tests.{and-left, and-right, and-false}
-use Rattle.lists.proofs.Tabulated.{tab-replicate}
-use Rattle.quotient.specs.Quotient.{quotient}
-use Rattle.model.specs.Iteration.{State, countsOf, iterate}
-use Rattle.model.specs.Table.{settings}
-use Rattle.model.specs.Run.{settledBy, start}
-use Rattle.model.specs.Bounds.{Ready}
-use Rattle.model.specs.Code.{triples, variables}
-use Rattle.model.specs.Splitting.{System}
-use Rattle.run.proofs.Going.{Going, going-start, going-next, going-end, weaker}
+use borrow.Author.Needs.{needs}
+use lib.IntN.{natAbs}
+use lib.ListN.{length}
+use Rattle.lists.proofs.Tabulated.{length-tab}
+use Rattle.quotient.specs.Quotient.{inverse}
+use Rattle.model.specs.Iteration.{divisor}
+use Rattle.iteration.specs.Inverses.{inversesOf}
 use Rattle.run.proofs.run.Statement.{statement}
 use Rattle.run.proofs.run.Tie as tie
 
--- ---- the test of a loop that goes on while k is below n and it has not settled
-going : (k n settled : ℕ) → (ltb k n && eqb settled 0) ≡ true → (k < n) × (settled ≡ 0)
-going k n settled h = (ltb-true k n (and-left (ltb k n) (eqb settled 0) h), eqb-true settled 0 (and-right (ltb k n) (eqb settled 0) h))
+slice-aggregate-write-inverses : tie.Need-slice-aggregate-write-inverses
+slice-aggregate-write-inverses c = search needs
 
-ended : (k n settled : ℕ) → (ltb k n && eqb settled 0) ≡ false → settled ≡ 0 → n ≤ k
-ended k n settled h e = ltb-false k n (and-false (ltb k n) (eqb settled 0) h (eq-eqb settled 0 e))
+write-inverses-requires : tie.Need-write-inverses-requires
+write-inverses-requires c κs = search needs
 
-abbrev Inv-loop : tie.InvT-loop
-Inv-loop settings triples counts costs count sums₀ values₀ rows₀ k₀ settled₀ sums values rows k settled =
-    Going (record { variables = length values₀; triples = count; members = triples }) settings costs (record { sums = sums; values = values; rows = rows }) k settled
+slice-aggregate-iterations : tie.Need-slice-aggregate-iterations
+slice-aggregate-iterations c = search needs
 
-abbrev μ-loop : tie.MeasureT-loop
-μ-loop settings triples counts costs count sums₀ values₀ rows₀ k₀ settled₀ sums values rows k settled = settings .limit - k
+long : (ratio n : ℕ) → length (inversesOf ratio n) ≡ n
+unfolding inversesOf
+long ratio n = length-tab n (λ i. inverse (natAbs (divisor (4 * suc i) ratio)))
 
-module _ (s : tie.Start Inv-loop μ-loop) where
-  -- of n variables
-  abbrev sized : ℕ → System
-  sized n = record { variables = n; triples = s .args .count; members = s .args .triples .now }
+iterations-requires : tie.Need-iterations-requires
+iterations-requires c κs =
+    let w = c .before .before .before .before .before in
+    let s = w .before .before .before .before in
+    let ratio = s .args .settings .ratio in
+    let e : length (w .write-inverses .last .1 .0) ≡ 31 = ap length (w .write-inverses .ensures) ∙ long ratio 31 in
+    (s .pre .0, (s .pre .1 .0, (s .pre .1 .1 .0, ((omega (arith, e), w .write-inverses .ensures ∙ ap (inversesOf ratio) (sym e)), s .pre .1 .1 .1))))
 
-  abbrev g : System
-  g = sized (length (s .args .values .now))
+same-length : tie.Need-same-length
+same-length c = search needs
 
-  abbrev costs : List ℤ
-  costs = s .args .costs .now
+same-length-2 : tie.Need-same-length-2
+same-length-2 c = search needs
 
-  is-ready : Ready g (s .args .settings) costs
-  is-ready = s .pre .1 .1 .0 .1
+same-length-3 : tie.Need-same-length-3
+same-length-3 c = search needs
 
-clear-requires : tie.Need-clear-requires Inv-loop μ-loop
-clear-requires c κs = tt
-
-loop-holds : tie.Need-loop-holds Inv-loop μ-loop
-unfolding start
-loop-holds c =
-    let s = c .before .before .before .before .before in
-    let a : State = record { sums = s .args .sums .now; values = s .args .values .now; rows = c .before .clear .last .0 } in
-    going-start (g s) (s .args .settings) (costs s) a (s .pre .1 .1 .1 .0) (s .pre .0 .1) refl (c .before .clear .ensures ∙ ap (λ (n : ℕ). tab n (λ _. pos 0)) (sym (s .pre .0 .2)) ∙ tab-replicate (4 * s .args .count) (pos 0))
-
--- ---- in the loop
-module _ (l : tie.At-loop Inv-loop μ-loop) where
-  abbrev first : tie.Start Inv-loop μ-loop
-  first = l .before .before .before .before .before .before
-
-  abbrev a : State
-  a = record { sums = l .loop .sums; values = l .loop .values; rows = l .loop .rows }
-
-  -- the values are as many as at first
-  abbrev g′ : System
-  g′ = sized first (length (l .loop .values))
-
-  same-system : g′ ≡ g first
-  same-system = ap (sized first) (l .loop .inv .values)
-
-on : (c : tie.Then1 Inv-loop μ-loop) → let l = c .before .before in (l .loop .k < first l .args .settings .limit) × (l .loop .settled ≡ 0)
-on c = let l = c .before .before in going (l .loop .k) (first l .args .settings .limit) (l .loop .settled) (c .if1 .taken)
-
--- not settled yet
-begun : (c : tie.Then1 Inv-loop μ-loop) → let l = c .before .before in Going (g (first l)) (first l .args .settings) (costs (first l)) (a l) (l .loop .k) 0
-begun c = let l = c .before .before in subst (Going (g (first l)) (first l .args .settings) (costs (first l)) (a l) (l .loop .k)) (on c .1) (l .loop .inv)
-
-iterate-requires : tie.Need-iterate-requires Inv-loop μ-loop
-iterate-requires c κs =
-    let t = c .before .before .before in
-    let l = t .before .before in
-    let s = first l in (
-      (s .pre .0 .0, l .loop .inv .sums ∙ sym (l .loop .inv .values), sym (l .loop .inv .rows)),
-      (
-        λ i h. subst (λ (n : ℕ). getD (s .args .triples .now) i 0 < n) (sym (l .loop .inv .values)) (s .pre .1 .0 i h),
-        (
-          subst (λ (h : System). (s .args .counts .now ≡ countsOf h) × Ready h (s .args .settings) (costs s)) (sym (same-system l)) (s .pre .1 .1 .0),
-          weaker (l .loop .k) 3999 (l .loop .rows) (omega (arith, on t .0, s .pre .1 .1 .1 .1)) (l .loop .inv .within),
-        ),
-      ),
-    )
-
--- ---- one iteration more
-module _ (c : tie.After-rows2 Inv-loop μ-loop) where
-  abbrev done : tie.After-iterate Inv-loop μ-loop
-  done = c .before .before .before
-
-  abbrev then : tie.Then1 Inv-loop μ-loop
-  then = done .before .before .before .before
-
-  abbrev at-loop : tie.At-loop Inv-loop μ-loop
-  at-loop = then .before .before
-
-  abbrev b : State
-  b = record { sums = done .iterate .last .1 .1 .1 .1 .1 .0; values = done .iterate .last .1 .1 .1 .1 .1 .1 .0; rows = done .iterate .last .1 .1 .1 .1 .1 .1 .1 .0 }
-
-  abbrev next : State
-  next = iterate quotient (g (first at-loop)) (first at-loop .args .settings) (costs (first at-loop)) (a at-loop)
-
-  b-is : b ≡ next
-  b-is = done .iterate .ensures .0 ∙ ap (λ (h : System). iterate quotient h (first at-loop .args .settings) (costs (first at-loop)) (a at-loop)) (same-system at-loop)
-
-  settled-is : done .iterate .result ≡ settledBy (first at-loop .args .settings .tolerance) (first at-loop .args .count) (a at-loop .rows) (next .rows)
-  settled-is = done .iterate .ensures .1 ∙ ap (λ (x : State). settledBy (first at-loop .args .settings .tolerance) (first at-loop .args .count) (a at-loop .rows) (x .rows)) b-is
-
-add-k : tie.Need-add-k Inv-loop μ-loop
-add-k c = omega (arith, on (then c) .0, first (at-loop c) .pre .1 .1 .1 .1)
-
-loop-less : tie.Need-loop-less Inv-loop μ-loop
-loop-less c = omega (arith, on (then c) .0)
-
-loop-again : tie.Need-loop-again Inv-loop μ-loop
-loop-again c =
-    let l = at-loop c in
-    let s = first l in
-    let next-going = going-next (g s) (s .args .settings) (costs s) (a l) (l .loop .k) (is-ready s) (on (then c) .0) (begun (then c)) in
-    subst (λ (k : ℕ). Going (g s) (s .args .settings) (costs s) (b c) k (done c .iterate .result)) (sym (add-one (l .loop .k)))
-    (subst (λ (x : State). Going (g s) (s .args .settings) (costs s) x (suc (l .loop .k)) (done c .iterate .result)) (sym (b-is c))
-    (subst (Going (g s) (s .args .settings) (costs s) (next c) (suc (l .loop .k))) (sym (settled-is c)) next-going))
-
-same-length : tie.Need-same-length Inv-loop μ-loop
-same-length c = let l = c .before .before in l .loop .inv .sums ∙ sym (first l .pre .0 .1)
-
-same-length-2 : tie.Need-same-length-2 Inv-loop μ-loop
-same-length-2 c = c .before .before .loop .inv .values
-
-same-length-3 : tie.Need-same-length-3 Inv-loop μ-loop
-same-length-3 c = let l = c .before .before in l .loop .inv .rows ∙ first l .pre .0 .2
-
-returns : tie.Need-returns Inv-loop μ-loop
-returns c =
-    let l = c .before .before in
-    let s = first l in
-    going-end (g s) (s .args .settings) (costs s) (a l) (l .loop .k) (l .loop .settled) (ended (l .loop .k) (s .args .settings .limit) (l .loop .settled) (c .if1 .left)) (l .loop .inv)
+returns : tie.Need-returns
+returns c = search needs
 
 pub run-spec : {M : Type 1} → statement M
 run-spec =
     tie.close
     (tie.spec
-    Inv-loop
-    μ-loop
-    clear-requires
-    loop-holds
-    iterate-requires
-    add-k
-    loop-less
-    loop-again
+    slice-aggregate-write-inverses
+    write-inverses-requires
+    slice-aggregate-iterations
+    iterations-requires
     same-length
     same-length-2
     same-length-3

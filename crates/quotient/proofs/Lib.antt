@@ -1,0 +1,2 @@
+-- Facts that several proofs use.
+pub mod Magnitudes
