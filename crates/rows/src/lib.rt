@@ -13,22 +13,22 @@ const SIGNS: [[i32; 3]; 4] = [[1, -1, -1], [-1, 1, -1], [-1, -1, 1], [1, 1, 1]];
 
 const UNIT: i32 = 16384;
 
-// x with the sign of position p in row r, and x once more: 2x or 0.
-fn doubled(r: usize, p: usize, x: i32) -> i32
-    requires { ⌜ (r < 4) × (p < 3) × (natAbs x ≤ 16384) ⌝ }
-    ensures { λ z. ⌜ z ≡ sign r p *ℤ x +ℤ x ⌝ }
-{
-    (SIGNS[r][p] + 1) * x
-}
-
 // ---- the four sums
 
-// The signs are applied by doubling, and all three are taken off once: four sums in that form are formed side by side.
+// x where position p of row r has plus, otherwise 0: half of the signed x and x.
+fn plus(r: usize, p: usize, x: i32) -> i32
+    requires { ⌜ (r < 4) × (p < 3) × (natAbs x ≤ 16384) ⌝ }
+    ensures { λ z. ⌜ pos 2 *ℤ z ≡ sign r p *ℤ x +ℤ x ⌝ }
+{
+    if SIGNS[r][p] < 0 { 0 } else { x }
+}
+
+// Row r: twice those with plus, less all three. In this form the four rows are worked out side by side.
 fn sum(r: usize, a: i32, b: i32, c: i32) -> i32
     requires { ⌜ (r < 4) × (natAbs a ≤ 16384) × (natAbs b ≤ 16384) × (natAbs c ≤ 16384) ⌝ }
     ensures { λ z. ⌜ z ≡ rowSum r a b c ⌝ }
 {
-    doubled(r, 0, a) + doubled(r, 1, b) + doubled(r, 2, c) - (a + b + c)
+    2 * (plus(r, 0, a) + plus(r, 1, b) + plus(r, 2, c)) - (a + b + c)
 }
 
 pub fn sums(a: i32, b: i32, c: i32) -> [i32; 4]

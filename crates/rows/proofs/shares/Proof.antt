@@ -94,10 +94,10 @@ signs : (a b c d : ℤ) → let e = d -ℤ (a +ℤ b +ℤ c) in let f : ℕ → 
     (e +ℤ pos 2 *ℤ a ≡ f 0) × (e +ℤ pos 2 *ℤ b ≡ f 1) × (e +ℤ pos 2 *ℤ c ≡ f 2)
 unfolding sign
 signs a b c d = (
-      rw (split a, split b, split c, split d) (simp toℕ (omega arith)),
-      rw (split a, split b, split c, split d) (simp toℕ (omega arith)),
-      rw (split a, split b, split c, split d) (simp toℕ (omega arith)),
-    )
+  rw (split a, split b, split c, split d) (simp toℕ (omega arith)),
+  rw (split a, split b, split c, split d) (simp toℕ (omega arith)),
+  rw (split a, split b, split c, split d) (simp toℕ (omega arith)),
+)
 
 returns : tie.Need-returns
 returns c =
