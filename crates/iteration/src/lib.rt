@@ -13,12 +13,12 @@ ghost use Rattle.integers.specs.Sum.{sumℤ};
 ghost use Rattle.lists.specs.Tabulated.{tab, over};
 ghost use Rattle.quotient.specs.Quotient.{quotient};
 ghost use Rattle.model.specs.Causes.{_if_};
-ghost use Rattle.model.specs.Splitting.{System, member};
+ghost use Rattle.model.specs.Splitting.{member};
 ghost use Rattle.iteration.specs.Inverses.{inversesOf};
-ghost use Rattle.model.specs.Iteration.{at, row, sumAt, slack, multiplier, share, _when_, sumOf, renewed, renewedAt, State, countsOf};
+ghost use Rattle.model.specs.Iteration.{at, row, sumAt, slack, multiplier, share, _when_, sumOf, renewed, renewedAt, State};
 ghost use Rattle.model.specs.Iteration as Iteration;
 ghost use Rattle.model.specs.Run.{changes, settledBy};
-ghost use Rattle.model.specs.Bounds.{RowsWithin, Ready};
+ghost use Rattle.model.specs.Bounds.{RowsWithin, held, Lent};
 use model::Settings;
 
 // ---- reading
@@ -319,12 +319,9 @@ pub fn iterate(
     values: &mut [i16],
     rows: &mut [i32],
 ) -> u32
-    requires { ⌜ (3 * count ≡ length (now triples)) × (length (now sums) ≡ length (now values)) × (4 * count ≡ length (now rows)) ⌝ }
-    requires { ⌜ ((i : ℕ) → i < length (now triples) → getD (now triples) i 0 < length (now values)) ⌝ }
-    requires { ⌜ (let g : System = record { variables = length (now values); triples = count; members = now triples } in
-        (now counts ≡ countsOf g) × Ready g settings (now costs)) ⌝ }
+    requires { ⌜ Lent settings (now triples) (now counts) (now costs) count (now sums) (now values) (now rows) ⌝ }
     requires { ⌜ (RowsWithin 3999 (now rows)) × (length (now inverses) ≤ 63) × (now inverses ≡ inversesOf (settings .ratio) (length (now inverses))) ⌝ }
-    ensures { λ _. ⌜ (let g : System = record { variables = length (now (values .entry)); triples = count; members = now (triples .entry) } in
+    ensures { λ _. ⌜ (let g = held (now (triples .entry)) count (now (values .entry)) in
         let a : State = record { sums = now (sums .entry); values = now (values .entry); rows = now (rows .entry) } in
         record { sums = now (sums .exit); values = now (values .exit); rows = now (rows .exit) } ≡ Iteration.iterate quotient g settings (now (costs .entry)) a) ⌝ }
     ensures { λ settled. ⌜ settled ≡ settledBy (settings .tolerance) count (now (rows .entry)) (now (rows .exit)) ⌝ }

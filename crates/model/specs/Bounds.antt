@@ -1,12 +1,14 @@
 -- How large the numbers of a run get: laws that the proofs of code and its readers want. Statements only; the proofs are in proofs/Bounds.antt.
+use mathlib.Core.Path.{_≡_}
 use mathlib.Core.List.{List}
 use Prim.Native.Nat.{ℕ, suc, _+_, _*_, _^_, _≤_, _<_}
 use lib.IntN.{ℤ, pos, natAbs}
+use lib.ListN.{length, getD}
 use lib.Signed.{_≤ℤ_, _<ℤ_}
 use Rattle.quotient.specs.Quotient.{unit, quotient}
 use Rattle.model.specs.declared.Settings.{Settings}
 use Rattle.model.specs.Splitting.{System}
-use Rattle.model.specs.Iteration.{at, multiplier, slack, occurrences, numerator, divisor, State, iterate}
+use Rattle.model.specs.Iteration.{at, multiplier, slack, occurrences, numerator, divisor, State, countsOf, iterate}
 use Rattle.model.specs.Run.{changes}
 
 -- "So s never leaves −65,536 .. 32,768 × K": after n iterations
@@ -22,6 +24,19 @@ pub record Ready (g : System) (o : Settings) (costs : List ℤ) : Type 0 where
   pub weight : o .weight ≤ 65535
   pub ratio : o .ratio ≤ 1023
   pub cost : (v : ℕ) → natAbs (at costs v) ≤ 32767
+
+-- the system that lent lists hold: T triples, and as many variables as there are values
+abbrev pub held : List ℕ → ℕ → List ℤ → System
+held ts T c = record { variables = length c; triples = T; members = ts }
+
+-- lists that a run can work in: triples and their counts, costs, S, c and s, each as long as their system asks
+pub record Lent (o : Settings) (ts counts : List ℕ) (costs : List ℤ) (T : ℕ) (S c s : List ℤ) : Type 0 where
+  pub members : 3 * T ≡ length ts
+  pub sums : length S ≡ length c
+  pub rows : 4 * T ≡ length s
+  pub below : (i : ℕ) → i < length ts → getD ts i 0 < length c
+  pub counted : counts ≡ countsOf (held ts T c)
+  pub ready : Ready (held ts T c) o costs
 
 -- one iteration, n being done
 pub record Bounds (g : System) (o : Settings) (costs : List ℤ) (n : ℕ) (a : State) : Type 0 where

@@ -1,14 +1,13 @@
 // The run (document 01, 'One iteration'): iterations from the start until it settles or K are done, on lists of exact length.
 ghost use mathlib.Core.Path.{_≡_};
-ghost use Prim.Native.Nat.{ℕ, _*_, _≤_, _<_};
+ghost use Prim.Native.Nat.{_≤_};
 ghost use lib.IntN.{pos};
-ghost use lib.ListN.{length, getD};
+ghost use lib.ListN.{length};
 ghost use Rattle.lists.specs.Tabulated.{tab};
 ghost use Rattle.quotient.specs.Quotient.{quotient};
-ghost use Rattle.model.specs.Splitting.{System};
-ghost use Rattle.model.specs.Iteration.{State, countsOf};
+ghost use Rattle.model.specs.Iteration.{State};
 ghost use Rattle.model.specs.Run as Run;
-ghost use Rattle.model.specs.Bounds.{Ready};
+ghost use Rattle.model.specs.Bounds.{held, Lent};
 ghost use Rattle.iteration.specs.Inverses.{inversesOf};
 use model::Ending;
 use model::Settings;
@@ -37,13 +36,10 @@ fn iterations(
     values: &mut [i16],
     rows: &mut [i32],
 ) -> Ending
-    requires { ⌜ (3 * count ≡ length (now triples)) × (length (now sums) ≡ length (now values)) × (4 * count ≡ length (now rows)) ⌝ }
-    requires { ⌜ ((i : ℕ) → i < length (now triples) → getD (now triples) i 0 < length (now values)) ⌝ }
-    requires { ⌜ (let g : System = record { variables = length (now values); triples = count; members = now triples } in
-        (now counts ≡ countsOf g) × Ready g settings (now costs)) ⌝ }
+    requires { ⌜ Lent settings (now triples) (now counts) (now costs) count (now sums) (now values) (now rows) ⌝ }
     requires { ⌜ (length (now inverses) ≤ 63) × (now inverses ≡ inversesOf (settings .ratio) (length (now inverses))) ⌝ }
     requires { ⌜ (1 ≤ settings .limit) × (settings .limit ≤ 1000) ⌝ }
-    ensures { λ e. ⌜ (let g : System = record { variables = length (now (values .entry)); triples = count; members = now (triples .entry) } in
+    ensures { λ e. ⌜ (let g = held (now (triples .entry)) count (now (values .entry)) in
         let last : State = record { sums = now (sums .exit); values = now (values .exit); rows = now (rows .exit) } in
         record { k = e .k; settled = e .settled; last = last } ≡ Run.run quotient g settings (now (costs .entry))) ⌝ }
 {
@@ -78,12 +74,9 @@ pub fn run(
     values: &mut [i16],
     rows: &mut [i32],
 ) -> Ending
-    requires { ⌜ (3 * count ≡ length (now triples)) × (length (now sums) ≡ length (now values)) × (4 * count ≡ length (now rows)) ⌝ }
-    requires { ⌜ ((i : ℕ) → i < length (now triples) → getD (now triples) i 0 < length (now values)) ⌝ }
-    requires { ⌜ (let g : System = record { variables = length (now values); triples = count; members = now triples } in
-        (now counts ≡ countsOf g) × Ready g settings (now costs)) ⌝ }
+    requires { ⌜ Lent settings (now triples) (now counts) (now costs) count (now sums) (now values) (now rows) ⌝ }
     requires { ⌜ (1 ≤ settings .limit) × (settings .limit ≤ 1000) ⌝ }
-    ensures { λ e. ⌜ (let g : System = record { variables = length (now (values .entry)); triples = count; members = now (triples .entry) } in
+    ensures { λ e. ⌜ (let g = held (now (triples .entry)) count (now (values .entry)) in
         let last : State = record { sums = now (sums .exit); values = now (values .exit); rows = now (rows .exit) } in
         record { k = e .k; settled = e .settled; last = last } ≡ Run.run quotient g settings (now (costs .entry))) ⌝ }
 {

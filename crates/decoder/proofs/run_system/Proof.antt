@@ -130,14 +130,15 @@ run-requires c κs =
     let w = c .before .before .before .before .before .before .before .before .before in
     let a = s w .args in
     let wide = or-false (outside 1 65535 (a .settings .weight)) _ (s w .pre .1 .0 .0) in (
-      (sym (ts-long w), sums-long w ∙ sym (n-is w), sym (rows-long w)),
-      (
-        members-below w,
-        (
-          subst (λ (h : System). (cs w ≡ countsOf h) × Ready h (a .settings) (a .costs .now)) (sym (system-is w)) (cs-is w, is-ready w),
-          within 1 mostIterations (a .settings .limit) (or-false (ltb 1023 (a .settings .ratio)) _ (wide .1) .1),
-        ),
-      ),
+      record {
+        members = sym (ts-long w);
+        sums = sums-long w ∙ sym (n-is w);
+        rows = sym (rows-long w);
+        below = members-below w;
+        counted = cs-is w ∙ ap countsOf (sym (system-is w));
+        ready = subst (λ (h : System). Ready h (a .settings) (a .costs .now)) (sym (system-is w)) (is-ready w);
+      },
+      within 1 mostIterations (a .settings .limit) (or-false (ltb 1023 (a .settings .ratio)) _ (wide .1) .1),
     )
 
 same-length : tie.Need-same-length

@@ -11,7 +11,7 @@ use Rattle.lists.proofs.Tabulated.{length-tab, getD-tab, tab-same}
 use Rattle.quotient.specs.Quotient.{quotient}
 use Rattle.model.specs.Iteration.{at, sumOf, occurrences, numerator, divisor, renewedAt, State, sumsOf, countsOf, rowsOf, valueOf, valuesOf, iterate}
 use Rattle.model.specs.Run.{settledBy}
-use Rattle.model.specs.Bounds.{Ready, Bounds}
+use Rattle.model.specs.Bounds.{Ready, held, Bounds}
 use Rattle.model.specs.Code.{triples, variables}
 use Rattle.model.specs.Splitting.{System}
 use Rattle.model.proofs.Bounds.{bounds}
@@ -20,7 +20,7 @@ use Rattle.iteration.proofs.iterate.Tie as tie
 
 module _ (s : tie.Start) where
   abbrev g : System
-  g = record { variables = length (s .args .values .now); triples = s .args .count; members = s .args .triples .now }
+  g = held (s .args .triples .now) (s .args .count) (s .args .values .now)
 
   abbrev a : State
   a = record { sums = s .args .sums .now; values = s .args .values .now; rows = s .args .rows .now }
@@ -32,21 +32,21 @@ module _ (s : tie.Start) where
   b = iterate quotient g (s .args .settings) costs a
 
   is-ready : Ready g (s .args .settings) costs
-  is-ready = s .pre .1 .1 .0 .1
+  is-ready = s .pre .0 .ready
 
   bound : Bounds g (s .args .settings) costs 3999 a
-  bound = bounds g (s .args .settings) costs 3999 a is-ready (s .pre .1 .1 .1 .0)
+  bound = bounds g (s .args .settings) costs 3999 a is-ready (s .pre .1 .0)
 
   count-is : (v : ℕ) → v < g .variables → getD (s .args .counts .now) v 0 ≡ occurrences (g .members) (g .triples) v
   unfolding countsOf
-  count-is v h = ap (λ (l : List ℕ). getD l v 0) (s .pre .1 .1 .0 .0) ∙ getD-tab (g .variables) (occurrences (g .members) (g .triples)) v 0 h
+  count-is v h = ap (λ (l : List ℕ). getD l v 0) (s .pre .0 .counted) ∙ getD-tab (g .variables) (occurrences (g .members) (g .triples)) v 0 h
 
   count-length : length (s .args .counts .now) ≡ g .variables
   unfolding countsOf
-  count-length = ap length (s .pre .1 .1 .0 .0) ∙ length-tab (g .variables) (occurrences (g .members) (g .triples))
+  count-length = ap length (s .pre .0 .counted) ∙ length-tab (g .variables) (occurrences (g .members) (g .triples))
 
 gather-requires : tie.Need-gather-requires
-gather-requires c κs = let s = c .before .before .before .before .before in ((is-ready s .triples, s .pre .0 .0, s .pre .0 .2), ((λ i h. rw (s .pre .0 .1) (s .pre .1 .0 i h)), s .pre .1 .1 .1 .0))
+gather-requires c κs = let s = c .before .before .before .before .before in ((is-ready s .triples, s .pre .0 .members, s .pre .0 .rows), ((λ i h. rw (s .pre .0 .sums) (s .pre .0 .below i h)), s .pre .1 .0))
 
 -- ---- S
 module _ (c : tie.After-gather) where
@@ -55,7 +55,7 @@ module _ (c : tie.After-gather) where
 
   sums-are : c .gather .last .1 .1 .1 .0 ≡ b first .sums
   unfolding iterate sumsOf
-  sums-are = c .gather .ensures ∙ ap (λ (n : ℕ). tab n (sumOf (g first .members) (g first .triples) (a first .rows))) (first .pre .0 .1)
+  sums-are = c .gather .ensures ∙ ap (λ (n : ℕ). tab n (sumOf (g first .members) (g first .triples) (a first .rows))) (first .pre .0 .sums)
 
   sums-length : length (c .gather .last .1 .1 .1 .0) ≡ g first .variables
   unfolding iterate sumsOf
@@ -74,7 +74,7 @@ renew-values-requires c κs =
           rw (count-is s v h) (is-ready s .some v h),
           rw (count-is s v h) (is-ready s .few v),
         ),
-        (s .pre .1 .1 .1 .1, s .pre .1 .1 .1 .2),
+        (s .pre .1 .1, s .pre .1 .2),
       ),
     )
 
@@ -100,7 +100,7 @@ renew-rows-requires : tie.Need-renew-rows-requires
 renew-rows-requires c κs =
     let m = c .before .before .before .before in
     let s = first (given m) in
-    ((is-ready s .triples, s .pre .0 .0, s .pre .0 .2), (((λ i h. rw (values-length m) (s .pre .1 .0 i h)), (λ v. rw (values-are m) (bound s .values v))), s .pre .1 .1 .1 .0))
+    ((is-ready s .triples, s .pre .0 .members, s .pre .0 .rows), (((λ i h. rw (values-length m) (s .pre .0 .below i h)), (λ v. rw (values-are m) (bound s .values v))), s .pre .1 .0))
 
 -- ---- s
 same-length : tie.Need-same-length

@@ -16,7 +16,7 @@ use Rattle.quotient.specs.Quotient.{quotient}
 use Rattle.model.specs.Iteration.{State, countsOf, iterate}
 use Rattle.model.specs.Table.{settings}
 use Rattle.model.specs.Run.{settledBy, start}
-use Rattle.model.specs.Bounds.{Ready}
+use Rattle.model.specs.Bounds.{Ready, held}
 use Rattle.model.specs.Code.{triples, variables}
 use Rattle.model.specs.Splitting.{System}
 use Rattle.run.proofs.Going.{Going, going-start, going-next, going-end, weaker}
@@ -32,7 +32,7 @@ ended k n settled h e = ltb-false k n (and-false (ltb k n) (eqb settled 0) h (eq
 
 abbrev Inv-loop : tie.InvT-loop
 Inv-loop settings triples counts costs count inverses sums₀ values₀ rows₀ k₀ settled₀ sums values rows k settled =
-    Going (record { variables = length values₀; triples = count; members = triples }) settings costs (record { sums = sums; values = values; rows = rows }) k settled
+    Going (held triples count values₀) settings costs (record { sums = sums; values = values; rows = rows }) k settled
 
 abbrev μ-loop : tie.MeasureT-loop
 μ-loop settings triples counts costs count inverses sums₀ values₀ rows₀ k₀ settled₀ sums values rows k settled = settings .limit - k
@@ -49,7 +49,7 @@ module _ (s : tie.Start Inv-loop μ-loop) where
   costs = s .args .costs .now
 
   is-ready : Ready g (s .args .settings) costs
-  is-ready = s .pre .1 .1 .0 .1
+  is-ready = s .pre .0 .ready
 
 clear-requires : tie.Need-clear-requires Inv-loop μ-loop
 clear-requires c κs = tt
@@ -59,7 +59,7 @@ unfolding start
 loop-holds c =
     let s = c .before .before .before .before .before .before in
     let a : State = record { sums = s .args .sums .now; values = s .args .values .now; rows = c .before .clear .last .0 } in
-    going-start (g s) (s .args .settings) (costs s) a (s .pre .1 .1 .1 .1 .0) (s .pre .0 .1) refl (c .before .clear .ensures ∙ ap (λ (n : ℕ). tab n (λ _. pos 0)) (sym (s .pre .0 .2)) ∙ tab-replicate (4 * s .args .count) (pos 0))
+    going-start (g s) (s .args .settings) (costs s) a (s .pre .1 .1 .0) (s .pre .0 .sums) refl (c .before .clear .ensures ∙ ap (λ (n : ℕ). tab n (λ _. pos 0)) (sym (s .pre .0 .rows)) ∙ tab-replicate (4 * s .args .count) (pos 0))
 
 -- ---- in the loop
 module _ (l : tie.At-loop Inv-loop μ-loop) where
@@ -87,15 +87,17 @@ iterate-requires : tie.Need-iterate-requires Inv-loop μ-loop
 iterate-requires c κs =
     let t = c .before .before .before in
     let l = t .before .before in
-    let s = first l in (
-      (s .pre .0 .0, l .loop .inv .sums ∙ sym (l .loop .inv .values), sym (l .loop .inv .rows)),
-      (
-        λ i h. subst (λ (n : ℕ). getD (s .args .triples .now) i 0 < n) (sym (l .loop .inv .values)) (s .pre .1 .0 i h),
-        (
-          subst (λ (h : System). (s .args .counts .now ≡ countsOf h) × Ready h (s .args .settings) (costs s)) (sym (same-system l)) (s .pre .1 .1 .0),
-          (weaker (l .loop .k) 3999 (l .loop .rows) (omega (arith, on t .0, s .pre .1 .1 .1 .1 .1)) (l .loop .inv .within), s .pre .1 .1 .1 .0 .0, s .pre .1 .1 .1 .0 .1),
-        ),
-      ),
+    let s = first l in
+    let e = sym (same-system l) in (
+      record {
+        members = s .pre .0 .members;
+        sums = l .loop .inv .sums ∙ sym (l .loop .inv .values);
+        rows = sym (l .loop .inv .rows);
+        below = λ i h. subst (λ (n : ℕ). getD (s .args .triples .now) i 0 < n) (sym (l .loop .inv .values)) (s .pre .0 .below i h);
+        counted = s .pre .0 .counted ∙ ap countsOf e;
+        ready = subst (λ (h : System). Ready h (s .args .settings) (costs s)) e (s .pre .0 .ready);
+      },
+      (weaker (l .loop .k) 3999 (l .loop .rows) (omega (arith, on t .0, s .pre .1 .1 .1)) (l .loop .inv .within), s .pre .1 .0 .0, s .pre .1 .0 .1),
     )
 
 -- ---- one iteration more
@@ -122,7 +124,7 @@ module _ (c : tie.After-rows2 Inv-loop μ-loop) where
   settled-is = done .iterate .ensures .1 ∙ ap (λ (x : State). settledBy (first at-loop .args .settings .tolerance) (first at-loop .args .count) (a at-loop .rows) (x .rows)) b-is
 
 add-k : tie.Need-add-k Inv-loop μ-loop
-add-k c = omega (arith, on (then c) .0, first (at-loop c) .pre .1 .1 .1 .1 .1)
+add-k c = omega (arith, on (then c) .0, first (at-loop c) .pre .1 .1 .1)
 
 loop-less : tie.Need-loop-less Inv-loop μ-loop
 loop-less c = omega (arith, on (then c) .0)
@@ -137,13 +139,13 @@ loop-again c =
     (subst (Going (g s) (s .args .settings) (costs s) (next c) (suc (l .loop .k))) (sym (settled-is c)) next-going))
 
 same-length : tie.Need-same-length Inv-loop μ-loop
-same-length c = let l = c .before .before in l .loop .inv .sums ∙ sym (first l .pre .0 .1)
+same-length c = let l = c .before .before in l .loop .inv .sums ∙ sym (first l .pre .0 .sums)
 
 same-length-2 : tie.Need-same-length-2 Inv-loop μ-loop
 same-length-2 c = c .before .before .loop .inv .values
 
 same-length-3 : tie.Need-same-length-3 Inv-loop μ-loop
-same-length-3 c = let l = c .before .before in l .loop .inv .rows ∙ first l .pre .0 .2
+same-length-3 c = let l = c .before .before in l .loop .inv .rows ∙ first l .pre .0 .rows
 
 returns : tie.Need-returns Inv-loop μ-loop
 returns c =

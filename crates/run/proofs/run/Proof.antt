@@ -32,7 +32,7 @@ iterations-requires c κs =
     let s = w .before .before .before .before in
     let ratio = s .args .settings .ratio in
     let e : length (w .write-inverses .last .1 .0) ≡ 31 = ap length (w .write-inverses .ensures) ∙ long ratio 31 in
-    (s .pre .0, (s .pre .1 .0, (s .pre .1 .1 .0, ((omega (arith, e), w .write-inverses .ensures ∙ ap (inversesOf ratio) (sym e)), s .pre .1 .1 .1))))
+    (s .pre .0, ((omega (arith, e), w .write-inverses .ensures ∙ ap (inversesOf ratio) (sym e)), s .pre .1))
 
 same-length : tie.Need-same-length
 same-length c = search needs
