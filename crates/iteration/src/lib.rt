@@ -1,24 +1,22 @@
 // One iteration (document 01) on lists of exact length: S and c for each variable, four rows for each triple.
 // Rows of fewer than 4,000 iterations are taken.
 ghost use mathlib.Core.Path.{_≡_};
-ghost use mathlib.Core.List.{List};
-ghost use Prim.Native.Nat.{ℕ, _+_, _*_, _/_, _%_, _^_, _≤_, _<_};
+ghost use Prim.Native.Nat.{ℕ, _+_, _*_, _^_, _≤_, _<_};
 ghost use mathlib.Core.Bool.{_&&_};
 ghost use lib.Dec.{leb, eqb};
-ghost use lib.IntN.{ℤ, pos, natAbs, _+ℤ_};
-ghost use lib.ListN.{length, getD, set};
+ghost use lib.IntN.{pos, natAbs, _+ℤ_};
+ghost use lib.ListN.{length, getD};
 ghost use lib.Seq.{sets};
-ghost use lib.Signed.{_<ℤ_, _≤ℤ_};
 ghost use Rattle.integers.specs.Sum.{sumℤ};
 ghost use Rattle.lists.specs.Tabulated.{tab, over};
 ghost use Rattle.quotient.specs.Quotient.{quotient};
 ghost use Rattle.model.specs.Causes.{_if_};
 ghost use Rattle.model.specs.Splitting.{member};
-ghost use Rattle.iteration.specs.Inverses.{inversesOf};
 ghost use Rattle.model.specs.Iteration.{at, row, sumAt, slack, multiplier, share, _when_, sumOf, renewed, renewedAt, State};
 ghost use Rattle.model.specs.Iteration as Iteration;
 ghost use Rattle.model.specs.Run.{changes, settledBy};
 ghost use Rattle.model.specs.Bounds.{RowsWithin, held, Lent};
+ghost use Rattle.iteration.specs.Inverses.{inversesOf};
 use model::Settings;
 
 // ---- reading

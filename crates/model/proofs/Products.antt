@@ -9,7 +9,7 @@ use lib.Ieee.{Float, nan, inf, fin, Format, binary32, up, down, unlike, neg, mul
 use lib.Ieee.Bits.{toBits-lt, is-true}
 use lib.Ieee.Fits.{mul-fits, neg-fits}
 use borrow.Author.Tests.{le-leb, lt-leb}
-use Rattle.lists.proofs.Tests.{and-left, and-right}
+use Rattle.lists.proofs.Tests.{and-right}
 use Rattle.model.specs.declared.Erasure.{Erasure}
 use Rattle.model.specs.declared.Channel.{Channel}
 use Rattle.model.specs.declared.Channel.the-variants.{Gaussian, Hard, Erasing}

@@ -1,6 +1,6 @@
 // From values to word (document 01): the bits of the values, and whether they are a codeword.
 ghost use mathlib.Core.Path.{_≡_};
-ghost use Prim.Native.Nat.{ℕ, _≤_};
+ghost use Prim.Native.Nat.{_≤_};
 ghost use lib.Dec.{eqb};
 ghost use lib.IntN.{natAbs};
 ghost use lib.ListN.{length};
@@ -10,7 +10,7 @@ ghost use Rattle.model.specs.Causes.{accepted};
 ghost use Rattle.model.specs.Records.{codeOf, judge};
 ghost use Rattle.model.specs.Iteration.{at};
 ghost use Rattle.model.specs.Words.{bitOf, wordOf, firstOdd, outcome};
-ghost use Rattle.model.specs.Calls.{Answer, decodingTold};
+ghost use Rattle.model.specs.Calls.{decodingTold};
 use model::Decoding;
 use model::Ending;
 

@@ -2,7 +2,7 @@
 // Rows of up to 4,000 iterations are taken: their magnitude is at most 131,072,000.
 ghost use mathlib.Core.Path.{_≡_};
 ghost use Prim.Native.Nat.{ℕ, _+_, _*_, _≤_, _<_};
-ghost use lib.IntN.{ℤ, pos, natAbs, _+ℤ_, _*ℤ_};
+ghost use lib.IntN.{pos, natAbs, _+ℤ_, _*ℤ_};
 ghost use Rattle.integers.specs.Sum.{sumℕ, sumℤ};
 ghost use Rattle.lists.specs.Tabulated.{tab};
 ghost use Rattle.model.specs.Iteration.{at, sign, rowSum, slack, multiplier, renewed};

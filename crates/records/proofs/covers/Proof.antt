@@ -1,5 +1,5 @@
 -- `records::covers` meets its contract: what is left of the checks, with what is marked. Assumes nothing.
-use mathlib.Core.Path.{_≡_, refl, sym, ap, _∙_}
+use mathlib.Core.Path.{_≡_, refl, sym, _∙_}
 use mathlib.Core.Bool.{Bool, true, false, _||_}
 use mathlib.Core.List.{List, []}
 use Prim.Native.Nat.{ℕ, _+_, _-_, _*_, _<_}
@@ -8,8 +8,7 @@ use native.Mathlib.Omega.{arith}
 use borrow.Author.Needs.{needs}
 use lib.Dec.{eqb}
 use lib.ListN.{length, drop, drop-of-length-le, replicate, getD-replicate}
-use Rattle.lists.specs.Tabulated.{tab}
-use Rattle.lists.specs.Entries.{every, some}
+use Rattle.lists.specs.Entries.{some}
 use Rattle.lists.proofs.Entries.{every-same}
 use Rattle.lists.proofs.Parts.{part-from}
 use Rattle.model.specs.Records.{degree, checksIn, covered}

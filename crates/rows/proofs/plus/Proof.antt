@@ -1,6 +1,6 @@
 -- `rows::plus` meets its contract: a sign is 1 or -1. Assumes nothing.
 use mathlib.Core.Bool.{true, false}
-use mathlib.Core.Path.{_≡_, sym, ap, _∙_}
+use mathlib.Core.Path.{_≡_, ap, _∙_}
 use native.Mathlib.Nat.{le-of-eq}
 use native.Mathlib.Omega.{arith}
 use borrow.Author.Needs.{needs}
@@ -8,7 +8,7 @@ use lib.IntN.{ℤ, pos, negsuc, natAbs, _+ℤ_, _*ℤ_}
 use lib.Signed.{ltZ}
 use mir.Syntax.{w32}
 use mir.Val.{toZ, ofZ}
-use Rattle.integers.proofs.Linear.{split, toℕ, readℤ, about, below-abs, above-abs}
+use Rattle.integers.proofs.Linear.{split, toℕ, readℤ, above-abs}
 use Rattle.integers.proofs.Machine.{held}
 use Rattle.model.specs.Iteration.{sign}
 use Rattle.model.proofs.Rows.{sign-one}

@@ -8,7 +8,7 @@ use lib.Signed.{mag}
 use mir.Syntax.{w32}
 use mir.Val.{toZ, ofZ, hbits}
 use Rattle.integers.proofs.Linear.{split, toℕ, abs-add, abs-mul}
-use Rattle.integers.proofs.Machine.{Worth, fits, stored, read-back, local, held, literal, plus, minus, times}
+use Rattle.integers.proofs.Machine.{Worth, fits, stored, local, held, literal, plus, minus, times}
 use Rattle.model.specs.Iteration.{sign, rowSum}
 use Rattle.model.proofs.Rows.{signed-abs}
 use Rattle.rows.proofs.sum.Statement.{statement}
