@@ -13,6 +13,7 @@ pub mod Points
 pub mod Reflection
 pub mod Channel
 pub mod Calls
+pub mod Frames
 pub mod Bounds
 pub mod Claims
 pub mod Paper
