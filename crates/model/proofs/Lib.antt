@@ -16,3 +16,4 @@ pub mod Products
 pub mod Values
 pub mod Entry
 pub mod ChannelClaims
+pub mod FrameBytes

@@ -20,3 +20,4 @@ pub mod Paper
 pub mod Table
 pub mod Entry
 pub mod ChannelClaims
+pub mod FrameClaims
