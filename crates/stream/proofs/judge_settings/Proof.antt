@@ -1,5 +1,6 @@
 -- `stream::judge_settings` meets its contract: the tests in the definition's order. Assumes nothing.
 use mathlib.Core.Path.{_≡_, _∙_}
+use mathlib.Core.Bool.{false}
 use mathlib.Core.List.{List, [], _∷_}
 use Prim.Native.Nat.{ℕ}
 use borrow.Author.Needs.{needs}
@@ -45,7 +46,8 @@ limit : (c : tie.Else8)
     judgeSettings s ≡ firstOf (after-limit s)
 limit c =
     let e = c .before .before in
-    ratio (e .before) ∙ rw (le-ltb _ 8 (e .if7 .left), ← c .before .two-bytes4 .ensures .0, c .if8 .left)
+    let within : outside 1 mostIterations (c .before .two-bytes4 .result) ≡ false = c .if8 .left in
+    ratio (e .before) ∙ rw (le-ltb _ 8 (e .if7 .left), ← c .before .two-bytes4 .ensures .0, within)
 
 -- ---- the code
 returns : tie.Need-returns
