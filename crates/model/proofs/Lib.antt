@@ -17,3 +17,4 @@ pub mod Values
 pub mod Entry
 pub mod ChannelClaims
 pub mod FrameBytes
+pub mod FrameCode

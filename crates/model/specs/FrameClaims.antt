@@ -1,13 +1,15 @@
 -- What ties the frame program to `Frames.frames`. The program takes from its input the bytes of one record after another, and judges and reads each record in a
 -- buffer that holds these bytes and no others. No contract of `io` says what was read or written, so the program itself is tied to these statements by reading
 -- and by test. Statements only; the proofs are in proofs/FrameBytes.antt.
-use mathlib.Core.Bool.{cond}
+use mathlib.Core.Bool.{cond, not}
 use mathlib.Core.List.{List}
 use mathlib.Core.Path.{_≡_}
-use Prim.Native.Nat.{ℕ, _+_, _*_}
+use Prim.Native.Nat.{ℕ, zero, suc, _+_, _*_, _≤_}
 use lib.Dec.{ltb}
-use lib.ListN.{take}
-use Rattle.model.specs.Records.{bitCount, checkCount, degree, indices}
+use lib.ListN.{take, drop}
+use Rattle.model.specs.Causes.{_if_}
+use Rattle.model.specs.Code.{triples}
+use Rattle.model.specs.Records.{bitCount, checkCount, degree, afterCheck, afterChecks, codeOf, covered, judge}
 use Rattle.model.specs.Frames.{judgeHeldHeader, judgeHeldCheck, settingsOf, judgeSettings, frameSize, costsOf, judgeFrame}
 
 -- ---- a record in a buffer of its own
@@ -28,3 +30,23 @@ pub record OwnBytes (s : List ℕ) : Type 0 where
   pub fields : settingsOf (take 12 s) ≡ settingsOf s
   pub frame : (n : ℕ) → judgeFrame n (take (frameSize n) s) ≡ judgeFrame n s
   pub costs : (n : ℕ) → costsOf n (take (frameSize n) s) ≡ costsOf n s
+
+-- ---- the code records, collected one by one
+
+-- how many bytes the first m check records of s have
+unfoldable pub checksSize : ℕ → List ℕ → ℕ
+checksSize zero s = 0
+checksSize (suc m) s = 3 + 2 * degree s + checksSize m (afterCheck s)
+
+-- the bytes of the code that the input s begins with: its header and its checks
+abbrev pub codeBytes : List ℕ → List ℕ
+codeBytes s = take (6 + checksSize (checkCount s) (drop 6 s)) s
+
+-- of an input whose header and checks, one by one, are sound and within the program's room: all causes but 8 are judged, so that `judge`
+-- of the collected bytes says whether a bit lies in no check
+pub record HeldCode (s : List ℕ) : Type 0 where
+  pub code : codeOf (codeBytes s) ≡ codeOf s
+  pub judged : judge (codeBytes s) ≡ 8 if not (covered (codeOf s))
+  pub rest : drop (6 + checksSize (checkCount s) (drop 6 s)) s ≡ afterChecks (checkCount s) (drop 6 s)
+  pub bits-most : codeOf s .bits ≤ 512
+  pub triples-most : triples (codeOf s) ≤ 1024
