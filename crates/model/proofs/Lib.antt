@@ -18,3 +18,4 @@ pub mod Entry
 pub mod ChannelClaims
 pub mod FrameBytes
 pub mod FrameCode
+pub mod FrameLines

@@ -6,11 +6,14 @@ use mathlib.Core.List.{List}
 use mathlib.Core.Path.{_≡_}
 use Prim.Native.Nat.{ℕ, zero, suc, _+_, _*_, _≤_}
 use lib.Dec.{ltb}
-use lib.ListN.{take, drop}
+use lib.IntN.{ℤ}
+use lib.ListN.{length, take, drop}
+use Rattle.model.specs.declared.Settings.{Settings}
 use Rattle.model.specs.Causes.{_if_}
 use Rattle.model.specs.Code.{triples}
 use Rattle.model.specs.Records.{bitCount, checkCount, degree, afterCheck, afterChecks, codeOf, covered, judge}
-use Rattle.model.specs.Frames.{judgeHeldHeader, judgeHeldCheck, settingsOf, judgeSettings, frameSize, costsOf, judgeFrame}
+use Rattle.model.specs.Calls.{Lists, decoderCause, decoder}
+use Rattle.model.specs.Frames.{judgeHeldHeader, judgeHeldCheck, settingsOf, judgeSettings, frameSize, costsOf, judgeFrame, line, frameLine}
 
 -- ---- a record in a buffer of its own
 
@@ -50,3 +53,21 @@ pub record HeldCode (s : List ℕ) : Type 0 where
   pub rest : drop (6 + checksSize (checkCount s) (drop 6 s)) s ≡ afterChecks (checkCount s) (drop 6 s)
   pub bits-most : codeOf s .bits ≤ 512
   pub triples-most : triples (codeOf s) ≤ 1024
+
+-- ---- a frame
+
+-- what the lists that the program lends to the decoder hold at least: 1,024 triples and 512 bits need no more
+pub record Room (l : Lists) : Type 0 where
+  pub triples : 3072 ≤ length (l .triples)
+  pub counts : 1536 ≤ length (l .counts)
+  pub sums : 1536 ≤ length (l .sums)
+  pub values : 1536 ≤ length (l .values)
+  pub rows : 4096 ≤ length (l .rows)
+  pub word : 512 ≤ length (l .word)
+
+-- of an accepted code b, accepted settings and a sound frame: the decoder refuses nothing, so that the frame's line, from its answer and the first n entries of the
+-- word list, whatever stood there, is the definition's; and the lists serve for the next frame
+pub record HeldFrame (b : List ℕ) (o : Settings) (costs : List ℤ) (l : Lists) : Type 0 where
+  pub accepted : decoderCause b o costs l ≡ 0
+  pub prints : line (decoder b o costs l .answer) (take (codeOf b .bits) (decoder b o costs l .lists .word)) ≡ frameLine (codeOf b) o costs
+  pub room : Room (decoder b o costs l .lists)
