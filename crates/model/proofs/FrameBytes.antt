@@ -136,6 +136,7 @@ own-bytes s = record {
   check = λ n t. held-take n t s;
   settings = settings-take s;
   fields = fields-take s;
+  whole = λ n. whole-take n s;
   frame = λ n. frame-take n s;
   costs = λ n. costs-take n s;
 }

@@ -6,7 +6,6 @@ use Prim.Native.Nat.{ℕ, zero, suc, _+_, _-_, _*_, _≤_, _<_}
 use native.Mathlib.Omega.{arith}
 use lib.Dec.{ltb}
 use lib.ListN.{length, take, drop}
-use lib.Seq.{drop-drop}
 use borrow.Author.Tests.{ltb-false, le-ltb}
 use Rattle.lists.specs.Entries.{total}
 use Rattle.model.specs.Causes.{_if_, firstOf}
@@ -33,12 +32,11 @@ record Collected (n t m : ℕ) (s b : List ℕ) : Type 0 where
   pub sound : judgeChecks n m b ≡ 0
   pub checks : checksIn m b ≡ checksIn m s
   pub whole : afterChecks m b ≡ []
-  pub rest : drop (checksSize m s) s ≡ afterChecks m s
   pub room : t + total tripleCount (checksIn m s) ≤ 1024
 
 collected : (n t m : ℕ) (s : List ℕ) → t ≤ 1024 → judgeHeldChecks n t m s ≡ 0 → Collected n t m s (take (checksSize m s) s)
 unfolding judgeHeldChecks judgeChecks checksIn afterChecks checksSize
-collected n t zero s k h = record { sound = refl; checks = refl; whole = refl; rest = refl; room = omega arith }
+collected n t zero s k h = record { sound = refl; checks = refl; whole = refl; room = omega arith }
 collected n t (suc m) s k h =
     let more = t + tripleCount (indices s) in
     let size = 3 + 2 * degree s in
@@ -52,7 +50,6 @@ collected n t (suc m) s k h =
       sound = rw (check-take n (size + left) s (omega arith), one .sound, after, c .sound);
       checks = rw (indices-of-take (size + left) s (omega arith), after, c .checks);
       whole = rw after (c .whole);
-      rest = sym (drop-drop left size s) ∙ c .rest;
       room = omega (arith, c .room);
     }
 
@@ -73,7 +70,6 @@ held-code s h k =
     record {
       code = rw (bits, count, body, c .checks);
       judged = rw (header-take (6 + size) s (omega arith), x .0, bits, count, body, c .sound, c .whole, c .checks, few) (only (8 if not (covered (codeOf s))));
-      rest = sym (drop-drop size 6 s) ∙ c .rest;
       bits-most = ltb-false 512 n (unless 9 _ (x .1 .0));
       triples-most = omega (arith, c .room);
     }

@@ -19,3 +19,4 @@ pub mod ChannelClaims
 pub mod FrameBytes
 pub mod FrameCode
 pub mod FrameLines
+pub mod FrameProgram
