@@ -38,3 +38,7 @@ module _ {at : ℕ} {t a b : List ℕ} {i : ℕ} (p : Appended at t a b i) where
 -- of text from the front: a loan of it
 pub counted : {t a b : List ℕ} {i : ℕ} → Appended 0 t a b i → (i ≤ length b) × (i ≡ length (take i b))
 counted {b = b} {i = i} p = let h : i ≤ length b = omega (arith, p .fits, long p) in (h, sym (length-take-le i b h))
+
+-- what that loan holds, and so what is written out of it: the text
+pub lent : {t a b : List ℕ} {i : ℕ} → Appended 0 t a b i → take i b ≡ t
+lent {t} {a} {i = i} p = rw (p .list) (take-at t (drop (0 + length t) a) i (omega (arith, p .ends)))
