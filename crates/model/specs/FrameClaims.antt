@@ -1,6 +1,6 @@
 -- What ties the frame program to `Frames.frames`. `program` below is the program's source, function by function, with each call told by its contract; `ProgramIsFrames`
--- says that it writes what document 01 says. What no proof says is that the kit's reads and writes move the bytes, since the contracts of `io` do not speak of them.
--- Definitions and statements only; the proofs are in proofs/FrameBytes.antt, FrameCode.antt, FrameLines.antt and FrameProgram.antt.
+-- says that this writes what document 01 says. Not proved, but read and tested: that crates/frames/src/main.rt makes these calls, and that `io` moves the bytes, of which
+-- its contracts do not speak. Definitions and statements only; the proofs are in proofs/FrameBytes.antt, FrameCode.antt, FrameLines.antt and FrameProgram.antt.
 use mathlib.Core.Bool.{cond, not}
 use mathlib.Core.List.{List, [], _∷_, _++_}
 use mathlib.Core.Path.{_≡_}
@@ -97,7 +97,7 @@ readCode s =
     let k = readChecks (bitCount b) 0 (checkCount b) b (drop 6 s) in
     record { cause = firstOf (judgeHeldHeader b ∷ k .cause ∷ judge (k .code) ∷ []); code = k .code; rest = k .rest }
 
--- `steps`: frame after frame, with the costs and the lists as the frame before left them; at most so many
+-- `step` and `steps`: frame after frame, with the costs and the lists as the frame before left them; at most so many, where the program counts to 2^64 − 1
 unfoldable pub steps : ℕ → ℕ → List ℕ → Settings → List ℤ → Lists → List ℕ → List ℕ
 steps zero n code o costs l s = []
 steps (suc most) n code o costs l s =
