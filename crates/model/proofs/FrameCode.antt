@@ -6,26 +6,16 @@ use Prim.Native.Nat.{ℕ, zero, suc, _+_, _-_, _*_, _≤_, _<_}
 use native.Mathlib.Omega.{arith}
 use lib.Dec.{ltb}
 use lib.ListN.{length, take, drop}
-use borrow.Author.Tests.{ltb-false, le-ltb}
+use borrow.Author.Tests.{le-ltb}
 use Rattle.lists.specs.Entries.{total}
 use Rattle.model.specs.Causes.{_if_, firstOf}
 use Rattle.model.specs.Code.{Code, tripleCount, triples}
 use Rattle.model.specs.Records.{bitCount, checkCount, degree, indices, afterCheck, checksIn, afterChecks, codeOf, judgeHeader, judgeCheck, judgeChecks, covered, judge}
 use Rattle.model.specs.Frames.{judgeHeldHeader, judgeHeldCheck, judgeHeldChecks}
 use Rattle.model.specs.FrameClaims.{checksSize, codeBytes, HeldCode}
-use Rattle.model.proofs.Causes.{only, clear, unless}
+use Rattle.model.proofs.Causes.{only, clear}
+use Rattle.model.proofs.Frames.{header-held, check-held}
 use Rattle.model.proofs.FrameBytes.{two-take, drop-take, header-take, degree-take, indices-of-take, check-take}
-
--- ---- a check that is held
-pub record HeldCheck (n t : ℕ) (s : List ℕ) : Type 0 where
-  pub sound : judgeCheck n s ≡ 0
-  pub room : t + tripleCount (indices s) ≤ 1024
-
-pub check-held : (n t : ℕ) (s : List ℕ) → judgeHeldCheck n t s ≡ 0 → HeldCheck n t s
-unfolding judgeHeldCheck
-check-held n t s h =
-    let x = clear (judgeCheck n s ∷ 10 if ltb 1024 (t + tripleCount (indices s)) ∷ []) h in
-    record { sound = x .0; room = ltb-false 1024 (t + tripleCount (indices s)) (unless 9 _ (x .1 .0)) }
 
 -- ---- the checks, in a buffer of their bytes alone
 record Collected (n t m : ℕ) (s b : List ℕ) : Type 0 where
@@ -55,12 +45,12 @@ collected n t (suc m) s k h =
 
 -- ---- the code
 pub held-code : (s : List ℕ) → judgeHeldHeader s ≡ 0 → judgeHeldChecks (bitCount s) 0 (checkCount s) (drop 6 s) ≡ 0 → HeldCode s
-unfolding judgeHeldHeader judge codeOf
+unfolding judge codeOf
 held-code s h k =
     let n = bitCount s in
     let m = checkCount s in
     let size = checksSize m (drop 6 s) in
-    let x = clear (judgeHeader s ∷ 10 if ltb 512 n ∷ []) h in
+    let x = header-held s h in
     let c = collected n 0 m (drop 6 s) (omega arith) k in
     let bits : bitCount (codeBytes s) ≡ n = two-take 2 (6 + size) s (omega arith) in
     let count : checkCount (codeBytes s) ≡ m = two-take 4 (6 + size) s (omega arith) in
@@ -69,7 +59,7 @@ held-code s h k =
     let few : ltb 8192 count-triples ≡ false = le-ltb 8192 count-triples (omega (arith, c .room)) in
     record {
       code = rw (bits, count, body, c .checks);
-      judged = rw (header-take (6 + size) s (omega arith), x .0, bits, count, body, c .sound, c .whole, c .checks, few) (only (8 if not (covered (codeOf s))));
-      bits-most = ltb-false 512 n (unless 9 _ (x .1 .0));
+      judged = rw (header-take (6 + size) s (omega arith), x .sound, bits, count, body, c .sound, c .whole, c .checks, few) (only (8 if not (covered (codeOf s))));
+      bits-most = x .room;
       triples-most = omega (arith, c .room);
     }

@@ -4,26 +4,25 @@ use mathlib.Core.Bool.{Bool, true, false, cond, not}
 use mathlib.Core.List.{List, [], _∷_, _++_, append-nil, append-assoc}
 use Prim.Native.Nat.{ℕ, zero, suc, _+_, _-_, _*_, _≤_}
 use native.Mathlib.Omega.{arith}
-use lib.Dec.{ltb, eqb}
+use lib.Dec.{eqb}
 use lib.IntN.{ℤ}
-use lib.ListN.{length, take, drop, length-take, length-map}
-use lib.Seq.{take-take, take-add, take-at}
+use lib.ListN.{length, take, drop, length-take}
+use lib.Seq.{take-take, take-add}
 use borrow.Author.Tests.{le-ltb, eq-eqb, ne-eqb, eqb-true, eqb-false}
 use Rattle.model.specs.declared.Settings.{Settings}
-use Rattle.lists.specs.Entries.{some}
 use Rattle.lists.specs.Tabulated.{written}
 use Rattle.model.specs.Causes as Causes
-use Rattle.model.specs.Causes.{_if_, firstOf, short, outside}
+use Rattle.model.specs.Causes.{_if_, firstOf}
 use Rattle.model.specs.Code.{Code, tripleCount, triples}
-use Rattle.model.specs.Records.{twoBytes, numbers, bitCount, checkCount, degree, indices, afterCheck, afterChecks, codeOf, covered, judge}
-use Rattle.model.specs.Run.{mostIterations}
-use Rattle.model.specs.Calls.{wild, forbidden, Lists, Decoded, decoder}
-use Rattle.model.specs.Frames.{judgeHeldHeader, judgeHeldCheck, judgeHeldChecks, settingsOf, judgeSettings, frameSize, twosComplement, costsOf, judgeWhole, judgeFrame, refusal, line, frameLine, frameLines, frames}
+use Rattle.model.specs.Records.{bitCount, checkCount, degree, indices, afterCheck, afterChecks, codeOf, covered, judge}
+use Rattle.model.specs.Calls.{wild, Lists, Decoded, decoder}
+use Rattle.model.specs.Frames.{judgeHeldHeader, judgeHeldCheck, judgeHeldChecks, settingsOf, judgeSettings, frameSize, costsOf, judgeWhole, judgeFrame, refusal, line, frameLine, frameLines, frames}
 use Rattle.model.specs.FrameClaims.{checkSize, checksSize, codeBytes, Room, Collected, readChecks, readCode, steps, program, ProgramIsFrames}
-use Rattle.model.proofs.Causes.{clear, unless, only}
+use Rattle.model.proofs.Causes.{clear, only}
 use Rattle.model.proofs.Accepted.{record-sound, length-numbers}
+use Rattle.model.proofs.Frames.{check-held, settings-within, frame-sound, length-costs, take-costs}
 use Rattle.model.proofs.FrameBytes.{degree-take, own-bytes}
-use Rattle.model.proofs.FrameCode.{check-held, held-code}
+use Rattle.model.proofs.FrameCode.{held-code}
 use Rattle.model.proofs.FrameLines.{held-frame}
 
 -- ---- the checks
@@ -66,23 +65,6 @@ checks-held n t (suc m) code s h =
     held n t m code s (x .0) ∙ checks-held n more m (code ++ take size s) (afterCheck s) (x .1 .0) ∙ rw seam
 
 -- ---- the frames
-settings-within : (s : List ℕ) → judgeSettings s ≡ 0 → wild (settingsOf s) ≡ false
-unfolding judgeSettings settingsOf
-settings-within s h =
-    let w = outside 1 65535 (twoBytes (drop 2 s)) in
-    let a = ltb 1023 (twoBytes (drop 4 s)) in
-    let k = outside 1 mostIterations (twoBytes (drop 6 s)) in
-    let x = clear (1 if short 2 s ∷ 2 if not (eqb (twoBytes s) 0x4C53) ∷ 1 if short 4 s ∷ 11 if w ∷ 1 if short 6 s ∷ 11 if a ∷ 1 if short 8 s ∷ 11 if k ∷ 1 if short 12 s ∷ []) h in
-    rw (unless 10 w (x .1 .1 .1 .0), unless 10 a (x .1 .1 .1 .1 .1 .0), unless 10 k (x .1 .1 .1 .1 .1 .1 .1 .0))
-
-costs-allowed : (n : ℕ) (s : List ℕ) → judgeFrame n s ≡ 0 → some forbidden (costsOf n s) ≡ false
-unfolding judgeFrame
-costs-allowed n s h = let x = clear (judgeWhole n s ∷ 13 if some forbidden (costsOf n s) ∷ []) h in unless 12 (some forbidden (costsOf n s)) (x .1 .0)
-
-length-costs : (n : ℕ) (s : List ℕ) → length (costsOf n s) ≡ n
-unfolding costsOf
-length-costs n s = length-map (numbers n (drop 2 s)) twosComplement ∙ length-numbers n (drop 2 s)
-
 -- nothing came exactly where nothing is left
 came-none : (j : ℕ) (s : List ℕ) → 1 ≤ j → eqb (length (take j s)) 0 ≡ eqb (length s) 0
 came-none j s h = by (eqb (length s) 0) refl
@@ -114,14 +96,11 @@ module _ (code : List ℕ) (o : Settings) (sound : judge code ≡ 0) (bits : cod
     more = frameLines most (codeOf code) o (rest s)
 
     costs-held : c ≡ 0 → take n buffer ≡ costsOf n s
-    unfolding judgeFrame
-    costs-held h =
-        let x = clear (judgeWhole n s ∷ 13 if some forbidden (costsOf n s) ∷ []) h in
-        rw (x .0) (take-at (costsOf n s) (drop (length (costsOf n s)) costs) n (length-costs n s))
+    costs-held h = rw (frame-sound n s h .whole) (take-costs n s costs)
 
     answered : c ≡ 0 → line (d .answer) (take n (d .lists .word)) ++ steps most n code o buffer (d .lists) (rest s) ≡ frameLine (codeOf code) o (costsOf n s) ++ more
     answered h =
-        let f = held-frame code o (costsOf n s) l sound bits few within (length-costs n s) (costs-allowed n s h) r in
+        let f = held-frame code o (costsOf n s) l sound bits few within (length-costs n s) (frame-sound n s h .allowed) r in
         rw (costs-held h) (rw (f .prints, ih buffer (decoder code o (costsOf n s) l .lists) (f .room)))
 
     going-on : (t : Bool) → refusal c ++ cond t (steps most n code o buffer l (rest s)) [] ≡ cond t (refusal c ++ more) (refusal c)

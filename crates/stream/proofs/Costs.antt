@@ -6,8 +6,8 @@ use Prim.Native.Nat.{ℕ, zero, suc, _+_, _*_, _≤_}
 use native.Mathlib.Nat.{zero-add}
 use lib.IntN.{ℤ, pos, negsuc, _-ℤ_}
 use lib.Dec.{eqb}
-use lib.ListN.{length, getD, take, drop, length-map}
-use lib.Seq.{drop-drop, take-at}
+use lib.ListN.{length, getD, drop}
+use lib.Seq.{drop-drop}
 use borrow.Author.Tests.{ltb-false}
 use Rattle.lists.specs.Tabulated.{over, written}
 use Rattle.lists.specs.Entries.{some}
@@ -51,10 +51,3 @@ whole n s h =
 pub frame-judged : (n : ℕ) (s : List ℕ) → judgeWhole n s ≡ 0 → judgeFrame n s ≡ 13 if some forbidden (costsOf n s)
 unfolding judgeFrame
 frame-judged n s h = rw h (only (13 if some forbidden (costsOf n s)))
-
-pub length-costs : (n : ℕ) (s : List ℕ) → length (costsOf n s) ≡ n
-unfolding costsOf
-length-costs n s = length-map (numbers n (drop 2 s)) twosComplement ∙ length-numbers n (drop 2 s)
-
-pub take-costs : (n : ℕ) (s : List ℕ) (old : List ℤ) → take n (written (costsOf n s) old) ≡ costsOf n s
-take-costs n s old = take-at (costsOf n s) (drop (length (costsOf n s)) old) n (length-costs n s)

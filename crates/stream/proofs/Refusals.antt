@@ -3,15 +3,12 @@ use mathlib.Core.Path.{_≡_, refl}
 use mathlib.Core.List.{List, [], _∷_}
 use Prim.Native.Nat.{ℕ, zero, suc, _+_, _≤_}
 use native.Mathlib.Omega.{arith}
-use borrow.Author.Tests.{ltb-false}
-use lib.Dec.{ltb}
 use lib.ListN.{length, drop}
-use Rattle.model.specs.Causes.{_if_, firstOf}
-use Rattle.model.specs.Code.{tripleCount}
-use Rattle.model.specs.Records.{bitCount, degree, indices, judgeHeader, judgeCheck}
+use Rattle.model.specs.Causes.{firstOf}
+use Rattle.model.specs.Records.{bitCount, degree}
 use Rattle.model.specs.Frames.{judgeHeldHeader, judgeHeldCheck}
 use Rattle.model.proofs.Accepted.{header-sound, record-sound, length-numbers}
-use Rattle.model.proofs.Causes.{clear, unless}
+use Rattle.model.proofs.Frames.{header-held, check-held}
 
 pub refused : (c : ℕ) (l : List ℕ) → (c ≡ 0 → ⊥) → firstOf (c ∷ l) ≡ c
 refused zero l h = absurd (h refl)
@@ -19,10 +16,7 @@ refused (suc c) l h = refl
 
 -- ---- a header and a check record that the program takes
 pub held-header : (s : List ℕ) → judgeHeldHeader s ≡ 0 → (6 ≤ length s) × (bitCount s ≤ 512)
-unfolding judgeHeldHeader
-held-header s h =
-    let x = clear (judgeHeader s ∷ 10 if ltb 512 (bitCount s) ∷ []) h in
-    (header-sound s (x .0) .room, ltb-false 512 (bitCount s) (unless 9 _ (x .1 .0)))
+held-header s h = let x = header-held s h in (header-sound s (x .sound) .room, x .room)
 
 pub record Held (t : ℕ) (s : List ℕ) : Type 0 where
   pub room : 3 ≤ length s
@@ -30,9 +24,7 @@ pub record Held (t : ℕ) (s : List ℕ) : Type 0 where
   pub triples : t + degree s ≤ 1026
 
 pub held-check : (n t : ℕ) (s : List ℕ) → judgeHeldCheck n t s ≡ 0 → Held t s
-unfolding judgeHeldCheck
 held-check n t s h =
-    let x = clear (judgeCheck n s ∷ 10 if ltb 1024 (t + tripleCount (indices s)) ∷ []) h in
-    let r = record-sound n s (x .0) in
-    let few = ltb-false 1024 (t + tripleCount (indices s)) (unless 9 _ (x .1 .0)) in
-    record { room = omega (arith, r .room); least = r .least; triples = omega (arith, few, r .least, length-numbers (degree s) (drop 3 s)) }
+    let x = check-held n t s h in
+    let r = record-sound n s (x .sound) in
+    record { room = omega (arith, r .room); least = r .least; triples = omega (arith, x .room, r .least, length-numbers (degree s) (drop 3 s)) }

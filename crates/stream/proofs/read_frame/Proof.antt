@@ -9,7 +9,8 @@ use Rattle.lists.specs.Entries.{some}
 use Rattle.model.specs.Causes.{_if_, accepted}
 use Rattle.model.specs.Calls.{forbidden}
 use Rattle.model.specs.Frames.{judgeWhole, judgeFrame}
-use Rattle.stream.proofs.Costs.{whole-refused, whole, frame-judged, length-costs, take-costs}
+use Rattle.model.proofs.Frames.{length-costs, take-costs}
+use Rattle.stream.proofs.Costs.{whole-refused, whole, frame-judged}
 use borrow.Author.Needs.{needs}
 use Rattle.stream.proofs.read_frame.Statement.{statement}
 use Rattle.stream.proofs.read_frame.Tie as tie
