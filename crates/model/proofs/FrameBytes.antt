@@ -1,17 +1,17 @@
 -- A record of the frame program is judged and read by its own bytes. Assumes nothing.
-use mathlib.Core.Path.{_≡_, refl, sym, ap, _∙_}
-use mathlib.Core.Bool.{Bool, true, false, cond, not}
-use mathlib.Core.List.{List, [], _∷_, map}
+use mathlib.Core.Path.{_≡_, refl, ap, _∙_}
+use mathlib.Core.Bool.{Bool, true, false, cond}
+use mathlib.Core.List.{List, [], _∷_}
 use Prim.Native.Nat.{ℕ, zero, suc, _+_, _-_, _*_, _≤_, _<_}
 use native.Mathlib.Nat.{zero-add, suc-add}
 use native.Mathlib.Omega.{arith}
-use lib.Dec.{ltb, leb, eqb}
-use lib.ListN.{length, getD, take, drop, length-take}
+use lib.Dec.{ltb}
+use lib.ListN.{length, take, drop, length-take}
 use lib.Seq.{take-nil, getD-take, getD-drop, drop-drop}
 use borrow.Author.Tests.{ltb-true, ltb-false, lt-ltb, le-ltb}
-use Rattle.model.specs.Causes.{_if_, firstOf, short, outside}
+use Rattle.model.specs.Causes.{short}
 use Rattle.model.specs.Code.{tripleCount}
-use Rattle.model.specs.Records.{twoBytes, numbers, bitCount, checkCount, degree, indices, judgeHeader, judgeIndices, judgeCheck}
+use Rattle.model.specs.Records.{twoBytes, numbers, degree, indices, judgeHeader, judgeIndices, judgeCheck}
 use Rattle.model.specs.Frames.{judgeHeldHeader, judgeHeldCheck, settingsOf, judgeSettings, frameSize, costsOf, judgeWhole, judgeFrame}
 use Rattle.model.specs.FrameClaims.{checkSize, OwnBytes}
 use Rattle.model.proofs.Accepted.{length-numbers}

@@ -1,16 +1,16 @@
 -- The code records that the frame program collects. Assumes nothing.
-use mathlib.Core.Path.{_≡_, refl, sym, ap, _∙_}
-use mathlib.Core.Bool.{Bool, true, false, not}
+use mathlib.Core.Path.{_≡_, refl}
+use mathlib.Core.Bool.{false, not}
 use mathlib.Core.List.{List, [], _∷_}
-use Prim.Native.Nat.{ℕ, zero, suc, _+_, _-_, _*_, _≤_, _<_}
+use Prim.Native.Nat.{ℕ, zero, suc, _+_, _-_, _*_, _≤_}
 use native.Mathlib.Omega.{arith}
 use lib.Dec.{ltb}
-use lib.ListN.{length, take, drop}
+use lib.ListN.{take, drop}
 use borrow.Author.Tests.{le-ltb}
 use Rattle.lists.specs.Entries.{total}
-use Rattle.model.specs.Causes.{_if_, firstOf}
-use Rattle.model.specs.Code.{Code, tripleCount, triples}
-use Rattle.model.specs.Records.{bitCount, checkCount, degree, indices, afterCheck, checksIn, afterChecks, codeOf, judgeHeader, judgeCheck, judgeChecks, covered, judge}
+use Rattle.model.specs.Causes.{_if_}
+use Rattle.model.specs.Code.{tripleCount}
+use Rattle.model.specs.Records.{bitCount, checkCount, degree, indices, afterCheck, checksIn, afterChecks, codeOf, judgeChecks, covered, judge}
 use Rattle.model.specs.Frames.{judgeHeldHeader, judgeHeldCheck, judgeHeldChecks}
 use Rattle.model.specs.FrameClaims.{checksSize, codeBytes, HeldCode}
 use Rattle.model.proofs.Causes.{only, clear}

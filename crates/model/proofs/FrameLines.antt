@@ -1,7 +1,7 @@
 -- The call that the frame program makes for a sound frame, and its line. Assumes nothing.
 use mathlib.Core.Path.{_≡_, refl, sym, ap, _∙_}
-use mathlib.Core.Bool.{Bool, true, false, not, _||_}
-use mathlib.Core.List.{List, [], _∷_, _++_, append-nil}
+use mathlib.Core.Bool.{Bool, true, false}
+use mathlib.Core.List.{List, _++_, append-nil}
 use Prim.Native.Nat.{ℕ, zero, suc, _+_, _*_, _≤_}
 use native.Mathlib.Omega.{arith}
 use lib.Dec.{eqb}
@@ -14,14 +14,14 @@ use Rattle.lists.specs.Tabulated.{written}
 use Rattle.lists.proofs.Tabulated.{length-tab}
 use Rattle.quotient.specs.Quotient.{quotient}
 use Rattle.model.specs.declared.Settings.{Settings}
-use Rattle.model.specs.Causes.{_if_, firstOf, short, accepted}
+use Rattle.model.specs.Causes.{accepted}
 use Rattle.model.specs.Code.{Code, triples, variables}
 use Rattle.model.specs.Records.{codeOf, judge}
 use Rattle.model.specs.Splitting.{systemOf}
 use Rattle.model.specs.Iteration.{at, countsOf}
 use Rattle.model.specs.Run.{Ended, run}
 use Rattle.model.specs.Words.{bitOf, wordOf, outcome}
-use Rattle.model.specs.Calls.{wild, unequal, forbidden, Lists, Answer, noRoom, decoderCause, decodedBy, decoder}
+use Rattle.model.specs.Calls.{wild, forbidden, Lists, Answer, noRoom, decoderCause, decodedBy}
 use Rattle.model.specs.Frames.{line, noLists, frameLine}
 use Rattle.model.specs.FrameClaims.{Room, HeldFrame}
 use Rattle.model.proofs.Accepted as Accepted

@@ -17,7 +17,7 @@ use Rattle.model.specs.Code.{Code, tripleCount, triples}
 use Rattle.model.specs.Records.{bitCount, checkCount, degree, indices, afterCheck, afterChecks, codeOf, covered, judge}
 use Rattle.model.specs.Calls.{wild, Lists, Decoded, decoder}
 use Rattle.model.specs.Frames.{judgeHeldHeader, judgeHeldCheck, judgeHeldChecks, settingsOf, judgeSettings, frameSize, costsOf, judgeWhole, judgeFrame, refusal, line, frameLine, frameLines, frames}
-use Rattle.model.specs.FrameClaims.{checkSize, checksSize, codeBytes, Room, Collected, readChecks, readCode, steps, program, ProgramIsFrames}
+use Rattle.model.specs.FrameClaims.{checkSize, checksSize, codeBytes, Room, readChecks, readCode, steps, program, ProgramIsFrames}
 use Rattle.model.proofs.Causes.{clear, only}
 use Rattle.model.proofs.Accepted.{record-sound, length-numbers}
 use Rattle.model.proofs.Frames.{check-held, settings-within, frame-sound, length-costs, take-costs}

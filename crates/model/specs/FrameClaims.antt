@@ -12,7 +12,7 @@ use Rattle.lists.specs.Tabulated.{written}
 use Rattle.model.specs.declared.Settings.{Settings}
 use Rattle.model.specs.Causes.{_if_, firstOf, accepted}
 use Rattle.model.specs.Code.{triples}
-use Rattle.model.specs.Records.{bitCount, checkCount, degree, afterCheck, afterChecks, codeOf, covered, judge}
+use Rattle.model.specs.Records.{bitCount, checkCount, degree, afterCheck, codeOf, covered, judge}
 use Rattle.model.specs.Calls.{Lists, decoderCause, decoder}
 use Rattle.model.specs.Frames.{judgeHeldHeader, judgeHeldCheck, settingsOf, judgeSettings, frameSize, costsOf, judgeWhole, judgeFrame, refusal, line, frameLine, frames}
 
