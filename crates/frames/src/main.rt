@@ -2,7 +2,11 @@
 // what a line says is in `stream`; here bytes are moved.
 ghost use mathlib.Core.Path.{_≡_};
 ghost use Prim.Native.Nat.{_+_, _*_, _≤_, _<_};
-ghost use lib.ListN.{length};
+ghost use mathlib.Core.Bool.{false};
+ghost use lib.ListN.{length, take};
+ghost use Rattle.lists.specs.Entries.{some};
+ghost use Rattle.model.specs.Records.{judge};
+ghost use Rattle.model.specs.Calls.{wild, forbidden};
 use model::Settings;
 
 // At most `size` bytes of the input, to `buffer` from `at` on; how many came.
@@ -64,10 +68,10 @@ fn read_checks(code: &mut [u8], bits: usize, checks: usize) -> usize
     end
 }
 
-// The code records.
+// The code records, which are accepted unless a refusal is printed.
 fn read_code(code: &mut [u8]) -> Collected
     requires { ⌜ 9289 ≤ length (now code) ⌝ }
-    ensures { λ r. ⌜ (r .bits ≤ 512) × (r .size ≤ 9222) ⌝ }
+    ensures { λ r. ⌜ (r .bits ≤ 512) × (r .size ≤ 9222) × (0 < r .size → judge (take (r .size) (now (code .exit))) ≡ 0) ⌝ }
 {
     let none = Collected { bits: 0, size: 0 };
     let came = read(code, 0, 6);
@@ -90,7 +94,7 @@ fn read_code(code: &mut [u8]) -> Collected
     Collected { bits, size }
 }
 
-// The run of a frame, and its line.
+// The run of a frame whose code, settings and costs are accepted, and its line.
 fn answer(
     code: &[u8],
     settings: Settings,
@@ -104,7 +108,7 @@ fn answer(
     word: &mut [u8],
     out: &mut [u8],
 )
-    requires { ⌜ (bits ≤ length (now word)) × (128 + bits ≤ length (now out)) ⌝ }
+    requires { ⌜ (judge (now code) ≡ 0) × (wild settings ≡ false) × (some forbidden (now costs) ≡ false) × (bits ≤ length (now word)) × (128 + bits ≤ length (now out)) ⌝ }
 {
     let decoding = decoder::decode(
         code,
@@ -136,7 +140,7 @@ fn step(
     word: &mut [u8],
     out: &mut [u8],
 ) -> bool
-    requires { ⌜ (bits ≤ 512) × (1026 ≤ length (now frame)) × (512 ≤ length (now costs)) × (512 ≤ length (now word)) × (640 ≤ length (now out)) ⌝ }
+    requires { ⌜ (judge (now code) ≡ 0) × (wild settings ≡ false) × (bits ≤ 512) × (1026 ≤ length (now frame)) × (512 ≤ length (now costs)) × (512 ≤ length (now word)) × (640 ≤ length (now out)) ⌝ }
 {
     let came = read(frame, 0, 2 + 2 * bits);
     if came == 0 {
@@ -178,7 +182,7 @@ fn steps(
     word: &mut [u8],
     out: &mut [u8],
 )
-    requires { ⌜ (bits ≤ 512) × (1026 ≤ length (now frame)) × (512 ≤ length (now costs)) × (512 ≤ length (now word)) × (640 ≤ length (now out)) ⌝ }
+    requires { ⌜ (judge (now code) ≡ 0) × (wild settings ≡ false) × (bits ≤ 512) × (1026 ≤ length (now frame)) × (512 ≤ length (now costs)) × (512 ≤ length (now word)) × (640 ≤ length (now out)) ⌝ }
 {
     let mut turns = u64::MAX;
     while 0 < turns
@@ -203,7 +207,7 @@ fn steps(
 
 // The frames, in room for 512 bits and 1,024 triples.
 fn decode_frames(code: &[u8], settings: Settings, bits: usize)
-    requires { ⌜ bits ≤ 512 ⌝ }
+    requires { ⌜ (judge (now code) ≡ 0) × (wild settings ≡ false) × (bits ≤ 512) ⌝ }
 {
     let mut frame = [0u8; 1026];
     let mut costs = [0i16; 512];
@@ -232,7 +236,7 @@ fn decode_frames(code: &[u8], settings: Settings, bits: usize)
 
 // The settings, then the frames.
 fn decode(code: &[u8], bits: usize)
-    requires { ⌜ bits ≤ 512 ⌝ }
+    requires { ⌜ (judge (now code) ≡ 0) × (bits ≤ 512) ⌝ }
 {
     let mut record = [0u8; 12];
     let came = read(&mut record, 0, 12);

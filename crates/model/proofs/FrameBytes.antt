@@ -12,9 +12,11 @@ use borrow.Author.Tests.{ltb-true, ltb-false, lt-ltb, le-ltb}
 use Rattle.model.specs.Causes.{short}
 use Rattle.model.specs.Code.{tripleCount}
 use Rattle.model.specs.Records.{twoBytes, numbers, degree, indices, judgeHeader, judgeIndices, judgeCheck}
+use Rattle.model.specs.Calls.{wild}
 use Rattle.model.specs.Frames.{judgeHeldHeader, judgeHeldCheck, settingsOf, judgeSettings, frameSize, costsOf, judgeWhole, judgeFrame}
 use Rattle.model.specs.FrameClaims.{checkSize, OwnBytes}
 use Rattle.model.proofs.Accepted.{length-numbers}
+use Rattle.model.proofs.Frames.{settings-sound}
 
 -- ---- the first bytes: lengths up to j, and numbers within, are those of the whole
 pub short-take : (k j : ℕ) (s : List ℕ) → k ≤ j → short k (take j s) ≡ short k s
@@ -75,11 +77,17 @@ settings-take s =
       two-take 6 12 s (omega arith),
     )
 
-fields-take : (s : List ℕ) → settingsOf (take 12 s) ≡ settingsOf s
+fields-take : (j : ℕ) (s : List ℕ) → 12 ≤ j → settingsOf (take j s) ≡ settingsOf s
 unfolding settingsOf
-fields-take s =
-    let low : twoBytes (drop 2 (drop 8 (take 12 s))) ≡ twoBytes (drop 2 (drop 8 s)) = rw (drop-drop 2 8 s, drop-drop 2 8 (take 12 s)) (two-take 10 12 s (omega arith)) in
-    rw (two-take 2 12 s (omega arith), two-take 4 12 s (omega arith), two-take 6 12 s (omega arith), two-take 8 12 s (omega arith), low)
+fields-take j s h =
+    let low : twoBytes (drop 2 (drop 8 (take j s))) ≡ twoBytes (drop 2 (drop 8 s)) = rw (drop-drop 2 8 s, drop-drop 2 8 (take j s)) (two-take 10 j s (omega arith)) in
+    rw (two-take 2 j s (omega arith), two-take 4 j s (omega arith), two-take 6 j s (omega arith), two-take 8 j s (omega arith), low)
+
+-- those of a buffer whose first bytes are accepted
+pub settings-left : (j : ℕ) (s : List ℕ) → judgeSettings (take j s) ≡ 0 → wild (settingsOf s) ≡ false
+settings-left j s h =
+    let x = settings-sound (take j s) h in
+    rw (← fields-take j s (omega (arith, x .room, length-take j s))) (x .within)
 
 -- ---- a frame record
 costs-take : (n : ℕ) (s : List ℕ) → costsOf n (take (frameSize n) s) ≡ costsOf n s
@@ -135,7 +143,7 @@ own-bytes s = record {
   degree-told = degree-take 3 s (omega arith);
   check = λ n t. held-take n t s;
   settings = settings-take s;
-  fields = fields-take s;
+  fields = fields-take 12 s (omega arith);
   whole = λ n. whole-take n s;
   frame = λ n. frame-take n s;
   costs = λ n. costs-take n s;

@@ -20,7 +20,7 @@ use Rattle.model.specs.Frames.{judgeHeldHeader, judgeHeldCheck, judgeHel
 use Rattle.model.specs.FrameClaims.{checkSize, checksSize, codeBytes, Room, readChecks, readCode, steps, program, ProgramIsFrames}
 use Rattle.model.proofs.Causes.{clear, only}
 use Rattle.model.proofs.Accepted.{record-sound, length-numbers}
-use Rattle.model.proofs.Frames.{check-held, settings-within, frame-sound, length-costs, take-costs}
+use Rattle.model.proofs.Frames.{check-held, settings-sound, frame-sound, length-costs, costs-left}
 use Rattle.model.proofs.FrameBytes.{degree-take, own-bytes}
 use Rattle.model.proofs.FrameCode.{held-code}
 use Rattle.model.proofs.FrameLines.{held-frame}
@@ -96,7 +96,7 @@ module _ (code : List ℕ) (o : Settings) (sound : judge code ≡ 0) (bits : cod
     more = frameLines most (codeOf code) o (rest s)
 
     costs-held : c ≡ 0 → take n buffer ≡ costsOf n s
-    costs-held h = rw (frame-sound n s h .whole) (take-costs n s costs)
+    costs-held h = costs-left n s costs buffer h refl
 
     answered : c ≡ 0 → line (d .answer) (take n (d .lists .word)) ++ steps most n code o buffer (d .lists) (rest s) ≡ frameLine (codeOf code) o (costsOf n s) ++ more
     answered h =
@@ -163,7 +163,7 @@ module _ (costs : List ℤ) (l : Lists) (room : Room l) (s : List ℕ) where
         let f = held-code s h k in
         let sound : judge (codeBytes s) ≡ 0 = f .judged ∙ rw e in
         let o = settingsOf settings in
-        let each = steps-are (codeBytes s) o sound (rw (f .code) (f .bits-most)) (rw (f .code) (f .triples-most)) (settings-within settings j) (length s) costs l (drop 12 settings) room in
+        let each = steps-are (codeBytes s) o sound (rw (f .code) (f .bits-most)) (rw (f .code) (f .triples-most)) (settings-sound settings j .within) (length s) costs l (drop 12 settings) room in
         let after = drop 12 settings in
         let bits = ap (λ (k : Code). k .bits) (f .code) ∙ bits-of s in
         rw (read, h, k, e, own-bytes settings .settings, j, own-bytes settings .fields, own-bytes s .bits)

@@ -10,7 +10,7 @@ use lib.Seq.{take-at}
 use borrow.Author.Tests.{ltb-false}
 use Rattle.lists.specs.Entries.{some}
 use Rattle.lists.specs.Tabulated.{written}
-use Rattle.model.specs.Causes.{_if_, short, outside}
+use Rattle.model.specs.Causes.{_if_, short, outside, accepted}
 use Rattle.model.specs.Code.{tripleCount}
 use Rattle.model.specs.Records.{twoBytes, numbers, bitCount, indices, judgeHeader, judgeCheck}
 use Rattle.model.specs.Run.{mostIterations}
@@ -41,14 +41,19 @@ check-held n t s h =
     record { sound = x .0; room = ltb-false 1024 (t + tripleCount (indices s)) (unless 9 _ (x .1 .0)) }
 
 -- ---- the settings
-pub settings-within : (s : List ℕ) → judgeSettings s ≡ 0 → wild (settingsOf s) ≡ false
+pub record SoundSettings (s : List ℕ) : Type 0 where
+  pub room : 12 ≤ length s
+  pub within : wild (settingsOf s) ≡ false
+
+pub settings-sound : (s : List ℕ) → judgeSettings s ≡ 0 → SoundSettings s
 unfolding judgeSettings settingsOf
-settings-within s h =
+settings-sound s h =
     let w = outside 1 65535 (twoBytes (drop 2 s)) in
     let a = ltb 1023 (twoBytes (drop 4 s)) in
     let k = outside 1 mostIterations (twoBytes (drop 6 s)) in
     let x = clear (1 if short 2 s ∷ 2 if not (eqb (twoBytes s) 0x4C53) ∷ 1 if short 4 s ∷ 11 if w ∷ 1 if short 6 s ∷ 11 if a ∷ 1 if short 8 s ∷ 11 if k ∷ 1 if short 12 s ∷ []) h in
-    rw (unless 10 w (x .1 .1 .1 .0), unless 10 a (x .1 .1 .1 .1 .1 .0), unless 10 k (x .1 .1 .1 .1 .1 .1 .1 .0))
+    let late = x .1 .1 .1 .1 .1 .1 .1 in
+    record { room = ltb-false (length s) 12 (unless 0 _ (late .1 .0)); within = rw (unless 10 w (x .1 .1 .1 .0), unless 10 a (x .1 .1 .1 .1 .1 .0), unless 10 k (late .0)) }
 
 -- ---- a frame
 pub record SoundFrame (n : ℕ) (s : List ℕ) : Type 0 where
@@ -67,3 +72,10 @@ length-costs n s = length-map (numbers n (drop 2 s)) twosComplement ∙ length-n
 
 pub take-costs : (n : ℕ) (s : List ℕ) (old : List ℤ) → take n (written (costsOf n s) old) ≡ costsOf n s
 take-costs n s old = take-at (costsOf n s) (drop (length (costsOf n s)) old) n (length-costs n s)
+
+-- what a sound frame leaves in a buffer of costs
+pub costs-left : (n : ℕ) (s : List ℕ) (old new : List ℤ) → judgeFrame n s ≡ 0 → new ≡ accepted (judgeWhole n s) (written (costsOf n s) old) old → take n new ≡ costsOf n s
+costs-left n s old new h e = rw (e, frame-sound n s h .whole) (take-costs n s old)
+
+pub left-allowed : (n : ℕ) (s : List ℕ) (old new : List ℤ) → judgeFrame n s ≡ 0 → new ≡ accepted (judgeWhole n s) (written (costsOf n s) old) old → some forbidden (take n new) ≡ false
+left-allowed n s old new h e = rw (costs-left n s old new h e) (frame-sound n s h .allowed)

@@ -1,7 +1,9 @@
--- `frames::decode` meets its contract: what came lies within the record. Assumes nothing.
+-- `frames::decode` meets its contract: what came lies within the record, and was judged. Assumes nothing.
+use mathlib.Core.Path.{sym, _∙_}
 use native.Mathlib.Omega.{arith}
 use lib.ListN.{length-take}
 use borrow.Author.Needs.{needs}
+use Rattle.model.proofs.FrameBytes.{settings-left}
 use Rattle.frames.proofs.decode.Statement.{statement}
 use Rattle.frames.proofs.decode.Tie as tie
 
@@ -33,7 +35,10 @@ settings-requires : tie.Need-settings-requires
 settings-requires c κs = search needs
 
 decode-frames-requires : tie.Need-decode-frames-requires
-decode-frames-requires c κs = search needs
+decode-frames-requires c κs =
+    let p = c .before .before .before .before .before .before .before .before .before .pre in
+    let h = sym (c .before .before .before .judge-settings .ensures) ∙ c .before .before .if1 .left in
+    (p .0, rw (c .settings .ensures) (settings-left (c .before .before .before .before .before .before .read .result) _ h), p .1)
 
 returns-2 : tie.Need-returns-2
 returns-2 c = search needs

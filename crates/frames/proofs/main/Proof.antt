@@ -1,4 +1,4 @@
--- `frames::main` meets its contract: the code lies within its array. Assumes nothing.
+-- `frames::main` meets its contract: the code lies within its array, and is accepted. Assumes nothing.
 use native.Mathlib.Omega.{arith}
 use lib.ListN.{length-take}
 use borrow.Author.Needs.{needs}
@@ -18,7 +18,7 @@ slice-aggregate-decode : tie.Need-slice-aggregate-decode
 slice-aggregate-decode c = simp length-take (omega arith)
 
 decode-requires : tie.Need-decode-requires
-decode-requires c κs = search needs
+decode-requires c κs = (c .before .before .before .read-code .ensures .2 (c .before .if1 .taken), search needs)
 
 returns : tie.Need-returns
 returns c = search needs

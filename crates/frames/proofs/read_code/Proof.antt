@@ -1,4 +1,4 @@
--- `frames::read_code` meets its contract: what the header says is within the program's limits. Assumes nothing.
+-- `frames::read_code` meets its contract: what the header says is within the program's limits, and the code was judged. Assumes nothing.
 use mathlib.Core.Path.{sym, _∙_}
 use native.Mathlib.Omega.{arith}
 use lib.ListN.{length-take}
@@ -88,7 +88,7 @@ returns-4 c =
     let w = r .before .before .before .before in
     let e = w .before .before in
     let h = held-header _ (sym (e .before .judge-header .ensures) ∙ e .if1 .left) in
-    (omega (arith, h .1, w .two-bytes .ensures .0), r .read-checks .ensures)
+    (omega (arith, h .1, w .two-bytes .ensures .0), r .read-checks .ensures, λ _. sym (c .before .judge-code .ensures) ∙ c .if3 .left)
 
 pub read-code-spec : {M : Type 1} → statement M
 read-code-spec =

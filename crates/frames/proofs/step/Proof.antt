@@ -1,7 +1,9 @@
--- `frames::step` meets its contract: the parts lie within their lists. Assumes nothing.
+-- `frames::step` meets its contract: the parts lie within their lists, and a frame that is decoded was judged. Assumes nothing.
+use mathlib.Core.Path.{sym, _∙_}
 use native.Mathlib.Omega.{arith}
 use lib.ListN.{length-take}
 use borrow.Author.Needs.{needs}
+use Rattle.model.proofs.Frames.{left-allowed}
 use Rattle.frames.proofs.step.Statement.{statement}
 use Rattle.frames.proofs.step.Tie as tie
 
@@ -36,7 +38,11 @@ slice-aggregate-answer : tie.Need-slice-aggregate-answer
 slice-aggregate-answer c = simp length-take (omega arith)
 
 answer-requires : tie.Need-answer-requires
-answer-requires c κs = search needs
+answer-requires c κs =
+    let p = c .before .before .before .before .before .before .before .before .before .before .before .before .before .before .before .before .before .before .before .before .before .before .before .before .pre in
+    let r = c .before .before .before .before .before .before .before .before .before .before .read-frame .ensures in
+    let h = sym (r .0) ∙ c .before .before .before .before .before .before .before .before .if2 .taken in
+    (p .0, p .1, left-allowed _ _ _ _ h (r .1), search needs, search needs)
 
 same-length-2 : tie.Need-same-length-2
 same-length-2 c = search needs
