@@ -16,3 +16,8 @@ pub mod Products
 pub mod Values
 pub mod Entry
 pub mod ChannelClaims
+pub mod Frames
+pub mod FrameBytes
+pub mod FrameCode
+pub mod FrameLines
+pub mod FrameProgram

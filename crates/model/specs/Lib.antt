@@ -13,9 +13,11 @@ pub mod Points
 pub mod Reflection
 pub mod Channel
 pub mod Calls
+pub mod Frames
 pub mod Bounds
 pub mod Claims
 pub mod Paper
 pub mod Table
 pub mod Entry
 pub mod ChannelClaims
+pub mod FrameClaims

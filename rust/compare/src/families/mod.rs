@@ -58,10 +58,9 @@ impl Family {
 
     /// The first seed of the family: the common one and the name, mixed.
     fn first_seed(&self) -> u64 {
-        let mixed = self
-            .name
-            .bytes()
-            .fold(SEED, |seed, byte| Random::new(seed ^ u64::from(byte)).any());
+        let mixed = self.name.bytes().fold(seed(), |seed, byte| {
+            Random::new(seed ^ u64::from(byte)).any()
+        });
         mixed >> 16
     }
 

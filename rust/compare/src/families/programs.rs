@@ -12,6 +12,8 @@ use interface::Settings;
 pub fn families() -> Vec<Family> {
     vec![
         Family::listed("the listing, cut at every byte", listing),
+        Family::listed("two checks, cut at every byte", two_checks),
+        Family::listed("a bit in no check, cut at every byte", unused_bit),
         Family::listed("the program's room", room),
         Family::listed("a settings record of every edge", edge_settings),
         Family::random("streams", 300, stream),
@@ -19,6 +21,7 @@ pub fn families() -> Vec<Family> {
         Family::random("damaged streams", 600, damaged_stream),
         Family::random("streams with damaged records", 400, damaged_records),
         Family::random("large streams", 20, large_stream),
+        Family::random("long streams", 4, long_stream),
     ]
 }
 
@@ -52,11 +55,61 @@ fn listing() -> Vec<Case> {
     for costs in [[0; 3], [20_000, 20_000, -8_000], [20_000; 3], [i16::MIN; 3]] {
         input.extend(frame_record(&costs));
     }
+    cut_everywhere(&input)
+}
+
+/// Every beginning of an input, and the input.
+fn cut_everywhere(input: &[u8]) -> Vec<Case> {
     (0..=input.len())
         .map(|length| Case::Frames {
             input: input[..length].to_vec(),
         })
         .collect()
+}
+
+/// A check with an auxiliary; frames with the forbidden cost at every place,
+/// each with a sound frame after it; another mark, which ends the program, and a
+/// frame that is never read.
+fn two_checks() -> Vec<Case> {
+    let code = Code {
+        bits: 5,
+        checks: vec![vec![0, 1, 2, 3], vec![2, 3, 4]],
+    };
+    let mut input = records(&code);
+    input.extend(settings_record(listed_settings()));
+    for place in 0..5 {
+        let mut costs = [9_000, -7_000, 5_000, -3_000, 1_000];
+        input.extend(frame_record(&costs));
+        costs[place] = i16::MIN;
+        input.extend(frame_record(&costs));
+    }
+    input.extend(frame_record(&[0; 5]));
+    input.extend(settings_record(listed_settings()));
+    input.extend(frame_record(&[1; 5]));
+    cut_everywhere(&input)
+}
+
+/// R 8 comes after the last check, whatever follows: settings of every kind or
+/// nothing.
+fn unused_bit() -> Vec<Case> {
+    let code = Code {
+        bits: 5,
+        checks: vec![vec![0, 1, 2], vec![1, 2, 3]],
+    };
+    let wrong = Settings {
+        weight: 0,
+        ratio: 1_024,
+        limit: 0,
+        tolerance: 0,
+    };
+    let mut cases = Vec::new();
+    for settings in [listed_settings(), wrong] {
+        let mut input = records(&code);
+        input.extend(settings_record(settings));
+        input.extend(frame_record(&[0; 5]));
+        cases.extend(cut_everywhere(&input));
+    }
+    cases
 }
 
 /// Codes of about 512 bits and 1,024 triples, whole, cut, damaged and followed
@@ -126,11 +179,17 @@ fn edge_settings() -> Vec<Case> {
     cases
 }
 
-/// Settings and frames for a code.
+/// Settings and a few frames for a code.
 fn after_code(random: &mut Random, code: &Code) -> Vec<u8> {
+    let count = random.below(6);
+    settings_and_frames(random, code, count)
+}
+
+/// Settings and so many frames for a code.
+fn settings_and_frames(random: &mut Random, code: &Code, count: usize) -> Vec<u8> {
     let codewords = Codewords::of(code);
     let mut bytes = settings_record(random_settings(random));
-    for _ in 0..random.below(6) {
+    for _ in 0..count {
         let codeword = codewords.random(random);
         let mut costs = random_costs(random, &codeword);
         if random.once_in(5) {
@@ -202,4 +261,13 @@ fn large_stream(random: &mut Random) -> Case {
     Case::Frames {
         input: stream_of(random, &code),
     }
+}
+
+/// More frames than the pipe to the program holds at once.
+fn long_stream(random: &mut Random) -> Case {
+    let code = code_within(random, 60, 30, 200);
+    let mut input = records(&code);
+    let count = random.between(600, 1_200);
+    input.extend(settings_and_frames(random, &code, count));
+    Case::Frames { input }
 }

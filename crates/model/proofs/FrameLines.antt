@@ -1,0 +1,97 @@
+-- The call that the frame program makes for a sound frame, and its line. Assumes nothing.
+use mathlib.Core.Path.{_≡_, refl, sym, ap, _∙_}
+use mathlib.Core.Bool.{Bool, true, false}
+use mathlib.Core.List.{List, _++_, append-nil}
+use Prim.Native.Nat.{ℕ, zero, suc, _+_, _*_, _≤_}
+use native.Mathlib.Omega.{arith}
+use lib.Dec.{eqb}
+use lib.IntN.{ℤ}
+use lib.ListN.{length, take, drop, length-append, length-drop}
+use lib.Seq.{take-at, drop-nil}
+use borrow.Author.Tests.{le-ltb, eq-eqb, eqb-true}
+use Rattle.lists.specs.Entries.{some}
+use Rattle.lists.specs.Tabulated.{written}
+use Rattle.lists.proofs.Tabulated.{length-tab}
+use Rattle.quotient.specs.Quotient.{quotient}
+use Rattle.model.specs.declared.Settings.{Settings}
+use Rattle.model.specs.Causes.{accepted}
+use Rattle.model.specs.Code.{Code, triples, variables}
+use Rattle.model.specs.Records.{codeOf, judge}
+use Rattle.model.specs.Splitting.{systemOf}
+use Rattle.model.specs.Iteration.{at, countsOf}
+use Rattle.model.specs.Run.{Ended, run}
+use Rattle.model.specs.Words.{bitOf, wordOf, outcome}
+use Rattle.model.specs.Calls.{wild, forbidden, Lists, Answer, noRoom, decoderCause, decodedBy}
+use Rattle.model.specs.Frames.{line, noLists, frameLine}
+use Rattle.model.specs.FrameClaims.{Room, HeldFrame}
+use Rattle.model.proofs.Accepted as Accepted
+use Rattle.model.proofs.Sound.{variables-most}
+use Rattle.model.proofs.Entry.{ran-is}
+
+-- ---- the lists
+written-least : {A : Type 0} (new old : List A) → length old ≤ length (written new old)
+written-least new old = omega (arith, length-append new (drop (length new) old), length-drop (length new) old)
+
+kept : (c : ℕ) (new old : List ℕ) → length old ≤ length (accepted c (written new old) old)
+kept zero new old = written-least new old
+kept (suc c) new old = omega arith
+
+room-left : (k : Code) (e : Ended) (l : Lists) → Room l → Room (decodedBy k e l .lists)
+unfolding decodedBy
+room-left k e l r = record {
+  triples = omega (arith, r .triples, written-least (systemOf k .members) (l .triples));
+  counts = omega (arith, r .counts, written-least (countsOf (systemOf k)) (l .counts));
+  sums = omega (arith, r .sums, written-least (e .last .sums) (l .sums));
+  values = omega (arith, r .values, written-least (e .last .values) (l .values));
+  rows = omega (arith, r .rows, written-least (e .last .rows) (l .rows));
+  word = omega (arith, r .word, kept (outcome k (e .last .values) .number) (wordOf k (e .last .values)) (l .word));
+}
+
+enough : (k : Code) (l : Lists) → Room l → k .bits ≤ 512 → triples k ≤ 1024 → variables k ≤ 1536 → noRoom k l ≡ false
+enough k l r n t v =
+    rw (
+      le-ltb (length (l .triples)) (3 * triples k) (omega (arith, r .triples)),
+      le-ltb (length (l .counts)) (variables k) (omega (arith, r .counts)),
+      le-ltb (length (l .sums)) (variables k) (omega (arith, r .sums)),
+      le-ltb (length (l .values)) (variables k) (omega (arith, r .values)),
+      le-ltb (length (l .rows)) (4 * triples k) (omega (arith, r .rows)),
+      le-ltb (length (l .word)) (k .bits) (omega (arith, r .word)),
+    )
+
+-- ---- the line: the word list is read where the number is 0 only
+line-of : (a : Answer) (v w : List ℕ) → (a .number ≡ 0 → v ≡ w) → line a v ≡ line a w
+unfolding line
+line-of a v w h = by (eqb (a .number) 0) refl
+  where
+    by : (t : Bool) → eqb (a .number) 0 ≡ t → line a v ≡ line a w
+    by true e = ap (line a) (h (eqb-true (a .number) 0 e))
+    by false e = rw e
+
+word-long : (k : Code) (c : List ℤ) → length (wordOf k c) ≡ k .bits
+unfolding wordOf
+word-long k c = length-tab (k .bits) (λ v. bitOf (at c v))
+
+line-left : (k : Code) (e : Ended) (l : Lists) → line (decodedBy k e l .answer) (take (k .bits) (decodedBy k e l .lists .word)) ≡ line (decodedBy k e noLists .answer) (decodedBy k e noLists .lists .word)
+unfolding decodedBy
+line-left k e l =
+    let w = wordOf k (e .last .values) in
+    line-of (decodedBy k e l .answer) _ _ (λ (z : outcome k (e .last .values) .number ≡ 0). rw z (take-at w (drop (length w) (l .word)) (k .bits) (word-long k (e .last .values)) ∙ sym (ap (λ (r : List ℕ). w ++ r) (drop-nil (length w)) ∙ append-nil w)))
+
+-- ---- the call
+module _ (b : List ℕ) (o : Settings) (costs : List ℤ) (l : Lists) (sound : judge b ≡ 0) (bits : codeOf b .bits ≤ 512) (few : triples (codeOf b) ≤ 1024)
+    (within : wild o ≡ false) (fits : length costs ≡ codeOf b .bits) (allowed : some forbidden costs ≡ false) (room : Room l) where
+  no-cause : decoderCause b o costs l ≡ 0
+  unfolding decoderCause
+  no-cause =
+      let most = variables-most (codeOf b) (Accepted.accepted b sound) in
+      rw (sound, within, eq-eqb (length costs) (codeOf b .bits) fits, allowed, enough (codeOf b) l room bits few (omega (arith, most)))
+
+  pub held-frame : HeldFrame b o costs l
+  unfolding frameLine
+  held-frame =
+      let e = run quotient (systemOf (codeOf b)) o costs in
+      record {
+        accepted = no-cause;
+        prints = rw (ran-is b o costs l no-cause) (line-left (codeOf b) e l);
+        room = rw (ran-is b o costs l no-cause) (room-left (codeOf b) e l room);
+      }

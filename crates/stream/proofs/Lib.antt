@@ -1,0 +1,4 @@
+pub mod Refusals
+pub mod Text
+pub mod Decimals
+pub mod Costs

@@ -1,0 +1,53 @@
+-- `stream::begin` meets its contract: a letter and two fields. Assumes nothing.
+use mathlib.Core.List.{[], _∷_, _++_, append-assoc}
+use native.Mathlib.Omega.{arith}
+use borrow.Author.Needs.{needs}
+use Rattle.model.specs.Frames.{decimal, opening}
+use Rattle.stream.proofs.Text.{then}
+use Rattle.stream.proofs.begin.Statement.{statement}
+use Rattle.stream.proofs.begin.Tie as tie
+
+put-letter-requires : tie.Need-put-letter-requires
+put-letter-requires c κs = search needs
+
+cast-put-field : tie.Need-cast-put-field
+cast-put-field c = search needs
+
+put-field-requires : tie.Need-put-field-requires
+put-field-requires c κs = search needs
+
+cast-put-field-2 : tie.Need-cast-put-field-2
+cast-put-field-2 c = search needs
+
+put-field-requires-2 : tie.Need-put-field-requires-2
+put-field-requires-2 c κs = search needs
+
+same-length : tie.Need-same-length
+same-length c = search needs
+
+returns : tie.Need-returns
+unfolding opening
+returns c =
+    let g = c .before .before in
+    let f = g .before .before .before .before .before in
+    let l = f .before .before .before .before .before in
+    let s = l .before .before .before in
+    let a = l .put-letter .ensures in
+    let b = f .put-field .ensures in
+    let e = s .args .ending in (
+      rw (← append-assoc (decimal (e .k)) (32 ∷ []) (decimal (e .settled) ++ (32 ∷ [])))
+          (then (then (a .0) (b .0)) (g .put-field2 .ensures .0)),
+      omega (arith, a .1, b .1, g .put-field2 .ensures .1),
+    )
+
+pub begin-spec : {M : Type 1} → statement M
+begin-spec =
+    tie.close
+    (tie.spec
+    put-letter-requires
+    cast-put-field
+    put-field-requires
+    cast-put-field-2
+    put-field-requires-2
+    same-length
+    returns)

@@ -1,0 +1,46 @@
+-- `stream::judge_header` meets its contract: the header's cause, then the bits. Assumes nothing.
+use mathlib.Core.Path.{_≡_, sym, _∙_}
+use mathlib.Core.List.{[], _∷_}
+use native.Mathlib.Omega.{arith}
+use lib.Dec.{ltb}
+use borrow.Author.Needs.{needs}
+use borrow.Author.Tests.{lt-ltb, le-ltb}
+use Rattle.model.specs.Causes.{_if_}
+use Rattle.model.specs.Records.{bitCount, judgeHeader}
+use Rattle.model.specs.Frames.{judgeHeldHeader}
+use Rattle.model.proofs.Accepted.{header-sound}
+use Rattle.stream.proofs.Refusals.{refused}
+use Rattle.stream.proofs.judge_header.Statement.{statement}
+use Rattle.stream.proofs.judge_header.Tie as tie
+
+judge-header-requires : tie.Need-judge-header-requires
+judge-header-requires c κs = search needs
+
+returns : tie.Need-returns
+unfolding judgeHeldHeader
+returns c =
+    let s = c .before .before .before .args .s .now in
+    let e = c .before .judge-header .ensures in
+    e ∙ sym (refused (judgeHeader s) (10 if ltb 512 (bitCount s) ∷ []) (λ z. c .if1 .taken (e ∙ z)))
+
+sound : (c : tie.Else1) → judgeHeader (c .before .before .before .args .s .now) ≡ 0
+sound c = sym (c .before .judge-header .ensures) ∙ c .if1 .left
+
+two-bytes-requires : tie.Need-two-bytes-requires
+two-bytes-requires c κs = omega (arith, header-sound _ (sound c) .room)
+
+returns-2 : tie.Need-returns-2
+unfolding judgeHeldHeader
+returns-2 c =
+    let e = c .before .two-bytes .ensures .0 in
+    rw (sound (c .before .before), ← e, lt-ltb 512 (c .before .two-bytes .result) (c .if2 .taken))
+
+returns-3 : tie.Need-returns-3
+unfolding judgeHeldHeader
+returns-3 c =
+    let e = c .before .two-bytes .ensures .0 in
+    rw (sound (c .before .before), ← e, le-ltb 512 (c .before .two-bytes .result) (c .if2 .left))
+
+pub judge-header-spec : {M : Type 1} → statement M
+judge-header-spec =
+    tie.close (tie.spec judge-header-requires returns two-bytes-requires returns-2 returns-3)

@@ -1,0 +1,45 @@
+-- `stream::judge_whole` meets its contract: the tests in the definition's order. Assumes nothing.
+use mathlib.Core.Path.{_≡_, sym, _∙_}
+use borrow.Author.Needs.{needs}
+use borrow.Author.Tests.{lt-ltb, le-ltb, ne-eqb}
+use lib.ListN.{length}
+use Rattle.model.specs.Records.{twoBytes}
+use Rattle.model.specs.Frames.{frameSize, judgeWhole}
+use Rattle.stream.proofs.judge_whole.Statement.{statement}
+use Rattle.stream.proofs.judge_whole.Tie as tie
+
+returns : tie.Need-returns
+unfolding judgeWhole
+returns c = rw (lt-ltb _ 2 (c .if1 .taken))
+
+two-bytes-requires : tie.Need-two-bytes-requires
+two-bytes-requires c κs = search needs
+
+returns-2 : tie.Need-returns-2
+unfolding judgeWhole
+returns-2 c = rw (le-ltb _ 2 (c .before .before .if1 .left), ne-eqb _ 0x4C46 (λ e. c .if2 .taken (c .before .two-bytes .ensures .0 ∙ e)))
+
+mul-if3 : tie.Need-mul-if3
+mul-if3 c = search needs
+
+add-if3 : tie.Need-add-if3
+add-if3 c = search needs
+
+mark : (c : tie.Else2) → twoBytes (c .before .before .before .before .args .s .now) ≡ 0x4C46
+mark c = sym (c .before .two-bytes .ensures .0) ∙ c .if2 .left
+
+returns-3 : tie.Need-returns-3
+unfolding judgeWhole
+returns-3 c =
+    let a = c .before .before .before .before .before .args in
+    rw (le-ltb _ 2 (c .before .before .before .if1 .left), mark (c .before), lt-ltb (length (a .s .now)) (frameSize (a .bits)) (c .if3 .taken))
+
+returns-4 : tie.Need-returns-4
+unfolding judgeWhole
+returns-4 c =
+    let a = c .before .before .before .before .before .args in
+    rw (le-ltb _ 2 (c .before .before .before .if1 .left), mark (c .before), le-ltb (length (a .s .now)) (frameSize (a .bits)) (c .if3 .left))
+
+pub judge-whole-spec : {M : Type 1} → statement M
+judge-whole-spec =
+    tie.close (tie.spec returns two-bytes-requires returns-2 mul-if3 add-if3 returns-3 returns-4)

@@ -1,0 +1,20 @@
+-- `stream::put` meets its contract: a piece of one byte. Assumes nothing.
+use borrow.Author.Needs.{needs}
+use Rattle.stream.proofs.Text.{one}
+use Rattle.stream.proofs.put.Statement.{statement}
+use Rattle.stream.proofs.put.Tie as tie
+
+slice-write-out : tie.Need-slice-write-out
+slice-write-out c = search needs
+
+add-result : tie.Need-add-result
+add-result c = search needs
+
+same-length : tie.Need-same-length
+same-length c = search needs
+
+returns : tie.Need-returns
+returns c = one (c .args .at) (c .args .byte) (c .args .out .now) (c .pre)
+
+pub put-spec : {M : Type 1} → statement M
+put-spec = tie.close (tie.spec slice-write-out add-result same-length returns)

@@ -1,0 +1,90 @@
+-- `stream::write_costs` meets its contract: after i turns the first i costs are written. Assumes nothing.
+use mathlib.Core.Path.{_≡_, refl, ap, _∙_}
+use Prim.Native.Nat.{_-_, _≤_}
+use native.Mathlib.Omega.{arith}
+use borrow.Author.Needs.{needs}
+use lib.ListN.{length}
+use mir.Syntax.{w16}
+use Rattle.lists.specs.Tabulated.{over}
+use Rattle.lists.proofs.Tabulated.{length-over, over-stored}
+use Rattle.model.specs.Frames.{twosComplement}
+use Rattle.stream.proofs.Costs.{costAt, costs-written}
+use Rattle.stream.proofs.write_costs.Statement.{statement}
+use Rattle.stream.proofs.write_costs.Tie as tie
+
+abbrev Inv-loop : tie.InvT-loop
+Inv-loop s bits costs₀ i₀ costs i = (i ≤ bits) × (costs ≡ over i (costAt s) costs₀)
+
+abbrev μ-loop : tie.MeasureT-loop
+μ-loop s bits costs₀ i₀ costs i = bits - i
+
+long : (l : tie.At-loop Inv-loop μ-loop) → length (l .loop .costs) ≡ length (l .before .before .args .costs .now)
+long l =
+    let a = l .before .before .args in
+    rw (l .loop .inv .1) (length-over (l .loop .i) (costAt (a .s .now)) (a .costs .now) (omega (arith, l .before .before .pre)))
+
+loop-holds : tie.Need-loop-holds Inv-loop μ-loop
+loop-holds c = (omega arith, refl)
+
+mul-two-bytes : tie.Need-mul-two-bytes Inv-loop μ-loop
+mul-two-bytes c = search needs
+
+add-two-bytes : tie.Need-add-two-bytes Inv-loop μ-loop
+add-two-bytes c = search needs
+
+two-bytes-requires : tie.Need-two-bytes-requires Inv-loop μ-loop
+two-bytes-requires c κs = search needs
+
+twos-complement-requires : tie.Need-twos-complement-requires Inv-loop μ-loop
+twos-complement-requires c κs = search needs
+
+mul-t10 : tie.Need-mul-t10 Inv-loop μ-loop
+mul-t10 c = search needs
+
+slice-set-from-costs : tie.Need-slice-set-from-costs Inv-loop μ-loop
+slice-set-from-costs c = omega (arith, long (c .before .before .before), c .before .before .before .before .before .pre)
+
+add-i : tie.Need-add-i Inv-loop μ-loop
+add-i c = search needs
+
+loop-less : tie.Need-loop-less Inv-loop μ-loop
+loop-less c = search needs
+
+loop-again : tie.Need-loop-again Inv-loop μ-loop
+loop-again c =
+    let l = c .before .before .before in
+    let s = l .before .before in (
+      omega arith,
+      rw (l .loop .inv .1)
+          (over-stored w16 (l .loop .i) (costAt (s .args .s .now)) (s .args .costs .now) (c .twos-complement .result) (omega (arith, s .pre)) (record { sfits = c .twos-complement .ok })
+          (c .twos-complement .ensures ∙ ap twosComplement (c .before .two-bytes .ensures .0))),
+    )
+
+same-length : tie.Need-same-length Inv-loop μ-loop
+same-length c = long (c .before)
+
+returns : tie.Need-returns Inv-loop μ-loop
+returns c =
+    let l = c .before in
+    let a = l .before .before .args in
+    let e : l .loop .i ≡ a .bits = omega arith in
+    l .loop .inv .1 ∙ rw e (costs-written (a .bits) (a .s .now) (a .costs .now))
+
+pub write-costs-spec : {M : Type 1} → statement M
+write-costs-spec =
+    tie.close
+    (tie.spec
+    Inv-loop
+    μ-loop
+    loop-holds
+    mul-two-bytes
+    add-two-bytes
+    two-bytes-requires
+    twos-complement-requires
+    mul-t10
+    slice-set-from-costs
+    add-i
+    loop-less
+    loop-again
+    same-length
+    returns)
