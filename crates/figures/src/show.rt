@@ -1,5 +1,5 @@
 // What is printed: a label, and the answer behind it.
-ghost use Prim.Native.Nat.{_≤_};
+ghost use mathlib.Core.Path.{_≡_};
 ghost use lib.IntN.{natAbs};
 use model::Reading;
 
@@ -76,15 +76,18 @@ fn split(label: &[u8], code: &[u8], triples: &mut [u16], counts: &mut [u16]) {
     text(b"\n");
 }
 
+// Of every number that the width holds, the lowest too, whose negative it does not hold.
 fn magnitude(x: i64) -> u64
-    requires { ⌜ natAbs x ≤ 2147483648 ⌝ }
+    ensures { λ r. ⌜ r ≡ natAbs x ⌝ }
 {
-    if x < 0 { (-x) as u64 } else { x as u64 }
+    if x < 0 {
+        (-(x + 1)) as u64 + 1
+    } else {
+        x as u64
+    }
 }
 
-fn signed(x: i64)
-    requires { ⌜ natAbs x ≤ 2147483648 ⌝ }
-{
+fn signed(x: i64) {
     if x < 0 {
         text(b" -");
     } else {
@@ -93,15 +96,11 @@ fn signed(x: i64)
     io::print_decimal(1, magnitude(x));
 }
 
-fn wide(x: i16) -> i64
-    ensures { λ r. ⌜ natAbs r ≤ 2147483648 ⌝ }
-{
+fn wide(x: i16) -> i64 {
     x as i64
 }
 
-fn wide_row(x: i32) -> i64
-    ensures { λ r. ⌜ natAbs r ≤ 2147483648 ⌝ }
-{
+fn wide_row(x: i32) -> i64 {
     x as i64
 }
 
@@ -117,6 +116,13 @@ pub fn rows(name: &[u8], l: &[i32]) {
     text(name);
     for i in 0..l.len() {
         signed(wide_row(l[i]));
+    }
+}
+
+pub fn sums(name: &[u8], l: &[i64]) {
+    text(name);
+    for i in 0..l.len() {
+        signed(l[i]);
     }
 }
 
