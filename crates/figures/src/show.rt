@@ -2,6 +2,7 @@
 ghost use mathlib.Core.Path.{_≡_};
 ghost use lib.IntN.{natAbs};
 use model::Reading;
+use model::Verdict;
 
 pub fn text(s: &[u8]) {
     io::write_all(1, s);
@@ -10,6 +11,13 @@ pub fn text(s: &[u8]) {
 pub fn number(x: usize) {
     io::write_all(1, b" ");
     io::print_decimal(1, x as u64);
+}
+
+// A number of document 01, and the bit or the check that comes with it.
+pub fn placed(cause: usize, place: usize) {
+    number(cause);
+    text(b", place");
+    number(place);
 }
 
 // A section's title.
@@ -73,6 +81,37 @@ fn split(label: &[u8], code: &[u8], triples: &mut [u16], counts: &mut [u16]) {
     number(cause as usize);
     list(b", triples", triples);
     list(b", counts", counts);
+    text(b"\n");
+}
+
+fn verdict(name: &[u8], v: Verdict) {
+    text(name);
+    match v {
+        Verdict::Codeword => {
+            placed(0, 0);
+        }
+        Verdict::Odd(check) => {
+            placed(17, check);
+        }
+        Verdict::Refused(cause) => {
+            number(cause as usize);
+        }
+    }
+}
+
+// What the codeword test says of a word, what the extension says, and the point after it: of so many entries, at most 16, each 9 before.
+pub fn extending(label: &[u8], code: &[u8], word: &[u8], room: usize) {
+    if room <= 16 {
+        let mut point = [9u8; 16];
+        extend(label, code, word, &mut point[0..room]);
+    }
+}
+
+fn extend(label: &[u8], code: &[u8], word: &[u8], point: &mut [u8]) {
+    text(label);
+    verdict(b": test", codeword::test(code, word));
+    verdict(b", extension", codeword::extend(code, word, point));
+    bits(b", point", point);
     text(b"\n");
 }
 
