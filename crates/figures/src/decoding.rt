@@ -3,7 +3,9 @@ ghost use Prim.Native.Nat.{_≤_};
 use crate::show::bits;
 use crate::show::list;
 use crate::show::number;
+use crate::show::placed;
 use crate::show::rows;
+use crate::show::sums;
 use crate::show::text;
 use crate::show::title;
 use crate::show::values;
@@ -21,9 +23,7 @@ fn settings(weight: u32, ratio: u32, limit: u32, tolerance: u32) -> Settings {
 }
 
 fn outcome(cause: usize, place: usize, ending: Ending) {
-    number(cause);
-    text(b", place");
-    number(place);
+    placed(cause, place);
     text(b", k");
     number(ending.k as usize);
     text(b", settled");
@@ -47,9 +47,10 @@ fn answer(decoding: Decoding) {
     }
 }
 
-// The decoder's answer, and the lists after it, but for the sums.
+// The decoder's answer, and the lists after it.
 fn decode(
     label: &[u8],
+    code: &[u8],
     settings: Settings,
     costs: &[i16],
     t: &mut [u16],
@@ -59,22 +60,25 @@ fn decode(
     r: &mut [i32],
     word: &mut [u8],
 ) {
-    let code = b"LH\0\x03\0\x01LC\x03\0\0\0\x01\0\x02";
     let decoding = decoder::decode(code, settings, costs, t, e, s, c, r, word);
     text(label);
     text(b":");
     answer(decoding);
     list(b", triples", t);
     list(b", counts", e);
+    sums(b", S", s);
     values(b", c", c);
     rows(b", s", r);
     bits(b", word", word);
     text(b"\n");
 }
 
-// Lists of so many entries, each 9 before.
+// Into lists of so many entries, each 9 before.
 fn within(
     label: &[u8],
+    code: &[u8],
+    settings: Settings,
+    costs: &[i16],
     triples: usize,
     counts: usize,
     sums: usize,
@@ -92,8 +96,9 @@ fn within(
     let mut w = [9u8; 5];
     decode(
         label,
-        settings(256, 0, 2, 0),
-        &[20000, 20000, 20000],
+        code,
+        settings,
+        costs,
         &mut t[0..triples],
         &mut e[0..counts],
         &mut s[0..sums],
@@ -103,25 +108,19 @@ fn within(
     );
 }
 
-// Lists with just the room, each entry 9 before.
+fn code() -> [u8; 15] {
+    *b"LH\0\x03\0\x01LC\x03\0\0\0\x01\0\x02"
+}
+
+// Into lists with just the room.
 fn example(label: &[u8], settings: Settings, costs: &[i16]) {
-    let mut t = [9u16; 3];
-    let mut e = [9u16; 3];
-    let mut s = [9i64; 3];
-    let mut c = [9i16; 3];
-    let mut r = [9i32; 4];
-    let mut w = [9u8; 3];
-    decode(
-        label,
-        settings,
-        costs,
-        &mut t,
-        &mut e,
-        &mut s,
-        &mut c,
-        &mut r,
-        &mut w,
-    );
+    let code = code();
+    within(label, &code, settings, costs, 3, 3, 3, 3, 4, 3);
+}
+
+// Into lists each of which is one entry too short.
+fn short(label: &[u8], code: &[u8], settings: Settings, costs: &[i16]) {
+    within(label, code, settings, costs, 2, 2, 2, 2, 3, 2);
 }
 
 fn frames() {
@@ -184,16 +183,51 @@ fn refused() {
     example(b"11 before 12", wild, &[1, 2]);
     example(b"11 before 13", wild, &[1, 2, -32768]);
     example(b"12 before 13", plain, &[1, -32768]);
+    let code = code();
+    short(b"11 before 10", &code, wild, &[1, 2, 3]);
+    short(b"12 before 10", &code, plain, &[1, 2]);
+    short(b"13 before 10", &code, plain, &[1, 2, -32768]);
+    let other = b"LH\0\x03\0\x01LX\x03\0\0\0\x01\0\x02";
+    short(b"2 before 11, 12, 13 and 10", other, wild, &[1, -32768]);
+}
+
+// Frame 3, into lists of so many entries.
+fn frame_3(
+    label: &[u8],
+    triples: usize,
+    counts: usize,
+    sums: usize,
+    values: usize,
+    rows: usize,
+    word: usize,
+)
+    requires { ⌜ (triples ≤ 5) × (counts ≤ 5) × (sums ≤ 5) × (values ≤ 5) × (rows ≤ 5) × (word ≤ 5) ⌝ }
+{
+    let code = code();
+    let plain = settings(256, 0, 2, 0);
+    let costs = [20000i16, 20000, 20000];
+    within(
+        label,
+        &code,
+        plain,
+        &costs,
+        triples,
+        counts,
+        sums,
+        values,
+        rows,
+        word,
+    );
 }
 
 fn lengths() {
-    within(b"longer lists", 4, 5, 4, 5, 5, 4);
-    within(b"triples short", 2, 3, 3, 3, 4, 3);
-    within(b"counts short", 3, 2, 3, 3, 4, 3);
-    within(b"S short", 3, 3, 2, 3, 4, 3);
-    within(b"c short", 3, 3, 3, 2, 4, 3);
-    within(b"s short", 3, 3, 3, 3, 3, 3);
-    within(b"word short", 3, 3, 3, 3, 4, 2);
+    frame_3(b"longer lists", 4, 5, 4, 5, 5, 4);
+    frame_3(b"triples short", 2, 3, 3, 3, 4, 3);
+    frame_3(b"counts short", 3, 2, 3, 3, 4, 3);
+    frame_3(b"S short", 3, 3, 2, 3, 4, 3);
+    frame_3(b"c short", 3, 3, 3, 2, 4, 3);
+    frame_3(b"s short", 3, 3, 3, 3, 3, 3);
+    frame_3(b"word short", 3, 3, 3, 3, 4, 2);
 }
 
 pub fn run() {

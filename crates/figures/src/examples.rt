@@ -5,11 +5,12 @@ use crate::codes;
 use crate::show;
 
 // What is done with the bytes: the reader reads them, or reads them behind 8,193 triples on the first 32 of so many bits; or they are split
-// into lists of so many entries.
+// into lists of so many entries; or a word with one entry, 2, is tested and extended to a point of one entry.
 pub enum Example {
     Reading,
     ManyTriples(usize),
     Splitting(usize, usize),
+    Extending,
 }
 
 fn one(label: &[u8], bytes: &[u8], example: Example) {
@@ -24,6 +25,9 @@ fn one(label: &[u8], bytes: &[u8], example: Example) {
         }
         Example::Splitting(triples, counts) => {
             show::splitting(label, bytes, triples, counts);
+        }
+        Example::Extending => {
+            show::extending(label, bytes, &[2], 1);
         }
     }
 }

@@ -1,6 +1,7 @@
 // The figures of document 01 that are not marked for proof: each run by the library and printed, a line each. The stored output is what
 // they should be. A section is a module with a function `run`.
 mod codes;
+mod codewords;
 mod decoding;
 mod examples;
 mod front;
@@ -14,5 +15,6 @@ fn main() {
     splitting::run();
     front::run();
     reflection::run();
+    codewords::run();
     decoding::run();
 }

@@ -1,7 +1,8 @@
 // What is printed: a label, and the answer behind it.
-ghost use Prim.Native.Nat.{_≤_};
+ghost use mathlib.Core.Path.{_≡_};
 ghost use lib.IntN.{natAbs};
 use model::Reading;
+use model::Verdict;
 
 pub fn text(s: &[u8]) {
     io::write_all(1, s);
@@ -10,6 +11,13 @@ pub fn text(s: &[u8]) {
 pub fn number(x: usize) {
     io::write_all(1, b" ");
     io::print_decimal(1, x as u64);
+}
+
+// A number of document 01, and the bit or the check that comes with it.
+pub fn placed(cause: usize, place: usize) {
+    number(cause);
+    text(b", place");
+    number(place);
 }
 
 // A section's title.
@@ -76,15 +84,49 @@ fn split(label: &[u8], code: &[u8], triples: &mut [u16], counts: &mut [u16]) {
     text(b"\n");
 }
 
-fn magnitude(x: i64) -> u64
-    requires { ⌜ natAbs x ≤ 2147483648 ⌝ }
-{
-    if x < 0 { (-x) as u64 } else { x as u64 }
+fn verdict(name: &[u8], v: Verdict) {
+    text(name);
+    match v {
+        Verdict::Codeword => {
+            placed(0, 0);
+        }
+        Verdict::Odd(check) => {
+            placed(17, check);
+        }
+        Verdict::Refused(cause) => {
+            number(cause as usize);
+        }
+    }
 }
 
-fn signed(x: i64)
-    requires { ⌜ natAbs x ≤ 2147483648 ⌝ }
+// What the codeword test says of a word, what the extension says, and the point after it: of so many entries, at most 16, each 9 before.
+pub fn extending(label: &[u8], code: &[u8], word: &[u8], room: usize) {
+    if room <= 16 {
+        let mut point = [9u8; 16];
+        extend(label, code, word, &mut point[0..room]);
+    }
+}
+
+fn extend(label: &[u8], code: &[u8], word: &[u8], point: &mut [u8]) {
+    text(label);
+    verdict(b": test", codeword::test(code, word));
+    verdict(b", extension", codeword::extend(code, word, point));
+    bits(b", point", point);
+    text(b"\n");
+}
+
+// Of every number that the width holds, the lowest too, whose negative it does not hold.
+fn magnitude(x: i64) -> u64
+    ensures { λ r. ⌜ r ≡ natAbs x ⌝ }
 {
+    if x < 0 {
+        (-(x + 1)) as u64 + 1
+    } else {
+        x as u64
+    }
+}
+
+fn signed(x: i64) {
     if x < 0 {
         text(b" -");
     } else {
@@ -93,15 +135,11 @@ fn signed(x: i64)
     io::print_decimal(1, magnitude(x));
 }
 
-fn wide(x: i16) -> i64
-    ensures { λ r. ⌜ natAbs r ≤ 2147483648 ⌝ }
-{
+fn wide(x: i16) -> i64 {
     x as i64
 }
 
-fn wide_row(x: i32) -> i64
-    ensures { λ r. ⌜ natAbs r ≤ 2147483648 ⌝ }
-{
+fn wide_row(x: i32) -> i64 {
     x as i64
 }
 
@@ -117,6 +155,13 @@ pub fn rows(name: &[u8], l: &[i32]) {
     text(name);
     for i in 0..l.len() {
         signed(wide_row(l[i]));
+    }
+}
+
+pub fn sums(name: &[u8], l: &[i64]) {
+    text(name);
+    for i in 0..l.len() {
+        signed(l[i]);
     }
 }
 

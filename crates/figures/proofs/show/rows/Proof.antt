@@ -3,8 +3,6 @@ use mathlib.Core.Path.{_≡_}
 use Prim.Native.Nat.{_-_}
 use native.Mathlib.Omega.{arith}
 use lib.ListN.{length}
-use mir.Syntax.{w64}
-use Rattle.integers.proofs.Machine.{held, within-raw}
 use Rattle.figures.proofs.show.rows.Statement.{statement}
 use Rattle.figures.proofs.show.rows.Tie as tie
 
@@ -30,7 +28,7 @@ wide-row-requires : tie.Need-wide-row-requires Inv-loop μ-loop
 wide-row-requires c κs = tt
 
 signed-requires : tie.Need-signed-requires Inv-loop μ-loop
-signed-requires c κs = within-raw (held w64 (c .wide-row .result) 2147483648 tt (c .wide-row .ensures))
+signed-requires c κs = tt
 
 add-i : tie.Need-add-i Inv-loop μ-loop
 add-i c = omega arith

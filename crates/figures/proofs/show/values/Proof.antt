@@ -3,8 +3,6 @@ use mathlib.Core.Path.{_≡_}
 use Prim.Native.Nat.{_-_}
 use native.Mathlib.Omega.{arith}
 use lib.ListN.{length}
-use mir.Syntax.{w64}
-use Rattle.integers.proofs.Machine.{held, within-raw}
 use Rattle.figures.proofs.show.values.Statement.{statement}
 use Rattle.figures.proofs.show.values.Tie as tie
 
@@ -30,7 +28,7 @@ wide-requires : tie.Need-wide-requires Inv-loop μ-loop
 wide-requires c κs = tt
 
 signed-requires : tie.Need-signed-requires Inv-loop μ-loop
-signed-requires c κs = within-raw (held w64 (c .wide .result) 2147483648 tt (c .wide .ensures))
+signed-requires c κs = tt
 
 add-i : tie.Need-add-i Inv-loop μ-loop
 add-i c = omega arith

@@ -1,20 +1,15 @@
 -- `figures::show::wide_row` meets its contract. Assumes nothing.
-use mathlib.Core.Path.{refl}
-use native.Mathlib.Omega.{arith}
-use mir.Syntax.{w32, w64}
-use mir.Val.{toZ, ofZ}
-use Rattle.integers.proofs.Machine.{abs-fits, Worth, fits, stored, within-raw, local}
+use mir.Syntax.{w32}
+use mir.Facts.{toZ-ofZ}
+use Rattle.integers.proofs.Machine.{widen}
 use Rattle.figures.proofs.show.wide_row.Statement.{statement}
 use Rattle.figures.proofs.show.wide_row.Tie as tie
 
-value : (s : tie.Start) → Worth (toZ w32 (ofZ w32 (s .args .x))) (s .args .x) 2147483648
-value s = local w32 2147483648 (s .fits .x .sfits) refl (abs-fits {w = w32} (s .fits .x))
-
 cast-result : tie.Need-cast-result
-cast-result c = fits (value c) w64 tt
+cast-result c = rw (toZ-ofZ (c .fits .x)) (widen {w = w32} (c .fits .x) tt)
 
 returns : tie.Need-returns
-returns c = omega (arith, within-raw (stored (value c) w64 tt))
+returns c = tt
 
 pub wide-row-spec : {M : Type 1} → statement M
 wide-row-spec = tie.close (tie.spec cast-result returns)
