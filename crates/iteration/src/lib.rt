@@ -142,54 +142,11 @@ fn divide(num: i64, count: usize, ratio: u32, inverses: &[u64]) -> i16
     }
 }
 
-// c of a variable that lies in `count` triples.
-fn value(sum: i64, cost: i16, count: usize, weight: u32, ratio: u32, inverses: &[u64]) -> i16
-    requires { ⌜ (natAbs sum ≤ 2 ^ 40) × (natAbs cost ≤ 32767) × (natAbs (Iteration.numerator weight sum cost) ≤ 2 ^ 48) × (1 ≤ count) × (count ≤ 2048) ⌝ }
-    requires { ⌜ (weight ≤ 65535) × (ratio ≤ 1023) × (length (now inverses) ≤ 63) × (now inverses ≡ inversesOf ratio (length (now inverses))) ⌝ }
-    ensures { λ c. ⌜ c ≡ quotient (Iteration.numerator weight sum cost) (Iteration.divisor (4 * count) ratio) ⌝ }
+// The cost of a variable: an auxiliary's is 0.
+fn cost_of(costs: &[i16], v: usize) -> i16
+    ensures { λ r. ⌜ r ≡ at (now (costs .entry)) v ⌝ }
 {
-    divide(numerator(weight, sum, cost), count, ratio, inverses)
-}
-
-// The values of the bits.
-fn renew_bits(
-    sums: &[i64],
-    counts: &[u16],
-    costs: &[i16],
-    weight: u32,
-    ratio: u32,
-    inverses: &[u64],
-    values: &mut [i16],
-)
-    requires { ⌜ (length (now sums) ≡ length (now values)) × (length (now counts) ≡ length (now values)) × (length (now costs) ≡ length (now values)) ⌝ }
-    requires { ⌜ ((v : ℕ) → v < length (now values) → (natAbs (at (now sums) v) ≤ 2 ^ 40) × (natAbs (at (now costs) v) ≤ 32767)
-        × (natAbs (Iteration.numerator weight (at (now sums) v) (at (now costs) v)) ≤ 2 ^ 48) × (1 ≤ getD (now counts) v 0) × (getD (now counts) v 0 ≤ 2048)) ⌝ }
-    requires { ⌜ (weight ≤ 65535) × (ratio ≤ 1023) × (length (now inverses) ≤ 63) × (now inverses ≡ inversesOf ratio (length (now inverses))) ⌝ }
-    ensures { λ _. ⌜ now (values .exit) ≡ tab (length (now (values .entry))) (λ v.
-        quotient (Iteration.numerator weight (at (now (sums .entry)) v) (at (now (costs .entry)) v)) (Iteration.divisor (4 * getD (now (counts .entry)) v 0) ratio)) ⌝ }
-{
-    let n = costs.len();
-    let mut v = 0;
-    while v < n {
-        values[v] = value(sums[v], costs[v], index(counts[v]), weight, ratio, inverses);
-        v += 1;
-    }
-}
-
-// The values of auxiliaries: their cost is 0, and each lies in two triples.
-fn renew_auxiliaries(sums: &[i64], weight: u32, ratio: u32, inverses: &[u64], values: &mut [i16])
-    requires { ⌜ (length (now sums) ≡ length (now values)) × ((v : ℕ) → v < length (now values) → (natAbs (at (now sums) v) ≤ 2 ^ 40)
-        × (natAbs (Iteration.numerator weight (at (now sums) v) (pos 0)) ≤ 2 ^ 48)) ⌝ }
-    requires { ⌜ (weight ≤ 65535) × (ratio ≤ 1023) × (length (now inverses) ≤ 63) × (now inverses ≡ inversesOf ratio (length (now inverses))) ⌝ }
-    ensures { λ _. ⌜ now (values .exit) ≡ tab (length (now (values .entry))) (λ v.
-        quotient (Iteration.numerator weight (at (now (sums .entry)) v) (pos 0)) (Iteration.divisor (4 * 2) ratio)) ⌝ }
-{
-    let n = values.len();
-    let mut v = 0;
-    while v < n {
-        values[v] = value(sums[v], 0, 2, weight, ratio, inverses);
-        v += 1;
-    }
+    if v < costs.len() { costs[v] } else { 0 }
 }
 
 // "First every c is renewed"
@@ -202,25 +159,20 @@ fn renew_values(
     inverses: &[u64],
     values: &mut [i16],
 )
-    requires { ⌜ (length (now sums) ≡ length (now values)) × (length (now counts) ≡ length (now values)) × (length (now costs) ≤ length (now values)) ⌝ }
+    requires { ⌜ (length (now sums) ≡ length (now values)) × (length (now counts) ≡ length (now values)) × (weight ≤ 65535) × (ratio ≤ 1023) ⌝ }
     requires { ⌜ ((v : ℕ) → v < length (now values) → (natAbs (at (now sums) v) ≤ 2 ^ 40) × (natAbs (at (now costs) v) ≤ 32767)
         × (natAbs (Iteration.numerator weight (at (now sums) v) (at (now costs) v)) ≤ 2 ^ 48) × (1 ≤ getD (now counts) v 0) × (getD (now counts) v 0 ≤ 2048)) ⌝ }
-    requires { ⌜ ((v : ℕ) → length (now costs) ≤ v → v < length (now values) → getD (now counts) v 0 ≡ 2) ⌝ }
-    requires { ⌜ (weight ≤ 65535) × (ratio ≤ 1023) × (length (now inverses) ≤ 63) × (now inverses ≡ inversesOf ratio (length (now inverses))) ⌝ }
+    requires { ⌜ (length (now inverses) ≤ 63) × (now inverses ≡ inversesOf ratio (length (now inverses))) ⌝ }
     ensures { λ _. ⌜ now (values .exit) ≡ tab (length (now (values .entry))) (λ v.
         quotient (Iteration.numerator weight (at (now (sums .entry)) v) (at (now (costs .entry)) v)) (Iteration.divisor (4 * getD (now (counts .entry)) v 0) ratio)) ⌝ }
 {
-    let n = costs.len();
-    renew_bits(
-        &sums[..n],
-        &counts[..n],
-        costs,
-        weight,
-        ratio,
-        inverses,
-        &mut values[..n],
-    );
-    renew_auxiliaries(&sums[n..], weight, ratio, inverses, &mut values[n..]);
+    let n = values.len();
+    let mut v = 0;
+    while v < n {
+        let num = numerator(weight, sums[v], cost_of(costs, v));
+        values[v] = divide(num, index(counts[v]), ratio, inverses);
+        v += 1;
+    }
 }
 
 // ---- s

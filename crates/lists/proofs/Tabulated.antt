@@ -110,14 +110,6 @@ module _ {ℓ} {A : Type ℓ} where
   pub over-whole : (n : ℕ) (f : ℕ → A) (old : List A) → length old ≤ n → over n f old ≡ tab n f
   over-whole n f old h = rw (drop-of-length-le old h) (append-nil (tab n f))
 
-  -- two lists, one behind the other
-  pub tab-append : (n m : ℕ) (f : ℕ → A) → tab n f ++ tab m (λ i. f (n + i)) ≡ tab (n + m) f
-  tab-append zero m f = let e : 0 + m ≡ m = omega arith in tab-same m (λ i. f (0 + i)) f (λ i l. ap f (omega arith)) ∙ ap (λ (k : ℕ). tab k f) (sym e)
-  tab-append (suc n) m f =
-      let e : suc n + m ≡ suc (n + m) = omega arith in
-      ap (_∷_ (f 0)) (ap (λ (l : List A). tab n (λ k. f (suc k)) ++ l) (tab-same m (λ i. f (suc n + i)) (λ i. f (suc (n + i))) (λ i l. ap f (omega arith))) ∙ tab-append n m (λ k. f (suc k)))
-      ∙ ap (λ (k : ℕ). tab k f) (sym e)
-
   -- ---- written
   pub tab-over : (n N : ℕ) (f g h : ℕ → A) → n ≤ N → ((i : ℕ) → i < n → f i ≡ h i) → ((i : ℕ) → n ≤ i → g i ≡ h i) → over n f (tab N g) ≡ tab N h
   tab-over zero N f g h l p q = tab-same N g h (λ i k. q i (omega arith))

@@ -65,7 +65,7 @@ renew-values-requires : tie.Need-renew-values-requires
 renew-values-requires c κs =
     let m = c .before .before .before in
     let s = first m in (
-      (sums-length m, count-length s, is-ready s .bits),
+      (sums-length m, count-length s, is-ready s .weight, is-ready s .ratio),
       (
         λ v h. (
           rw (sums-are m) (omega (arith, bound s .sums v)),
@@ -74,7 +74,7 @@ renew-values-requires c κs =
           rw (count-is s v h) (is-ready s .some v h),
           rw (count-is s v h) (is-ready s .few v),
         ),
-        (λ v l h. count-is s v h ∙ is-ready s .auxiliary v l h, (is-ready s .weight, is-ready s .ratio, s .pre .1 .1, s .pre .1 .2)),
+        (s .pre .1 .1, s .pre .1 .2),
       ),
     )
 

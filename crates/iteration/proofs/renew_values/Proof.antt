@@ -1,174 +1,138 @@
--- `iteration::renew_values` meets its contract: the bits, and behind them the auxiliaries. Assumes nothing.
-use mathlib.Core.List.{List, [], _++_, append-nil}
+-- `iteration::renew_values` meets its contract: the first v values are renewed. Assumes nothing.
+use mathlib.Core.List.{List}
 use mathlib.Core.Path.{_≡_, refl, sym, ap, ap₂, _∙_}
-use Prim.Native.Nat.{ℕ, _+_, _-_, _*_, _≤_, _<_}
+use Prim.Native.Nat.{ℕ, _-_, _*_, _^_, _≤_, _<_}
+use native.Mathlib.Numerals.{add-one}
 use native.Mathlib.Omega.{arith}
 use borrow.Author.Needs.{needs}
-use lib.IntN.{ℤ, pos}
-use lib.ListN.{length, getD, take, drop, length-append, length-drop, drop-of-length-le, List·getD-eq-default}
-use lib.Seq.{length-take-le, getD-take, getD-drop, take-at, drop-at}
-use Rattle.lists.specs.Tabulated.{tab}
-use Rattle.lists.proofs.Parts.{part-from}
-use Rattle.lists.proofs.Tabulated.{length-tab, tab-same, tab-append}
+use lib.IntN.{ℤ}
+use lib.ListN.{length, getD}
+use mir.Syntax.{w16, w64}
+use mir.Val.{toZ, ofZ}
+use Rattle.integers.proofs.Machine.{Worth, read-back, local, held}
+use Rattle.lists.specs.Tabulated.{over}
+use Rattle.lists.proofs.Tabulated.{length-over, over-next, over-whole}
 use Rattle.quotient.specs.Quotient.{quotient}
 use Rattle.model.specs.Iteration.{at, numerator, divisor}
 use Rattle.iteration.proofs.renew_values.Statement.{statement}
 use Rattle.iteration.proofs.renew_values.Tie as tie
 
--- a list whose first n entries came back as a, and then those behind them as k
-filled : (n : ℕ) (f : ℕ → ℤ) (old a k : List ℤ) → n ≤ length old → a ≡ tab n f → k ≡ tab (length old - n) (λ i. f (n + i))
-    → let s = a ++ drop n old in take n s ++ (k ++ drop (length s - n) (drop n s)) ≡ tab (length old) f
-filled n f old a k h e w =
-    let long : length a ≡ n = ap length e ∙ length-tab n f in
-    let whole : length (a ++ drop n old) ≡ length old = length-append a (drop n old) ∙ omega (arith, long, length-drop n old) in
-    let all : n + (length old - n) ≡ length old = omega arith in
-    let none : drop (length old - n) (drop n old) ≡ [] = drop-of-length-le (drop n old) {i = length old - n} (omega (arith, length-drop n old)) in
-    rw (whole, take-at a (drop n old) n long, drop-at a (drop n old) n long, none, append-nil k, e, w)
-    (tab-append n (length old - n) f ∙ ap (λ (m : ℕ). tab m f) all)
+abbrev valueAt : List ℤ → List ℕ → List ℤ → ℕ → ℕ → ℕ → ℤ
+valueAt sums counts costs weight ratio v = quotient (numerator weight (at sums v) (at costs v)) (divisor (4 * getD counts v 0) ratio)
 
-module _ (s : tie.Start) where
-  abbrev n : ℕ
-  n = length (s .args .costs .now)
+abbrev Inv-loop : tie.InvT-loop
+Inv-loop sums counts costs weight ratio inverses values₀ n v₀ values v = (v ≤ length values₀) × (values ≡ over v (valueAt sums counts costs weight ratio) values₀)
 
-  abbrev f : ℕ → ℤ
-  f v = quotient (numerator (s .args .weight) (at (s .args .sums .now) v) (at (s .args .costs .now) v)) (divisor (4 * getD (s .args .counts .now) v 0) (s .args .ratio))
+abbrev μ-loop : tie.MeasureT-loop
+μ-loop sums counts costs weight ratio inverses values₀ n v₀ values v = length values₀ - v
 
-  fits-in : {A : Type 0} (l : List A) → length l ≡ length (s .args .values .now) → length (take n l) ≡ n
-  fits-in l e = length-take-le n l (omega (arith, e, s .pre .0 .2))
+loop-holds : tie.Need-loop-holds Inv-loop μ-loop
+loop-holds c = (omega arith, refl)
 
-  -- ---- the bits
-  abbrev bit : ℕ → ℤ
-  bit v = quotient (numerator (s .args .weight) (at (take n (s .args .sums .now)) v) (at (s .args .costs .now) v)) (divisor (4 * getD (take n (s .args .counts .now)) v 0) (s .args .ratio))
+abbrev start : tie.At-loop Inv-loop μ-loop → tie.Start Inv-loop μ-loop
+start c = c .before .before .before
 
-  bit-is : (v : ℕ) → v < n → bit v ≡ f v
-  bit-is v h =
-      ap₂ (λ (z : ℤ) (m : ℕ). quotient (numerator (s .args .weight) z (at (s .args .costs .now) v)) (divisor (4 * m) (s .args .ratio))) (getD-take n (s .args .sums .now) v (pos 0) h) (getD-take n (s .args .counts .now) v 0 h)
+abbrev f : tie.At-loop Inv-loop μ-loop → ℕ → ℤ
+f c = let s = start c in valueAt (s .args .sums .now) (s .args .counts .now) (s .args .costs .now) (s .args .weight) (s .args .ratio)
 
-  -- ---- the auxiliaries
-  sum-behind : (i : ℕ) → at (take (length (s .args .sums .now) - n) (drop n (s .args .sums .now))) i ≡ at (s .args .sums .now) (n + i)
-  sum-behind i = ap (λ (l : List ℤ). at l i) (part-from n (s .args .sums .now)) ∙ getD-drop n (s .args .sums .now) i (pos 0)
+long : (c : tie.At-loop Inv-loop μ-loop) → length (c .loop .values) ≡ length (start c .args .values .now)
+long c = ap length (c .loop .inv .1) ∙ length-over (c .loop .v) (f c) (start c .args .values .now) (c .loop .inv .0)
 
-  no-cost : (i : ℕ) → at (s .args .costs .now) (n + i) ≡ pos 0
-  no-cost i = List·getD-eq-default (s .args .costs .now) (pos 0) (omega arith)
+-- ---- the numerator
+mul-numerator : tie.Need-mul-numerator Inv-loop μ-loop
+mul-numerator c = let h : c .before .loop .v < length (start (c .before) .args .sums .now) = omega (arith, start (c .before) .pre .0) in search needs
 
-  abbrev auxiliary : ℕ → ℤ
-  auxiliary i = quotient (numerator (s .args .weight) (at (take (length (s .args .sums .now) - n) (drop n (s .args .sums .now))) i) (pos 0)) (divisor (4 * 2) (s .args .ratio))
+shared-slice-copy-out-numerator : tie.Need-shared-slice-copy-out-numerator Inv-loop μ-loop
+shared-slice-copy-out-numerator c = let s = start (c .before) in omega (arith, s .pre .0)
 
-  auxiliary-is : (i : ℕ) → i < length (s .args .values .now) - n → auxiliary i ≡ f (n + i)
-  auxiliary-is i h =
-      ap₂ (λ (y z : ℤ). quotient (numerator (s .args .weight) y z) (divisor (4 * 2) (s .args .ratio))) (sum-behind i) (sym (no-cost i))
-      ∙ ap (λ (m : ℕ). quotient (numerator (s .args .weight) (at (s .args .sums .now) (n + i)) (at (s .args .costs .now) (n + i))) (divisor (4 * m) (s .args .ratio))) (sym (s .pre .1 .1 .0 (n + i) (omega arith) (omega arith)))
+cost-of-requires : tie.Need-cost-of-requires Inv-loop μ-loop
+cost-of-requires c κs = search needs
 
-slice-aggregate-renew-bits : tie.Need-slice-aggregate-renew-bits
-slice-aggregate-renew-bits c = let s = c .before .before .before in sym (fits-in s (s .args .sums .now) (s .pre .0 .0))
+sum-is : (l : tie.At-loop Inv-loop μ-loop) → l .loop .v < length (start l .args .values .now) → Worth (toZ w64 (ofZ w64 (at (start l .args .sums .now) (l .loop .v)))) (at (start l .args .sums .now) (l .loop .v)) (2 ^ 40)
+sum-is l h = held w64 (at (start l .args .sums .now) (l .loop .v)) (2 ^ 40) tt (start l .pre .1 .0 (l .loop .v) h .0)
 
-slice-aggregate-renew-bits-2 : tie.Need-slice-aggregate-renew-bits-2
-slice-aggregate-renew-bits-2 c = let s = c .before .before .before .before in sym (fits-in s (s .args .counts .now) (s .pre .0 .1))
+cost-is : (c : tie.After-cost-of Inv-loop μ-loop) → Worth (toZ w16 (ofZ w16 (c .cost-of .result))) (at (start (c .before .before .before) .args .costs .now) (c .before .before .before .loop .v)) 32767
+cost-is c = let l = c .before .before .before in local w16 32767 (c .cost-of .ok) (c .cost-of .ensures) (start l .pre .1 .0 (l .loop .v) (omega arith) .1)
 
-slice-relend-prefix-renew-bits : tie.Need-slice-relend-prefix-renew-bits
-slice-relend-prefix-renew-bits c = search needs
+numerator-requires : tie.Need-numerator-requires Inv-loop μ-loop
+numerator-requires c κs =
+    let l = c .before .before .before in
+    let p = start l .pre .1 .0 (l .loop .v) (omega arith) in
+    rw (sum-is l (omega arith) .is, cost-is c .is) (start l .pre .0 .2, p .0, p .1)
 
-slice-aggregate-renew-bits-3 : tie.Need-slice-aggregate-renew-bits-3
-slice-aggregate-renew-bits-3 c = let s = c .before .before .before .before .before in sym (fits-in s (s .args .values .now) refl)
+num-is : (c : tie.After-numerator Inv-loop μ-loop) → let l = c .before .before .before .before in
+    toZ w64 (ofZ w64 (c .numerator .result)) ≡ numerator (start l .args .weight) (at (start l .args .sums .now) (l .loop .v)) (at (start l .args .costs .now) (l .loop .v))
+num-is c =
+    let l = c .before .before .before .before in
+    read-back w64 (c .numerator .ok) (c .numerator .ensures ∙ ap₂ (numerator (start l .args .weight)) (sum-is l (omega arith) .is) (cost-is (c .before) .is))
 
-renew-bits-requires : tie.Need-renew-bits-requires
-renew-bits-requires c κs =
-    let s = c .before .before .before .before .before in
-    let e = fits-in s (s .args .values .now) refl in (
-      (fits-in s (s .args .sums .now) (s .pre .0 .0) ∙ sym e, fits-in s (s .args .counts .now) (s .pre .0 .1) ∙ sym e, sym e),
-      (
-        λ v h.
-            let l : v < n s = omega (arith, e) in
-            rw (getD-take (n s) (s .args .sums .now) v (pos 0) l, getD-take (n s) (s .args .counts .now) v 0 l) (s .pre .1 .0 v (omega (arith, s .pre .0 .2))),
-        s .pre .1 .1 .1,
-      ),
-    )
+-- ---- the divisor
+mul-index : tie.Need-mul-index Inv-loop μ-loop
+mul-index c = let l = c .before .before .before .before in let h : l .loop .v < length (start l .args .counts .now) = omega (arith, start l .pre .0) in search needs
 
-mul-renew-auxiliaries : tie.Need-mul-renew-auxiliaries
-mul-renew-auxiliaries c = search needs
+shared-slice-read-index : tie.Need-shared-slice-read-index Inv-loop μ-loop
+shared-slice-read-index c = let s = start (c .before .before .before .before .before) in omega (arith, s .pre .0)
 
-sub-renew-auxiliaries : tie.Need-sub-renew-auxiliaries
-sub-renew-auxiliaries c = search needs
+index-requires : tie.Need-index-requires Inv-loop μ-loop
+index-requires c κs = search needs
 
-part-renew-auxiliaries-start : tie.Need-part-renew-auxiliaries-start
-part-renew-auxiliaries-start c = search needs
+divide-requires : tie.Need-divide-requires Inv-loop μ-loop
+divide-requires c κs =
+    let m = c .before .before in
+    let l = m .before .before .before .before in
+    let p = start l .pre .1 .0 (l .loop .v) (omega arith) in
+    rw (num-is m, c .index .ensures) ((p .2, p .3, p .4, start l .pre .0 .3), start l .pre .1 .1)
 
-part-renew-auxiliaries-end : tie.Need-part-renew-auxiliaries-end
-part-renew-auxiliaries-end c = search needs
+mul-t19 : tie.Need-mul-t19 Inv-loop μ-loop
+mul-t19 c = let l = c .before .before .before .before .before .before .before in let h : l .loop .v < length (l .loop .values) = omega (arith, long l) in search needs
 
-mul-renew-auxiliaries-2 : tie.Need-mul-renew-auxiliaries-2
-mul-renew-auxiliaries-2 c = search needs
+slice-set-from-values : tie.Need-slice-set-from-values Inv-loop μ-loop
+slice-set-from-values c = let l = c .before .before .before .before .before .before .before in omega (arith, long l)
 
-sub-renew-auxiliaries-2 : tie.Need-sub-renew-auxiliaries-2
-sub-renew-auxiliaries-2 c = search needs
+add-v : tie.Need-add-v Inv-loop μ-loop
+add-v c = omega arith
 
-part-renew-auxiliaries-start-2 : tie.Need-part-renew-auxiliaries-start-2
-part-renew-auxiliaries-start-2 c = search needs
+loop-less : tie.Need-loop-less Inv-loop μ-loop
+loop-less c = omega arith
 
-part-renew-auxiliaries-end-2 : tie.Need-part-renew-auxiliaries-end-2
-part-renew-auxiliaries-end-2 c = search needs
+loop-again : tie.Need-loop-again Inv-loop μ-loop
+loop-again c =
+    let m = c .before .before .before in
+    let l = m .before .before .before .before in
+    let s = start l in
+    let v = l .loop .v in
+    let e : toZ w16 (ofZ w16 (c .divide .result)) ≡ f l v = read-back w16 (c .divide .ok) (c .divide .ensures
+    ∙ ap₂ (λ (x : ℤ) (n : ℕ). quotient x (divisor (4 * n) (s .args .ratio))) (num-is m) (c .before .index .ensures)) in
+    (omega arith, rw (add-one v, l .loop .inv .1) (over-next v (f l) (s .args .values .now) _ (omega arith) (sym e)))
 
-module _ (b : tie.After-renew-bits) where
-  abbrev first : tie.Start
-  first = b .before .before .before .before .before .before
+same-length : tie.Need-same-length Inv-loop μ-loop
+same-length c = long (c .before)
 
-  abbrev bits : List ℤ
-  bits = b .renew-bits .last .1 .1 .1 .1 .1 .1 .0
-
-  bits-are : bits ≡ tab (n first) (f first)
-  bits-are =
-      b .renew-bits .ensures ∙ ap (λ (m : ℕ). tab m (bit first)) (fits-in first (first .args .values .now) refl) ∙ tab-same (n first) (bit first) (f first) (bit-is first)
-
-  -- what is lent then: as many as there are auxiliaries
-  behind : length (take (length (bits ++ drop (n first) (first .args .values .now)) - n first) (drop (n first) (bits ++ drop (n first) (first .args .values .now)))) ≡ length (first .args .values .now) - n first
-  behind =
-      let old = first .args .values .now in
-      let long : length bits ≡ n first = ap length bits-are ∙ length-tab (n first) (f first) in
-      ap length (part-from (n first) (bits ++ drop (n first) old)) ∙ ap length (drop-at bits (drop (n first) old) (n first) long) ∙ length-drop (n first) old
-
-renew-auxiliaries-requires : tie.Need-renew-auxiliaries-requires
-renew-auxiliaries-requires c κs =
-    let b = c .before .before .before in
-    let s = first b in
-    let sums : length (take (length (s .args .sums .now) - n s) (drop (n s) (s .args .sums .now))) ≡ length (s .args .sums .now) - n s = ap length (part-from (n s) (s .args .sums .now)) ∙ length-drop (n s) (s .args .sums .now) in (
-      (
-        sums ∙ ap (λ (m : ℕ). m - n s) (s .pre .0 .0) ∙ sym (behind b),
-        λ v h.
-            let p = s .pre .1 .0 (n s + v) (omega (arith, behind b)) in
-            rw (sum-behind s v) (p .0, rw (no-cost s v) at (p .2)),
-      ),
-      s .pre .1 .1 .1,
-    )
-
-same-length : tie.Need-same-length
-same-length c = search needs
-
-returns : tie.Need-returns
+returns : tie.Need-returns Inv-loop μ-loop
 returns c =
-    let b = c .before .before .before .before .before in
-    let s = first b in
-    let old = s .args .values .now in
-    let behind-is : c .before .renew-auxiliaries .last .1 .1 .1 .1 .0 ≡ tab (length old - n s) (λ i. f s (n s + i))
-    = c .before .renew-auxiliaries .ensures ∙ ap (λ (m : ℕ). tab m (auxiliary s)) (behind b) ∙ tab-same (length old - n s) (auxiliary s) (λ i. f s (n s + i)) (auxiliary-is s) in
-    filled (n s) (f s) old (bits b) (c .before .renew-auxiliaries .last .1 .1 .1 .1 .0) (s .pre .0 .2) (bits-are b) behind-is
+    let l = c .before in
+    let e : l .loop .v ≡ length (start l .args .values .now) = omega arith in
+    l .loop .inv .1 ∙ rw e (over-whole (length (start l .args .values .now)) (f l) (start l .args .values .now) (omega arith))
 
 pub renew-values-spec : {M : Type 1} → statement M
 renew-values-spec =
     tie.close
     (tie.spec
-    slice-aggregate-renew-bits
-    slice-aggregate-renew-bits-2
-    slice-relend-prefix-renew-bits
-    slice-aggregate-renew-bits-3
-    renew-bits-requires
-    mul-renew-auxiliaries
-    sub-renew-auxiliaries
-    part-renew-auxiliaries-start
-    part-renew-auxiliaries-end
-    mul-renew-auxiliaries-2
-    sub-renew-auxiliaries-2
-    part-renew-auxiliaries-start-2
-    part-renew-auxiliaries-end-2
-    renew-auxiliaries-requires
+    Inv-loop
+    μ-loop
+    loop-holds
+    mul-numerator
+    shared-slice-copy-out-numerator
+    cost-of-requires
+    numerator-requires
+    mul-index
+    shared-slice-read-index
+    index-requires
+    divide-requires
+    mul-t19
+    slice-set-from-values
+    add-v
+    loop-less
+    loop-again
     same-length
     returns)
