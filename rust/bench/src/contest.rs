@@ -1,7 +1,7 @@
 //! Rounds in which every decoder takes its turn on the same frames.
 
 use crate::scenario::Scenario;
-use interface::{Library, Lists, RunAnswer};
+use interface::{Library, OwnLists, RunAnswer};
 use rivals::{Plain, Tuned};
 use std::time::Instant;
 
@@ -20,42 +20,19 @@ pub struct ContestResult {
     pub seconds: Vec<(f64, f64)>,
 }
 
-/// The lists that a caller lends again and again.
-#[derive(Clone, Default, PartialEq, Eq)]
-struct Lent {
-    triples: Vec<u16>,
-    counts: Vec<u16>,
-    sums: Vec<i64>,
-    values: Vec<i16>,
-    rows: Vec<i32>,
-    word: Vec<u8>,
+fn lists(scenario: &Scenario) -> OwnLists {
+    let code = &scenario.code;
+    OwnLists::exact(code.bits, code.variables(), code.triples(), 0)
 }
 
-impl Lent {
-    fn new(scenario: &Scenario) -> Lent {
-        let (triples, variables) = (scenario.code.triples(), scenario.code.variables());
-        Lent {
-            triples: vec![0; 3 * triples],
-            counts: vec![0; variables],
-            sums: vec![0; variables],
-            values: vec![0; variables],
-            rows: vec![0; 4 * triples],
-            word: vec![0; scenario.code.bits],
-        }
-    }
-
-    fn decode(&mut self, library: &dyn Library, scenario: &Scenario, frame: usize) -> RunAnswer {
-        let lists = Lists {
-            triples: &mut self.triples,
-            counts: &mut self.counts,
-            sums: &mut self.sums,
-            values: &mut self.values,
-            rows: &mut self.rows,
-            word: &mut self.word,
-        };
-        let costs = &scenario.frames[frame];
-        library.decode(&scenario.records, scenario.settings, costs, lists)
-    }
+fn decode(
+    library: &dyn Library,
+    scenario: &Scenario,
+    frame: usize,
+    lists: &mut OwnLists,
+) -> RunAnswer {
+    let costs = &scenario.frames[frame];
+    library.decode(&scenario.records, scenario.settings, costs, lists.lend())
 }
 
 impl Contest {
@@ -77,14 +54,14 @@ impl Contest {
     /// Checks that all decoders agree, then measures them in turn.
     pub fn run(&mut self, scenario: &Scenario) -> ContestResult {
         let mut result = self.agreed(scenario);
-        let mut lent = Lent::new(scenario);
+        let mut lent = lists(scenario);
         let frames = scenario.frames.len();
         let mut times = vec![vec![Vec::new(); frames]; self.decoders.len()];
         for _ in 0..ROUNDS {
             for ((_, library), times) in self.decoders.iter().zip(&mut times) {
                 for (frame, times) in times.iter_mut().enumerate() {
                     let start = Instant::now();
-                    lent.decode(library.as_ref(), scenario, frame);
+                    decode(library.as_ref(), scenario, frame, &mut lent);
                     times.push(start.elapsed().as_secs_f64());
                 }
             }
@@ -109,11 +86,11 @@ impl Contest {
             seconds: Vec::new(),
         };
         for frame in 0..scenario.frames.len() {
-            let mut first = Lent::new(scenario);
-            let answer = first.decode(&Plain, scenario, frame);
+            let mut first = lists(scenario);
+            let answer = decode(&Plain, scenario, frame, &mut first);
             for (name, library) in &self.decoders {
-                let mut other = Lent::new(scenario);
-                let found = other.decode(library.as_ref(), scenario, frame);
+                let mut other = lists(scenario);
+                let found = decode(library.as_ref(), scenario, frame, &mut other);
                 assert!(found == answer && other == first, "{name} differs");
             }
             result.iterations += u64::from(answer.k);

@@ -18,6 +18,19 @@ pub fn records(code: &Code) -> Vec<u8> {
     bytes
 }
 
+/// The lengths that the decoder's lists need, in their order.
+pub fn room(code: &Code) -> [usize; 6] {
+    let (triples, variables) = (code.triples(), code.variables());
+    [
+        3 * triples,
+        variables,
+        variables,
+        variables,
+        4 * triples,
+        code.bits,
+    ]
+}
+
 /// Where each check's record starts.
 pub fn check_starts(code: &Code) -> Vec<usize> {
     let mut starts = Vec::new();

@@ -1,7 +1,7 @@
 //! Drafts of calls: sound inputs for every entry that takes code records.
 
 use crate::case::{Case, DecodeCase};
-use crate::codes::{random_code, records, Code, Shape};
+use crate::codes::{random_code, records, room, Code, Shape};
 use crate::codewords::Codewords;
 use crate::random::Random;
 use interface::Settings;
@@ -43,21 +43,13 @@ impl Draft {
         let codewords = Codewords::of(&code);
         let word = random_word(random, &codewords);
         let codeword = codewords.random(random);
-        let (triples, variables) = (code.triples(), code.variables());
         Draft {
             records: records(&code),
             word,
             settings: random_settings(random),
             costs: random_costs(random, &codeword),
-            room: [
-                3 * triples,
-                variables,
-                variables,
-                variables,
-                4 * triples,
-                code.bits,
-            ],
-            point_room: variables,
+            room: room(&code),
+            point_room: code.variables(),
             code,
         }
     }

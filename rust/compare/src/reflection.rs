@@ -4,7 +4,7 @@ use crate::codes::{records, Code};
 use crate::codewords::Codewords;
 use crate::draft::Draft;
 use crate::random::Random;
-use interface::{Library, Lists, RunAnswer, Settings};
+use interface::{Library, OwnLists, RunAnswer, Settings};
 use reference::iteration::SIGNS;
 
 /// A code, a run's settings and costs, and a codeword to reflect by.
@@ -19,12 +19,7 @@ pub struct Reflection {
 /// The answer of a run and its lists, of exactly the lengths needed.
 struct Run {
     answer: RunAnswer,
-    triples: Vec<u16>,
-    counts: Vec<u16>,
-    sums: Vec<i64>,
-    values: Vec<i16>,
-    rows: Vec<i32>,
-    word: Vec<u8>,
+    lists: OwnLists,
 }
 
 impl Reflection {
@@ -40,26 +35,10 @@ impl Reflection {
     }
 
     fn run(&self, library: &dyn Library, costs: &[i16]) -> Run {
-        let (triples, variables) = (self.code.triples(), self.code.variables());
-        let mut run = Run {
-            answer: RunAnswer::default(),
-            triples: vec![0; 3 * triples],
-            counts: vec![0; variables],
-            sums: vec![0; variables],
-            values: vec![0; variables],
-            rows: vec![0; 4 * triples],
-            word: vec![7; self.code.bits],
-        };
-        let lists = Lists {
-            triples: &mut run.triples,
-            counts: &mut run.counts,
-            sums: &mut run.sums,
-            values: &mut run.values,
-            rows: &mut run.rows,
-            word: &mut run.word,
-        };
-        run.answer = library.decode(&records(&self.code), self.settings, costs, lists);
-        run
+        let (bits, code) = (self.code.bits, records(&self.code));
+        let mut lists = OwnLists::exact(bits, self.code.variables(), self.code.triples(), 7);
+        let answer = library.decode(&code, self.settings, costs, lists.lend());
+        Run { answer, lists }
     }
 
     /// Runs both ways; the outcome's number, or what is not reflected.
@@ -87,6 +66,7 @@ fn compare_runs(first: &Run, second: &Run, point: &[u8]) -> Result<(), String> {
             first.answer, second.answer
         ));
     }
+    let (number, first, second) = (first.answer.number, &first.lists, &second.lists);
     if first.triples != second.triples || first.counts != second.counts {
         return Err("triples or counts changed".into());
     }
@@ -100,11 +80,7 @@ fn compare_runs(first: &Run, second: &Run, point: &[u8]) -> Result<(), String> {
     }
     compare_rows(first, second, point)?;
     for (bit, &entry) in first.word.iter().enumerate() {
-        let change = if first.answer.number == 0 {
-            point[bit]
-        } else {
-            0
-        };
+        let change = if number == 0 { point[bit] } else { 0 };
         if second.word[bit] != entry ^ change {
             return Err(format!("bit {bit} of the word"));
         }
@@ -114,7 +90,7 @@ fn compare_runs(first: &Run, second: &Run, point: &[u8]) -> Result<(), String> {
 
 /// Each row's s goes to the row whose signs differ exactly where the point has
 /// a 1.
-fn compare_rows(first: &Run, second: &Run, point: &[u8]) -> Result<(), String> {
+fn compare_rows(first: &OwnLists, second: &OwnLists, point: &[u8]) -> Result<(), String> {
     for (place, triple) in first.triples.chunks_exact(3).enumerate() {
         for (row, signs) in SIGNS.iter().enumerate() {
             let mut turned = *signs;

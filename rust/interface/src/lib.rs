@@ -63,6 +63,42 @@ pub struct Lists<'a> {
     pub word: &'a mut [u8],
 }
 
+/// Such lists, owned.
+#[derive(Clone, Debug, Default, PartialEq, Eq)]
+pub struct OwnLists {
+    pub triples: Vec<u16>,
+    pub counts: Vec<u16>,
+    pub sums: Vec<i64>,
+    pub values: Vec<i16>,
+    pub rows: Vec<i32>,
+    pub word: Vec<u8>,
+}
+
+impl OwnLists {
+    /// Lists of exactly the needed lengths, every entry `fill`.
+    pub fn exact(bits: usize, variables: usize, triples: usize, fill: u8) -> OwnLists {
+        OwnLists {
+            triples: vec![fill.into(); 3 * triples],
+            counts: vec![fill.into(); variables],
+            sums: vec![fill.into(); variables],
+            values: vec![fill.into(); variables],
+            rows: vec![fill.into(); 4 * triples],
+            word: vec![fill; bits],
+        }
+    }
+
+    pub fn lend(&mut self) -> Lists<'_> {
+        Lists {
+            triples: &mut self.triples,
+            counts: &mut self.counts,
+            sums: &mut self.sums,
+            values: &mut self.values,
+            rows: &mut self.rows,
+            word: &mut self.word,
+        }
+    }
+}
+
 /// The public calls of document 01.
 pub trait Library {
     fn read(&self, code: &[u8]) -> ReadAnswer;

@@ -4,8 +4,9 @@
 mod common;
 
 use common::*;
-use interface::{Channel, Erasing, PlaceAnswer, ReadAnswer};
+use interface::{Channel, Erasing, OwnLists, PlaceAnswer, ReadAnswer};
 use reference::channel::channel;
+use reference::decoder::decode;
 use reference::records::read;
 use reference::reflector::reflect;
 use reference::splitting::split;
@@ -52,12 +53,12 @@ fn records_from_every_entry() {
         let (mut triples, mut counts) = ([77; 9], [77; 9]);
         assert_eq!(split(&bytes, &mut triples, &mut counts), number);
         assert_eq!((triples, counts), ([77; 9], [77; 9]));
-        let mut lent = Lent::exact(3, 3, 1);
+        let mut lent = lists(3, 3, 1);
         assert_eq!(
-            lent.decode(&bytes, settings(0, 0, 0, 0), &[]),
+            decode(&bytes, settings(0, 0, 0, 0), &[], lent.lend()),
             refusal(number)
         );
-        assert_eq!(lent, Lent::exact(3, 3, 1));
+        assert_eq!(lent, lists(3, 3, 1));
         let mut point = [77; 3];
         let answer = PlaceAnswer { number, place: 0 };
         assert_eq!(test(&bytes, &[2; 3]), answer);
@@ -77,24 +78,25 @@ fn nine_before_seven_before_eight() {
 
 #[test]
 fn the_decoder_in_order() {
-    let mut exact = Lent::exact(3, 3, 1);
+    let mut exact = lists(3, 3, 1);
     let good = settings(1, 0, 1, 0);
     let bad = settings(0, 0, 1, 0);
     let mut short = exact.clone();
     short.word.pop();
     let untouched = short.clone();
-    let mut number = |settings, costs: &[i16]| short.decode(&small(), settings, costs).number;
+    let mut number =
+        |settings, costs: &[i16]| decode(&small(), settings, costs, short.lend()).number;
     assert_eq!(number(bad, &[i16::MIN; 2]), 11);
     assert_eq!(number(good, &[i16::MIN; 2]), 12);
     assert_eq!(number(good, &[0, 0, i16::MIN]), 13);
     assert_eq!(number(good, &[0; 3]), 10);
     assert_eq!(short, untouched);
-    assert_eq!(exact.decode(&small(), good, &[0; 3]).number, 16);
+    assert_eq!(decode(&small(), good, &[0; 3], exact.lend()).number, 16);
 }
 
 #[test]
 fn each_short_list_of_the_decoder() {
-    let shorten: [fn(&mut Lent); 6] = [
+    let shorten: [fn(&mut OwnLists); 6] = [
         |lent| lent.triples.truncate(2),
         |lent| lent.counts.truncate(2),
         |lent| lent.sums.truncate(2),
@@ -103,10 +105,10 @@ fn each_short_list_of_the_decoder() {
         |lent| lent.word.truncate(2),
     ];
     for shorten in shorten {
-        let mut lent = Lent::exact(3, 3, 1);
+        let mut lent = lists(3, 3, 1);
         shorten(&mut lent);
         let before = lent.clone();
-        let answer = lent.decode(&small(), settings(256, 0, 2, 0), &[20_000; 3]);
+        let answer = decode(&small(), settings(256, 0, 2, 0), &[20_000; 3], lent.lend());
         assert_eq!(answer, refusal(10));
         assert_eq!(lent, before);
     }
@@ -114,8 +116,8 @@ fn each_short_list_of_the_decoder() {
 
 #[test]
 fn longer_lists_keep_their_rest() {
-    let mut lent = Lent::exact(5, 6, 3);
-    let answer = lent.decode(&small(), settings(256, 0, 2, 0), &[20_000; 3]);
+    let mut lent = lists(5, 6, 3);
+    let answer = decode(&small(), settings(256, 0, 2, 0), &[20_000; 3], lent.lend());
     assert_eq!(answer.number, 0);
     assert_eq!(lent.triples, [0, 1, 2, 77, 77, 77, 77, 77, 77]);
     assert_eq!(lent.counts, [1, 1, 1, 77, 77, 77]);

@@ -5,6 +5,7 @@ mod common;
 use common::*;
 use interface::{Channel, Erasing, RunAnswer};
 use reference::channel::channel;
+use reference::decoder::decode;
 use reference::quotient::{limited, nearest};
 use reference::records::read;
 use reference::reflector::reflect;
@@ -83,9 +84,9 @@ fn totals_equal_to_the_tolerance_settle_even_at_the_limit() {
 #[test]
 fn undecided_comes_before_not_a_codeword() {
     let two_checks = code(4, &[&[0, 1, 2], &[1, 2, 3]]);
-    let mut lent = Lent::exact(4, 4, 2);
+    let mut lent = lists(4, 4, 2);
     let costs = [-9_000, 9_000, 9_000, 0];
-    let answer = lent.decode(&two_checks, settings(256, 0, 1, 0), &costs);
+    let answer = decode(&two_checks, settings(256, 0, 1, 0), &costs, lent.lend());
     let undecided = RunAnswer {
         number: 16,
         place: 3,
@@ -97,8 +98,13 @@ fn undecided_comes_before_not_a_codeword() {
 
 #[test]
 fn an_auxiliary_at_zero_decides_nothing() {
-    let mut lent = Lent::exact(4, 5, 2);
-    let answer = lent.decode(&one_check(4), settings(256, 0, 1, 0), &[9_000; 4]);
+    let mut lent = lists(4, 5, 2);
+    let answer = decode(
+        &one_check(4),
+        settings(256, 0, 1, 0),
+        &[9_000; 4],
+        lent.lend(),
+    );
     assert_eq!(lent.values[4], 0);
     assert_eq!((answer.number, lent.word), (0, vec![0; 4]));
 }
@@ -106,11 +112,12 @@ fn an_auxiliary_at_zero_decides_nothing() {
 #[test]
 fn the_penalty_acts_on_auxiliaries() {
     let value = |ratio| {
-        let mut lent = Lent::exact(4, 5, 2);
-        lent.decode(
+        let mut lent = lists(4, 5, 2);
+        decode(
             &one_check(4),
             settings(512, ratio, 2, 0),
             &[30_000, -30_000, 500, 3],
+            lent.lend(),
         );
         (lent.sums[4], lent.values[4])
     };

@@ -2,7 +2,9 @@
 
 use super::Family;
 use crate::case::{Case, DecodeCase};
-use crate::codes::{one_check, random_code, records, regular_code, training_code, Code, Shape};
+use crate::codes::{
+    one_check, random_code, records, regular_code, room, training_code, Code, Shape,
+};
 use crate::codewords::Codewords;
 use crate::draft::{code_within, random_settings, small_code, tiny_code, Draft, Entry};
 use crate::random::Random;
@@ -37,19 +39,11 @@ fn settings(weight: u32, ratio: u32, limit: u32, tolerance: u32) -> Settings {
 }
 
 fn exact_case(code: &Code, settings: Settings, costs: Vec<i16>) -> Case {
-    let (triples, variables) = (code.triples(), code.variables());
     Case::Decode(DecodeCase {
         code: records(code),
         settings,
         costs,
-        room: [
-            3 * triples,
-            variables,
-            variables,
-            variables,
-            4 * triples,
-            code.bits,
-        ],
+        room: room(code),
     })
 }
 

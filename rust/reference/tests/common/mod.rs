@@ -1,7 +1,7 @@
 //! Builders for records and lent lists.
 #![allow(dead_code)]
 
-use interface::{Lists, RunAnswer, Settings};
+use interface::{OwnLists, RunAnswer, Settings};
 use reference::decoder::decode;
 
 pub fn two(number: usize) -> [u8; 2] {
@@ -48,50 +48,15 @@ pub fn settings(weight: u32, ratio: u32, limit: u32, tolerance: u32) -> Settings
     }
 }
 
-/// Lent lists of a decoder call, all entries 77 before it.
-#[derive(Clone, Debug, PartialEq, Eq)]
-pub struct Lent {
-    pub triples: Vec<u16>,
-    pub counts: Vec<u16>,
-    pub sums: Vec<i64>,
-    pub values: Vec<i16>,
-    pub rows: Vec<i32>,
-    pub word: Vec<u8>,
-}
-
-impl Lent {
-    /// Lists of exactly the needed lengths.
-    pub fn exact(bits: usize, variables: usize, triples: usize) -> Lent {
-        Lent {
-            triples: vec![77; 3 * triples],
-            counts: vec![77; variables],
-            sums: vec![77; variables],
-            values: vec![77; variables],
-            rows: vec![77; 4 * triples],
-            word: vec![77; bits],
-        }
-    }
-
-    pub fn lists(&mut self) -> Lists<'_> {
-        Lists {
-            triples: &mut self.triples,
-            counts: &mut self.counts,
-            sums: &mut self.sums,
-            values: &mut self.values,
-            rows: &mut self.rows,
-            word: &mut self.word,
-        }
-    }
-
-    pub fn decode(&mut self, code: &[u8], settings: Settings, costs: &[i16]) -> RunAnswer {
-        decode(code, settings, costs, self.lists())
-    }
+/// Lists of a decoder call, of exactly the needed lengths, all entries 77 before it.
+pub fn lists(bits: usize, variables: usize, triples: usize) -> OwnLists {
+    OwnLists::exact(bits, variables, triples, 77)
 }
 
 /// Decodes with the small code; the answer and the lists afterwards.
-pub fn decode_small(settings: Settings, costs: [i16; 3]) -> (RunAnswer, Lent) {
-    let mut lent = Lent::exact(3, 3, 1);
-    let answer = lent.decode(&small(), settings, &costs);
+pub fn decode_small(settings: Settings, costs: [i16; 3]) -> (RunAnswer, OwnLists) {
+    let mut lent = lists(3, 3, 1);
+    let answer = decode(&small(), settings, &costs, lent.lend());
     (answer, lent)
 }
 
