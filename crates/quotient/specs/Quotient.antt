@@ -24,6 +24,6 @@ pub record Rounded (n d q : ℕ) : Type 0 where
   pub above : 2 * (d * q) ≤ 2 * n + d
   pub below : q < unit → 2 * n < 2 * (d * q) + d
 
--- 2 ^ 48 / 2d, rounded up: a product with it, divided by 2 ^ 48, takes the place of a division by 2d
+-- the next whole number above 2 ^ 48 / 2d: a product with it, divided by 2 ^ 48, takes the place of a division by 2d
 unfoldable pub inverse : ℕ → ℕ
 inverse d = 2 ^ 48 / (2 * d) + 1

@@ -9,6 +9,7 @@ ghost use Rattle.quotient.specs.Quotient.{unit, Rounded, quotient};
 
 const UNIT: u64 = 16384;
 
+// 2^48
 const SCALE: u64 = 281474976710656;
 
 // ---- magnitudes
@@ -27,7 +28,7 @@ fn natural(x: i64) -> u64
     x as u64
 }
 
-// What is divided by 2d. The dividend is limited first: no branch depends on the data, and no quotient exceeds the unit.
+// What is divided by 2d. The dividend is limited first: no branch depends on the data, and no quotient exceeds the limit.
 fn dividend(n: u64, d: u64) -> u64
     requires { ⌜ (n ≤ 2 ^ 48) × (d ≤ 2097152) ⌝ }
     ensures { λ r. ⌜ r ≡ 2 * min n (unit * d) + d ⌝ }

@@ -15,7 +15,7 @@ const UNIT: i32 = 16384;
 
 // ---- the four sums
 
-// x where position p of row r has plus, otherwise 0: half of the signed x and x.
+// x where position p of row r has plus, otherwise 0: twice it is the signed x, and x.
 fn plus(r: usize, p: usize, x: i32) -> i32
     requires { ⌜ (r < 4) × (p < 3) × (natAbs x ≤ 16384) ⌝ }
     ensures { λ z. ⌜ pos 2 *ℤ z ≡ sign r p *ℤ x +ℤ x ⌝ }
@@ -23,7 +23,7 @@ fn plus(r: usize, p: usize, x: i32) -> i32
     if SIGNS[r][p] < 0 { 0 } else { x }
 }
 
-// Row r: twice those with plus, less all three. In this form the four rows are worked out side by side.
+// Row r: twice those with plus, less all three. In this form the compiler works rows out side by side.
 fn sum(r: usize, a: i32, b: i32, c: i32) -> i32
     requires { ⌜ (r < 4) × (natAbs a ≤ 16384) × (natAbs b ≤ 16384) × (natAbs c ≤ 16384) ⌝ }
     ensures { λ z. ⌜ z ≡ rowSum r a b c ⌝ }
@@ -53,6 +53,7 @@ fn size(s: i32) -> i32
     if s < 0 { -s } else { s }
 }
 
+// Of row r.
 fn size_at(s: [i32; 4], r: usize) -> i32
     requires { ⌜ (r < 4) × (natAbs (at s r) ≤ 131072000) ⌝ }
     ensures { λ z. ⌜ z ≡ pos (slack (at s r) + multiplier (at s r)) ⌝ }
@@ -60,7 +61,7 @@ fn size_at(s: [i32; 4], r: usize) -> i32
     size(s[r])
 }
 
-// The size of the last row less those of the others, and twice one of these: a plus instead of its minus.
+// `rest` has the last row's size with plus and the others with minus; the one with plus too is x.
 fn share(rest: i32, x: i32) -> i32
     requires { ⌜ (natAbs rest ≤ 524288000) × (natAbs x ≤ 131072000) ⌝ }
     ensures { λ z. ⌜ z ≡ rest +ℤ pos 2 *ℤ x ⌝ }
