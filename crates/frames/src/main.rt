@@ -1,5 +1,5 @@
-// The frame program (document 01): records from standard input, a line for each frame to standard output. What a record is worth and
-// what a line says is in `stream`; here bytes are moved.
+// The frame program (document 01): records from standard input, a line for each frame to standard output. What a record is worth is
+// in `stream`, what a line says in `lines`; here bytes are moved.
 ghost use mathlib.Core.Path.{_≡_};
 ghost use Prim.Native.Nat.{_+_, _*_, _≤_, _<_};
 ghost use mathlib.Core.Bool.{false};
@@ -19,7 +19,7 @@ fn read(buffer: &mut [u8], at: usize, size: usize) -> usize
 
 fn refuse(cause: u32) {
     let mut out = [0u8; 128];
-    let end = stream::refusal(cause, &mut out);
+    let end = lines::refusal(cause, &mut out);
     io::write_all(1, &out[..end]);
 }
 
@@ -121,7 +121,7 @@ fn answer(
         rows,
         word,
     );
-    let end = stream::line(decoding, &word[..bits], out);
+    let end = lines::line(decoding, &word[..bits], out);
     io::write_all(1, &out[..end]);
 }
 

@@ -1,4 +1,2 @@
 pub mod Refusals
-pub mod Text
-pub mod Decimals
 pub mod Costs

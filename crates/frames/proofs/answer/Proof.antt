@@ -1,7 +1,7 @@
 -- `frames::answer` meets its contract: word and line lie within their lists. Assumes nothing.
 use native.Mathlib.Omega.{arith}
 use lib.ListN.{length-take}
-use Rattle.stream.proofs.Text.{counted}
+use Rattle.lines.proofs.Text.{counted}
 use borrow.Author.Needs.{needs}
 use Rattle.frames.proofs.answer.Statement.{statement}
 use Rattle.frames.proofs.answer.Tie as tie

@@ -1,6 +1,6 @@
 -- `frames::refuse` meets its contract: the line lies within the array. Assumes nothing.
 use borrow.Author.Needs.{needs}
-use Rattle.stream.proofs.Text.{counted}
+use Rattle.lines.proofs.Text.{counted}
 use Rattle.frames.proofs.refuse.Statement.{statement}
 use Rattle.frames.proofs.refuse.Tie as tie
 

@@ -1,14 +1,14 @@
--- `stream::word_line` meets its contract: the opening, the bits, a line feed. Assumes nothing.
+-- `lines::word_line` meets its contract: the opening, the bits, a line feed. Assumes nothing.
 use mathlib.Core.List.{List, [], _∷_, _++_, map, append-assoc}
 use Prim.Native.Nat.{ℕ, _+_, _≤_}
 use native.Mathlib.Omega.{arith}
 use borrow.Author.Needs.{needs}
 use lib.ListN.{length, length-map}
 use Rattle.model.specs.Frames.{glyph, opening}
-use Rattle.stream.specs.Text.{Appended}
-use Rattle.stream.proofs.Text.{long, then}
-use Rattle.stream.proofs.word_line.Statement.{statement}
-use Rattle.stream.proofs.word_line.Tie as tie
+use Rattle.lines.specs.Text.{Appended}
+use Rattle.lines.proofs.Text.{long, then}
+use Rattle.lines.proofs.word_line.Statement.{statement}
+use Rattle.lines.proofs.word_line.Tie as tie
 
 begin-requires : tie.Need-begin-requires
 begin-requires c κs = search needs

@@ -1,8 +1,8 @@
--- `stream::put` meets its contract: a piece of one byte. Assumes nothing.
+-- `lines::put` meets its contract: a piece of one byte. Assumes nothing.
 use borrow.Author.Needs.{needs}
-use Rattle.stream.proofs.Text.{one}
-use Rattle.stream.proofs.put.Statement.{statement}
-use Rattle.stream.proofs.put.Tie as tie
+use Rattle.lines.proofs.Text.{one}
+use Rattle.lines.proofs.put.Statement.{statement}
+use Rattle.lines.proofs.put.Tie as tie
 
 slice-write-out : tie.Need-slice-write-out
 slice-write-out c = search needs

@@ -1,11 +1,11 @@
--- `stream::begin` meets its contract: a letter and two fields. Assumes nothing.
+-- `lines::begin` meets its contract: a letter and two fields. Assumes nothing.
 use mathlib.Core.List.{[], _∷_, _++_, append-assoc}
 use native.Mathlib.Omega.{arith}
 use borrow.Author.Needs.{needs}
 use Rattle.model.specs.Frames.{decimal, opening}
-use Rattle.stream.proofs.Text.{then}
-use Rattle.stream.proofs.begin.Statement.{statement}
-use Rattle.stream.proofs.begin.Tie as tie
+use Rattle.lines.proofs.Text.{then}
+use Rattle.lines.proofs.begin.Statement.{statement}
+use Rattle.lines.proofs.begin.Tie as tie
 
 put-letter-requires : tie.Need-put-letter-requires
 put-letter-requires c κs = search needs

@@ -1,7 +1,7 @@
--- `stream::line` meets its contract: the values of each case. Assumes nothing.
+-- `lines::line` meets its contract: the values of each case. Assumes nothing.
 use borrow.Author.Needs.{needs}
-use Rattle.stream.proofs.line.Statement.{statement}
-use Rattle.stream.proofs.line.Tie as tie
+use Rattle.lines.proofs.line.Statement.{statement}
+use Rattle.lines.proofs.line.Tie as tie
 
 enum-known-decoding : tie.Need-enum-known-decoding
 enum-known-decoding c = search needs

@@ -1,8 +1,8 @@
--- `stream::place_line` meets its contract: the opening, then the place. Assumes nothing.
+-- `lines::place_line` meets its contract: the opening, then the place. Assumes nothing.
 use borrow.Author.Needs.{needs}
-use Rattle.stream.proofs.Text.{then}
-use Rattle.stream.proofs.place_line.Statement.{statement}
-use Rattle.stream.proofs.place_line.Tie as tie
+use Rattle.lines.proofs.Text.{then}
+use Rattle.lines.proofs.place_line.Statement.{statement}
+use Rattle.lines.proofs.place_line.Tie as tie
 
 begin-requires : tie.Need-begin-requires
 begin-requires c κs = search needs

@@ -1,9 +1,9 @@
--- `stream::refusal` meets its contract: the letter, then the number. Assumes nothing.
+-- `lines::refusal` meets its contract: the letter, then the number. Assumes nothing.
 use borrow.Author.Needs.{needs}
 use Rattle.model.specs.Frames.{refusal}
-use Rattle.stream.proofs.Text.{then}
-use Rattle.stream.proofs.refusal.Statement.{statement}
-use Rattle.stream.proofs.refusal.Tie as tie
+use Rattle.lines.proofs.Text.{then}
+use Rattle.lines.proofs.refusal.Statement.{statement}
+use Rattle.lines.proofs.refusal.Tie as tie
 
 put-letter-requires : tie.Need-put-letter-requires
 put-letter-requires c κs = search needs

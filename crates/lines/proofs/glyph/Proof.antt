@@ -1,7 +1,7 @@
--- `stream::glyph` meets its contract: the definition's own test. Assumes nothing.
+-- `lines::glyph` meets its contract: the definition's own test. Assumes nothing.
 use borrow.Author.Tests.{ne-eqb}
-use Rattle.stream.proofs.glyph.Statement.{statement}
-use Rattle.stream.proofs.glyph.Tie as tie
+use Rattle.lines.proofs.glyph.Statement.{statement}
+use Rattle.lines.proofs.glyph.Tie as tie
 
 returns : tie.Need-returns
 returns c = rw (c .if1 .taken)

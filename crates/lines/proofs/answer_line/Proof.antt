@@ -1,9 +1,9 @@
--- `stream::answer_line` meets its contract: the number decides. Assumes nothing.
+-- `lines::answer_line` meets its contract: the number decides. Assumes nothing.
 use borrow.Author.Needs.{needs}
 use borrow.Author.Tests.{eq-eqb, ne-eqb}
 use Rattle.model.specs.Frames.{spaced, line}
-use Rattle.stream.proofs.answer_line.Statement.{statement}
-use Rattle.stream.proofs.answer_line.Tie as tie
+use Rattle.lines.proofs.answer_line.Statement.{statement}
+use Rattle.lines.proofs.answer_line.Tie as tie
 
 word-line-requires : tie.Need-word-line-requires
 word-line-requires c κs = search needs

@@ -1,4 +1,4 @@
--- `stream::put_bits` meets its contract: after i turns the first i bits are written. Assumes nothing.
+-- `lines::put_bits` meets its contract: after i turns the first i bits are written. Assumes nothing.
 use mathlib.Core.Path.{_≡_, _∙_}
 use mathlib.Core.List.{[], _∷_, _++_, map, map-append}
 use Prim.Native.Nat.{_+_, _-_, _≤_}
@@ -8,10 +8,10 @@ use borrow.Author.Needs.{needs}
 use lib.ListN.{length, take, getD, length-map}
 use lib.Seq.{take-suc, take-all, length-take-le}
 use Rattle.model.specs.Frames.{glyph}
-use Rattle.stream.specs.Text.{Appended}
-use Rattle.stream.proofs.Text.{none, long, then}
-use Rattle.stream.proofs.put_bits.Statement.{statement}
-use Rattle.stream.proofs.put_bits.Tie as tie
+use Rattle.lines.specs.Text.{Appended}
+use Rattle.lines.proofs.Text.{none, long, then}
+use Rattle.lines.proofs.put_bits.Statement.{statement}
+use Rattle.lines.proofs.put_bits.Tie as tie
 
 abbrev Inv-loop : tie.InvT-loop
 Inv-loop word out₀ at next₀ i₀ i-end out next i = (i ≤ length word) × Appended at (map glyph (take i word)) out₀ out next

@@ -1,9 +1,9 @@
--- `stream::put_letter` meets its contract: two pieces. Assumes nothing.
+-- `lines::put_letter` meets its contract: two pieces. Assumes nothing.
 use native.Mathlib.Omega.{arith}
 use borrow.Author.Needs.{needs}
-use Rattle.stream.proofs.Text.{then}
-use Rattle.stream.proofs.put_letter.Statement.{statement}
-use Rattle.stream.proofs.put_letter.Tie as tie
+use Rattle.lines.proofs.Text.{then}
+use Rattle.lines.proofs.put_letter.Statement.{statement}
+use Rattle.lines.proofs.put_letter.Tie as tie
 
 put-requires : tie.Need-put-requires
 put-requires c κs = search needs

@@ -1,13 +1,13 @@
--- `stream::put_field` meets its contract: the digits, then the byte. Assumes nothing.
+-- `lines::put_field` meets its contract: the digits, then the byte. Assumes nothing.
 use Prim.Native.Nat.{_≤_}
 use native.Mathlib.Omega.{arith}
 use borrow.Author.Needs.{needs}
 use lib.ListN.{length}
 use Rattle.model.specs.Frames.{decimal}
-use Rattle.stream.proofs.Decimals.{decimal-few}
-use Rattle.stream.proofs.Text.{long, then}
-use Rattle.stream.proofs.put_field.Statement.{statement}
-use Rattle.stream.proofs.put_field.Tie as tie
+use Rattle.lines.proofs.Decimals.{decimal-few}
+use Rattle.lines.proofs.Text.{long, then}
+use Rattle.lines.proofs.put_field.Statement.{statement}
+use Rattle.lines.proofs.put_field.Tie as tie
 
 few : (s : tie.Start) → length (decimal (s .args .x)) ≤ 20
 few s = decimal-few (s .args .x) (omega (arith, s .fits))

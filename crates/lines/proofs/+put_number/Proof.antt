@@ -5,18 +5,18 @@ use native.Mathlib.Nat.{div-lt-self}
 use native.Mathlib.Omega.{arith}
 use borrow.Author.Needs.{needs}
 use lib.ListN.{length}
-use Rattle.stream.proofs.Decimals.{decimal-one, decimal-more, decimal-longer}
-use Rattle.stream.proofs.Text.{long, then}
+use Rattle.lines.proofs.Decimals.{decimal-one, decimal-more, decimal-longer}
+use Rattle.lines.proofs.Text.{long, then}
 use Prim.Native.Nat.{ℕ, _<_}
 use borrow.Fn.Kinds.{In}
 use borrow.Fn.PlainCycle.{Measures, is, falls, and}
-use Rattle.stream.proofs.put_number.Reads as put-number
-use Rattle.stream.proofs.put_number.Kinds as put-number-kinds
-use Rattle.stream.proofs.+put_number.Lts-put_number as put-number-lts
-use Rattle.stream.proofs.digit.Reads as digit-reads
-use Rattle.stream.proofs.put.Reads as put-reads
-use Rattle.stream.proofs.+put_number.{statement}
-use Rattle.stream.proofs.+put_number.Tie.{close}
+use Rattle.lines.proofs.put_number.Reads as put-number
+use Rattle.lines.proofs.put_number.Kinds as put-number-kinds
+use Rattle.lines.proofs.+put_number.Lts-put_number as put-number-lts
+use Rattle.lines.proofs.digit.Reads as digit-reads
+use Rattle.lines.proofs.put.Reads as put-reads
+use Rattle.lines.proofs.+put_number.{statement}
+use Rattle.lines.proofs.+put_number.Tie.{close}
 
 abbrev μ-put-number : Measures 1 put-number-kinds.ps ℕ
 μ-put-number κs a = a .0
