@@ -19,82 +19,10 @@ ghost use Rattle.model.specs.Bounds.{RowsWithin, held, Lent};
 ghost use Rattle.iteration.specs.Inverses.{inversesOf};
 use model::Settings;
 
-// ---- reading
-
 fn index(x: u16) -> usize
     ensures { λ r. ⌜ r ≡ x ⌝ }
 {
     x as usize
-}
-
-// The variable at position p of triple t.
-fn variable(triples: &[u16], t: usize, p: usize) -> usize
-    requires { ⌜ (t ≤ 8192) × (p < 3) × (3 * t + p < length (now triples)) ⌝ }
-    ensures { λ v. ⌜ v ≡ member (now (triples .entry)) t p ⌝ }
-{
-    index(triples[3 * t + p])
-}
-
-// The four rows of triple t.
-fn four(rows: &[i32], t: usize) -> [i32; 4]
-    requires { ⌜ (t ≤ 8192) × (4 * t + 3 < length (now rows)) ⌝ }
-    ensures { λ l. ⌜ l ≡ tab 4 (λ r. row (now (rows .entry)) t r) ⌝ }
-{
-    let i = 4 * t;
-    [rows[i], rows[i + 1], rows[i + 2], rows[i + 3]]
-}
-
-// ---- S
-
-fn clear(sums: &mut [i64])
-    ensures { λ _. ⌜ now (sums .exit) ≡ tab (length (now (sums .entry))) (λ _. pos 0) ⌝ }
-{
-    let n = sums.len();
-    let mut v = 0;
-    while v < n {
-        sums[v] = 0;
-        v += 1;
-    }
-}
-
-// The variable v is given x.
-fn add(sums: &mut [i64], v: usize, x: i32)
-    requires { ⌜ (v < length (now sums)) × (natAbs (at (now sums) v) ≤ 2 ^ 60) ⌝ }
-    ensures { λ _. ⌜ now (sums .exit) ≡ tab (length (now (sums .entry))) (λ u. at (now (sums .entry)) u +ℤ (x when eqb v u)) ⌝ }
-{
-    sums[v] += x as i64;
-}
-
-// Each variable of triple t is given its share.
-fn give(triples: &[u16], rows: &[i32], t: usize, sums: &mut [i64])
-    requires { ⌜ (t < 8192) × (3 * t + 2 < length (now triples)) × (4 * t + 3 < length (now rows)) ⌝ }
-    requires { ⌜ ((i : ℕ) → i < length (now triples) → getD (now triples) i 0 < length (now sums)) ⌝ }
-    requires { ⌜ (RowsWithin 3999 (now rows)) × ((v : ℕ) → natAbs (at (now sums) v) ≤ 2 ^ 59) ⌝ }
-    ensures { λ _. ⌜ now (sums .exit) ≡ tab (length (now (sums .entry))) (λ u.
-        at (now (sums .entry)) u +ℤ sumℤ 3 (λ p. share (now (rows .entry)) t p when eqb (member (now (triples .entry)) t p) u)) ⌝ }
-{
-    let shares = rows::shares(four(rows, t));
-    let v0 = variable(triples, t, 0);
-    let v1 = variable(triples, t, 1);
-    let v2 = variable(triples, t, 2);
-    add(sums, v0, shares[0]);
-    add(sums, v1, shares[1]);
-    add(sums, v2, shares[2]);
-}
-
-// "S is the sum over its rows of z + p", for every variable.
-fn gather(triples: &[u16], rows: &[i32], count: usize, sums: &mut [i64])
-    requires { ⌜ (count ≤ 8192) × (3 * count ≡ length (now triples)) × (4 * count ≡ length (now rows)) ⌝ }
-    requires { ⌜ ((i : ℕ) → i < length (now triples) → getD (now triples) i 0 < length (now sums)) ⌝ }
-    requires { ⌜ RowsWithin 3999 (now rows) ⌝ }
-    ensures { λ _. ⌜ now (sums .exit) ≡ tab (length (now (sums .entry))) (sumOf (now (triples .entry)) count (now (rows .entry))) ⌝ }
-{
-    clear(sums);
-    let mut t = 0;
-    while t < count {
-        give(triples, rows, t, sums);
-        t += 1;
-    }
 }
 
 // ---- c
@@ -188,7 +116,7 @@ fn value_at(triples: &[u16], values: &[i16], t: usize, p: usize) -> i32
     requires { ⌜ (t ≤ 8192) × (p < 3) × (3 * t + p < length (now triples)) × (member (now triples) t p < length (now values)) ⌝ }
     ensures { λ c. ⌜ c ≡ at (now (values .entry)) (member (now (triples .entry)) t p) ⌝ }
 {
-    let v = variable(triples, t, p);
+    let v = sums::variable(triples, t, p);
     wide(values[v])
 }
 
@@ -205,16 +133,42 @@ fn renewed_rows(triples: &[u16], values: &[i16], t: usize, s: [i32; 4]) -> [i32;
     rows::renew_all(s, rows::sums(a, b, c))
 }
 
-fn put(rows: &mut [i32], t: usize, s: [i32; 4])
-    requires { ⌜ (t ≤ 8192) × (4 * t + 3 < length (now rows)) ⌝ }
-    requires { ⌜ ((r : ℕ) → natAbs (at s r) ≤ 131072000) ⌝ }
-    ensures { λ _. ⌜ now (rows .exit) ≡ sets (now (rows .entry)) (4 * t) (tab 4 (at s)) ⌝ }
+// The rows of the four triples from t on, renewed.
+fn renewed_four(triples: &[u16], values: &[i16], t: usize, s: [[i32; 4]; 4]) -> [[i32; 4]; 4]
+    requires { ⌜ (t < 8189) × (3 * t + 11 < length (now triples)) ⌝ }
+    requires { ⌜ ((i : ℕ) → i < length (now triples) → getD (now triples) i 0 < length (now values)) ⌝ }
+    requires { ⌜ ((v : ℕ) → natAbs (at (now values) v) ≤ 16384) × ((k r : ℕ) → natAbs (entry s k r) ≤ 131072000) ⌝ }
+    ensures { λ l. ⌜ l ≡ tab 4 (λ k. tab 4 (λ r. renewed (entry s k r) (sumAt (now (triples .entry)) (now (values .entry)) (t + k) r))) ⌝ }
 {
-    let i = 4 * t;
-    rows[i] = s[0];
-    rows[i + 1] = s[1];
-    rows[i + 2] = s[2];
-    rows[i + 3] = s[3];
+    [
+        renewed_rows(triples, values, t, s[0]),
+        renewed_rows(triples, values, t + 1, s[1]),
+        renewed_rows(triples, values, t + 2, s[2]),
+        renewed_rows(triples, values, t + 3, s[3]),
+    ]
+}
+
+// The squares of the changes of four triples: of p, and of z.
+struct Changes {
+    multipliers: u64,
+    slacks: u64,
+}
+
+fn changes(old: [[i32; 4]; 4], new: [[i32; 4]; 4]) -> Changes
+    requires { ⌜ ((k r : ℕ) → (natAbs (entry old k r) ≤ 131072000) × (natAbs (entry new k r) ≤ 131072000)) ⌝ }
+    ensures { λ c. ⌜ (c .multipliers ≡ sumℕ 4 (λ k. sumℕ 4 (λ r. squareOfChange (multiplier (entry old k r)) (multiplier (entry new k r)))))
+        × (c .slacks ≡ sumℕ 4 (λ k. sumℕ 4 (λ r. squareOfChange (slack (entry old k r)) (slack (entry new k r))))) ⌝ }
+{
+    Changes {
+        multipliers: rows::multiplier_changes(old[0], new[0])
+            + rows::multiplier_changes(old[1], new[1])
+            + rows::multiplier_changes(old[2], new[2])
+            + rows::multiplier_changes(old[3], new[3]),
+        slacks: rows::slack_changes(old[0], new[0])
+            + rows::slack_changes(old[1], new[1])
+            + rows::slack_changes(old[2], new[2])
+            + rows::slack_changes(old[3], new[3]),
+    }
 }
 
 // How far a renewal came, with the totals of the triples that are done.
@@ -224,29 +178,15 @@ struct Totals {
     slacks: u64,
 }
 
-// The rows are renewed, and the totals formed, until one of them exceeds the tolerance.
-fn renew_counted(
-    triples: &[u16],
-    values: &[i16],
-    rows: &mut [i32],
-    count: usize,
-    tolerance: u64,
-) -> Totals
-    requires { ⌜ (count ≤ 8192) × (3 * count ≡ length (now triples)) × (4 * count ≡ length (now rows)) ⌝ }
-    requires { ⌜ ((i : ℕ) → i < length (now triples) → getD (now triples) i 0 < length (now values)) × ((v : ℕ) → natAbs (at (now values) v) ≤ 16384) ⌝ }
-    requires { ⌜ RowsWithin 3999 (now rows) ⌝ }
-    ensures { λ r. ⌜ (r .done ≤ count) × (r .multipliers ≤ tolerance → r .slacks ≤ tolerance → r .done ≡ count) ⌝ }
-    ensures { λ r. ⌜ now (rows .exit) ≡ over (4 * r .done) (renewedAt (now (triples .entry)) (now (rows .entry)) (now (values .entry))) (now (rows .entry)) ⌝ }
-    ensures { λ r. ⌜ (r .multipliers ≡ changes multiplier (r .done) (now (rows .entry)) (tab (4 * count) (renewedAt (now (triples .entry)) (now (rows .entry)) (now (values .entry)))))
-        × (r .slacks ≡ changes slack (r .done) (now (rows .entry)) (tab (4 * count) (renewedAt (now (triples .entry)) (now (rows .entry)) (now (values .entry))))) ⌝ }
-{
+// The first triples, whose rows are not turned, are renewed.
+fn renew_first(triples: &[u16], values: &[i16], rows: &mut [i32], first: usize) -> Totals {
     let mut t = 0;
     let mut multipliers: u64 = 0;
     let mut slacks: u64 = 0;
-    while (t < count) & (multipliers <= tolerance) & (slacks <= tolerance) {
-        let old = four(rows, t);
+    while t < first {
+        let old = fours::load(rows, t);
         let new = renewed_rows(triples, values, t, old);
-        put(rows, t, new);
+        fours::store(rows, t, new);
         multipliers += rows::multiplier_changes(old, new);
         slacks += rows::slack_changes(old, new);
         t += 1;
@@ -258,19 +198,42 @@ fn renew_counted(
     }
 }
 
+// The rows are renewed, and the totals formed, until one of them exceeds the tolerance.
+fn renew_counted(
+    triples: &[u16],
+    values: &[i16],
+    rows: &mut [i32],
+    count: usize,
+    tolerance: u64,
+    first: Totals,
+) -> Totals {
+    let mut t = first.done;
+    let mut multipliers = first.multipliers;
+    let mut slacks = first.slacks;
+    while (t < count) & (multipliers <= tolerance) & (slacks <= tolerance) {
+        let old = fours::load_four(rows, t);
+        let new = renewed_four(triples, values, t, old);
+        fours::store_four(rows, t, new);
+        let more = changes(old, new);
+        multipliers += more.multipliers;
+        slacks += more.slacks;
+        t += 4;
+    }
+    Totals {
+        done: t,
+        multipliers,
+        slacks,
+    }
+}
+
 // The rows of triple `from` and of those after it are renewed.
-fn renew_rest(triples: &[u16], values: &[i16], rows: &mut [i32], from: usize, count: usize)
-    requires { ⌜ (from ≤ count) × (count ≤ 8192) × (3 * count ≡ length (now triples)) × (4 * count ≡ length (now rows)) ⌝ }
-    requires { ⌜ ((i : ℕ) → i < length (now triples) → getD (now triples) i 0 < length (now values)) × ((v : ℕ) → natAbs (at (now values) v) ≤ 16384) ⌝ }
-    requires { ⌜ ((i : ℕ) → 4 * from ≤ i → (multiplier (at (now rows) i) ≤ 32768 * 3999) × (slack (at (now rows) i) ≤ 65536)) ⌝ }
-    ensures { λ _. ⌜ now (rows .exit) ≡ over (4 * from) (at (now (rows .entry))) (tab (4 * count) (renewedAt (now (triples .entry)) (now (rows .entry)) (now (values .entry)))) ⌝ }
-{
+fn renew_rest(triples: &[u16], values: &[i16], rows: &mut [i32], from: usize, count: usize) {
     let mut t = from;
     while t < count {
-        let old = four(rows, t);
-        let new = renewed_rows(triples, values, t, old);
-        put(rows, t, new);
-        t += 1;
+        let old = fours::load_four(rows, t);
+        let new = renewed_four(triples, values, t, old);
+        fours::store_four(rows, t, new);
+        t += 4;
     }
 }
 
@@ -298,7 +261,8 @@ fn renew_rows(
     ensures { λ _. ⌜ now (rows .exit) ≡ tab (4 * count) (renewedAt (now (triples .entry)) (now (rows .entry)) (now (values .entry))) ⌝ }
     ensures { λ settled. ⌜ settled ≡ settledBy tolerance count (now (rows .entry)) (tab (4 * count) (renewedAt (now (triples .entry)) (now (rows .entry)) (now (values .entry)))) ⌝ }
 {
-    let totals = renew_counted(triples, values, rows, count, tolerance);
+    let first = renew_first(triples, values, rows, count % 4);
+    let totals = renew_counted(triples, values, rows, count, tolerance, first);
     renew_rest(triples, values, rows, totals.done, count);
     settles(totals.multipliers, totals.slacks, tolerance)
 }
@@ -324,7 +288,7 @@ pub fn iterate(
         record { sums = now (sums .exit); values = now (values .exit); rows = now (rows .exit) } ≡ Iteration.iterate quotient g settings (now (costs .entry)) a) ⌝ }
     ensures { λ settled. ⌜ settled ≡ settledBy (settings .tolerance) count (now (rows .entry)) (now (rows .exit)) ⌝ }
 {
-    gather(triples, rows, count, sums);
+    sums::gather(triples, rows, count, sums);
     renew_values(
         sums,
         counts,

@@ -82,7 +82,7 @@ pub fn run(
 {
     let mut inverses = [0u64; 31];
     iteration::write_inverses(settings.ratio, &mut inverses);
-    iterations(
+    let ending = iterations(
         settings,
         triples,
         counts,
@@ -92,5 +92,7 @@ pub fn run(
         sums,
         values,
         rows,
-    )
+    );
+    fours::straighten(rows, count);
+    ending
 }
