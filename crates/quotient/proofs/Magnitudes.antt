@@ -1,15 +1,14 @@
 -- Magnitudes: the limited quotient, and an inverse in place of a divisor. Assumes nothing.
 use mathlib.Core.Path.{_≡_, sym, ap, _∙_}
-use mathlib.Core.Bool.{cond}
 use Prim.Native.Nat.{ℕ, suc, _+_, _*_, _/_, _%_, _^_, _≤_, _<_, min}
 use native.Mathlib.Omega.{arith, by-contra}
 use native.Mathlib.Nat.{div-add-mod', mod-lt, mul-le-mul, mul-le-mul-left, mul-le-mul-right, le-div-iff-mul-le}
-use lib.IntN.{ℤ, pos, negℤ, natAbs}
-use lib.Signed.{ltZ, _≤ℤ_, _<ℤ_}
+use lib.IntN.{ℤ, pos, natAbs}
+use lib.Signed.{_≤ℤ_, _<ℤ_}
 use Rattle.integers.specs.Nearest.{nearest}
 use Rattle.integers.proofs.Nearest.{nearest-is}
 use Rattle.integers.proofs.Linear.{readℤ, about, above-abs, false-ltZ}
-use Rattle.quotient.specs.Quotient.{unit, quotient, Rounded, inverse}
+use Rattle.quotient.specs.Quotient.{unit, quotient, Rounded, signed, inverse}
 use Rattle.quotient.specs.Quotient.Laws.{quotient-signed}
 
 -- a divisor from 1 to n
@@ -19,7 +18,7 @@ positive z n h k =
 
 -- the quotient of num and den, whose magnitudes n and d give q
 pub divided : (num den : ℤ) (b n d q : ℕ) → pos 0 <ℤ den → den ≤ℤ pos b → n ≡ natAbs num → d ≡ natAbs den → Rounded n d q
-    → cond (ltZ num (pos 0)) (negℤ (pos q)) (pos q) ≡ quotient num den
+    → signed num q ≡ quotient num den
 divided num den b n d q h k e f r =
     let p = positive den b h k in
     quotient-signed num (natAbs den) q (p .0) (rw (e, f) at r) ∙ ap (quotient num) (sym (p .2))

@@ -1,9 +1,8 @@
 // The rounded quotient (document 01, 'One iteration'): the lowest part of the decoder.
 ghost use mathlib.Core.Path.{_≡_};
-ghost use mathlib.Core.Bool.{cond};
 ghost use Prim.Native.Nat.{_+_, _*_, _<_, _≤_, _^_, min};
-ghost use lib.IntN.{pos, negℤ, natAbs};
-ghost use lib.Signed.{ltZ, _≤ℤ_, _<ℤ_};
+ghost use lib.IntN.{pos, natAbs};
+ghost use lib.Signed.{_≤ℤ_, _<ℤ_};
 ghost use Rattle.quotient.specs.Quotient as Quotient;
 ghost use Rattle.quotient.specs.Quotient.{unit, Rounded, quotient};
 
@@ -59,7 +58,7 @@ fn rounded_by(n: u64, d: u64, inverse: u64) -> u64
 // q with the sign of num.
 fn signed(q: u64, num: i64) -> i16
     requires { ⌜ q ≤ unit ⌝ }
-    ensures { λ r. ⌜ r ≡ cond (ltZ num (pos 0)) (negℤ (pos q)) (pos q) ⌝ }
+    ensures { λ r. ⌜ r ≡ Quotient.signed num q ⌝ }
 {
     let z = q as i16;
     if num < 0 { -z } else { z }
