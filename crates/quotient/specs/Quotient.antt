@@ -30,6 +30,6 @@ pub record Rounded (n d q : ℕ) : Type 0 where
 abbrev pub signed : ℤ → ℕ → ℤ
 signed z q = cond (ltZ z (pos 0)) (negℤ (pos q)) (pos q)
 
--- the next whole number above 2 ^ 48 / 2d: a product with it, divided by 2 ^ 48, takes the place of a division by 2d
+-- the next whole number above 2 ^ 47 / d: a product with it, divided by 2 ^ 47, takes the place of a division by d
 unfoldable pub inverse : ℕ → ℕ
-inverse d = 2 ^ 48 / (2 * d) + 1
+inverse d = 2 ^ 47 / d + 1
