@@ -7,10 +7,25 @@ ghost use lib.IntN.{natAbs};
 ghost use lib.ListN.{length};
 ghost use lib.Seq.{sets};
 ghost use Rattle.lists.specs.Tabulated.{tab};
-ghost use Rattle.model.specs.Iteration.{at, row, share};
+ghost use Rattle.model.specs.Splitting.{member};
+ghost use Rattle.model.specs.Iteration.{at, row};
 ghost use Rattle.fours.specs.Turned.{entry, lane, straight};
 
 // ---- one triple
+
+fn index(x: u16) -> usize
+    ensures { λ r. ⌜ r ≡ x ⌝ }
+{
+    x as usize
+}
+
+// The variable at position p of triple t.
+pub fn variable(triples: &[u16], t: usize, p: usize) -> usize
+    requires { ⌜ (t ≤ 8192) × (p < 3) × (3 * t + p < length (now triples)) ⌝ }
+    ensures { λ v. ⌜ v ≡ member (now (triples .entry)) t p ⌝ }
+{
+    index(triples[3 * t + p])
+}
 
 // Entries 4t to 4t + 3: the rows of triple t, where they are not turned.
 pub fn load(rows: &[i32], t: usize) -> [i32; 4]

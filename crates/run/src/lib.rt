@@ -31,7 +31,8 @@ fn iterations(
     counts: &[u16],
     costs: &[i16],
     count: usize,
-    inverses: &[u64],
+    mosts: &[i64],
+    inverses: &[i64],
     sums: &mut [i64],
     values: &mut [i16],
     rows: &mut [i32],
@@ -53,6 +54,7 @@ fn iterations(
             counts,
             costs,
             count,
+            mosts,
             inverses,
             sums,
             values,
@@ -80,7 +82,9 @@ pub fn run(
         let last : State = record { sums = now (sums .exit); values = now (values .exit); rows = now (rows .exit) } in
         record { k = e .k; settled = e .settled; last = last } ≡ Run.run quotient g settings (now (costs .entry))) ⌝ }
 {
-    let mut inverses = [0u64; 31];
+    let mut mosts = [0i64; 31];
+    iteration::write_mosts(settings.ratio, &mut mosts);
+    let mut inverses = [0i64; 31];
     iteration::write_inverses(settings.ratio, &mut inverses);
     let ending = iterations(
         settings,
@@ -88,6 +92,7 @@ pub fn run(
         counts,
         costs,
         count,
+        &mosts,
         &inverses,
         sums,
         values,
