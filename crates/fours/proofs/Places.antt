@@ -1,5 +1,5 @@
 -- Where the rows stand. Assumes nothing.
-use mathlib.Core.Path.{_≡_, refl, sym, ap, _∙_}
+use mathlib.Core.Path.{_≡_, refl, sym, ap, subst, _∙_}
 use mathlib.Core.List.{List, []}
 use Prim.Native.Nat.{ℕ, _+_, _-_, _*_, _/_, _%_, _≤_, _<_}
 use native.Mathlib.Omega.{arith}
@@ -10,9 +10,10 @@ use lib.ListN.{length, getD, List·getD-eq-default}
 use lib.Seq.{sets}
 use Rattle.lists.specs.Tabulated.{tab, over}
 use Rattle.lists.proofs.Tabulated.{length-tab, getD-tab, tab-same, over-sets}
-use Rattle.model.specs.Iteration.{at, row}
+use Rattle.model.specs.Iteration.{at, row, slack, multiplier}
+use Rattle.model.specs.Bounds.{RowsWithin}
 use Rattle.model.proofs.Rows.{at-tab}
-use Rattle.fours.specs.Turned.{entry, lane, place, straight}
+use Rattle.fours.specs.Turned.{entry, stored, place, straight}
 
 -- an entry of four fours is the function's, or 0
 pub entry-tab : (P : ℤ → Type 0) (f : ℕ → ℕ → ℤ) (k j : ℕ) → (k < 4 → j < 4 → P (f k j)) → P (pos 0) → P (entry (tab 4 (λ k. tab 4 (f k))) k j)
@@ -60,8 +61,7 @@ module _ (s : List ℤ) (f : ℕ → ℤ) (t : ℕ) (q : List (List ℤ)) (long 
   one u v r l e g =
       ap (sets (over u f s) u) (tab-same 4 (λ k. entry q k r) (λ i. f (u + i)) (λ k h. rw e (are k r h l))) ∙ over-sets 4 u f s (omega arith) ∙ ap (λ (n : ℕ). over n f s) (sym g)
 
-  pub four-more : sets (sets (sets (sets (over (4 * t) f s) (4 * t) (tab 4 (λ k. entry q k 0))) (4 * (t + 1)) (tab 4 (λ k. entry q k 1))) (4 * (t + 2)) (tab 4 (λ k. entry q k 2))) (4 * (t + 3)) (tab 4 (λ k. entry q k 3))
-      ≡ over (4 * (t + 4)) f s
+  pub four-more : stored (over (4 * t) f s) t q ≡ over (4 * (t + 4)) f s
   four-more =
       let put : ℕ → List ℤ → List ℤ = λ r l. sets l (4 * (t + r)) (tab 4 (λ k. entry q k r)) in
       ap (λ (l : List ℤ). put 3 (put 2 (put 1 l))) (one (4 * t) (4 * (t + 1)) 0 (omega arith) (omega arith) (omega arith))
@@ -77,3 +77,47 @@ module _ (T : ℕ) (s : List ℤ) where
   pub straight-four : (t k r : ℕ) → T % 4 ≤ t → (T - t) % 4 ≡ 0 → t < T → k < 4 → r < 4 → row (straight T s) (t + k) r ≡ row s (t + r) k
   straight-four t k r h e g l m =
       getD-tab (4 * T) (λ i. at s (place T i)) (4 * (t + k) + r) (pos 0) (omega arith) ∙ ap (at s) (place-four T t k r h e (omega arith) l m)
+
+-- every entry is one of the first triples' or one of a four's
+pub by-place : (T : ℕ) (P : ℕ → Type 0)
+    → ((t r : ℕ) → t < T % 4 → r < 4 → P (4 * t + r))
+    → ((t k r : ℕ) → T % 4 ≤ t → (T - t) % 4 ≡ 0 → t < T → k < 4 → r < 4 → P (4 * (t + k) + r))
+    → (i : ℕ) → i < 4 * T → P i
+by-place T P one four i h = by (decLt (i / 4) (T % 4))
+  where
+    by : Dec (i / 4 < T % 4) → P i
+    by (yes l) = let e : 4 * (i / 4) + i % 4 ≡ i = omega arith in subst P e (one (i / 4) (i % 4) l (omega arith))
+    by (no l) =
+        let u = i / 4 - T % 4 in
+        let t = T % 4 + 4 * (u / 4) in
+        let e : 4 * (t + u % 4) + i % 4 ≡ i = omega arith in
+        subst P e (four t (u % 4) (i % 4) (omega arith) (omega arith) (omega arith) (omega arith) (omega arith))
+
+-- rows that a run reaches, in the order of document 01
+pub straight-within : (n T : ℕ) (s : List ℤ) → RowsWithin n s → RowsWithin n (straight T s)
+straight-within n T s w =
+    record {
+      multipliers = λ i. at-tab (λ z. multiplier z ≤ 32768 * n) (4 * T) (λ i. at s (place T i)) i (λ _. w .multipliers (place T i)) (omega arith);
+      slacks = λ i. at-tab (λ z. slack z ≤ 65536) (4 * T) (λ i. at s (place T i)) i (λ _. w .slacks (place T i)) (omega arith);
+    }
+
+-- what is within the bounds of n iterations
+abbrev Small : ℕ → ℤ → Type 0
+Small n z = (multiplier z ≤ 32768 * n) × (slack z ≤ 65536)
+
+-- and back
+pub straight-back : (n T : ℕ) (s : List ℤ) → length s ≡ 4 * T → RowsWithin n (straight T s) → RowsWithin n s
+straight-back n T s e w = record { multipliers = λ i. (stands i) .0; slacks = λ i. (stands i) .1 }
+  where
+    of : (i : ℕ) → Small n (at (straight T s) i)
+    of i = (w .multipliers i, w .slacks i)
+
+    by : (i : ℕ) → Dec (i < 4 * T) → Small n (at s i)
+    by i (yes l) =
+        by-place T (λ i. Small n (at s i))
+        (λ t r h m. subst (Small n) (straight-first T s (4 * t + r) (omega arith)) (of (4 * t + r)))
+        (λ t k r f g h l m. subst (Small n) (straight-four T s t r k f g h m l) (of (4 * (t + r) + k))) i l
+    by i (no l) = let z : at s i ≡ pos 0 = List·getD-eq-default s (pos 0) {n = i} (omega arith) in rw z (omega arith, omega arith)
+
+    stands : (i : ℕ) → Small n (at s i)
+    stands i = by i (decLt i (4 * T))

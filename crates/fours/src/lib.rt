@@ -9,7 +9,7 @@ ghost use lib.Seq.{sets};
 ghost use Rattle.lists.specs.Tabulated.{tab};
 ghost use Rattle.model.specs.Splitting.{member};
 ghost use Rattle.model.specs.Iteration.{at, row};
-ghost use Rattle.fours.specs.Turned.{entry, lane, straight};
+ghost use Rattle.fours.specs.Turned.{entry, lane, stored, straight};
 
 // ---- one triple
 
@@ -98,7 +98,7 @@ pub fn load_four(rows: &[i32], t: usize) -> [[i32; 4]; 4]
 
 pub fn store_four(rows: &mut [i32], t: usize, q: [[i32; 4]; 4])
     requires { ⌜ (t ≤ 8188) × (4 * t + 15 < length (now rows)) × ((k j : ℕ) → natAbs (entry q k j) ≤ 131072000) ⌝ }
-    ensures { λ _. ⌜ now (rows .exit) ≡ sets (sets (sets (sets (now (rows .entry)) (4 * t) (tab 4 (λ k. entry q k 0))) (4 * (t + 1)) (tab 4 (λ k. entry q k 1))) (4 * (t + 2)) (tab 4 (λ k. entry q k 2))) (4 * (t + 3)) (tab 4 (λ k. entry q k 3)) ⌝ }
+    ensures { λ _. ⌜ now (rows .exit) ≡ stored (now (rows .entry)) t q ⌝ }
 {
     store_all(rows, t, turn(q))
 }

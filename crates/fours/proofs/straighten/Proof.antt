@@ -5,11 +5,10 @@ use Prim.Native.Nat.{ℕ, _+_, _-_, _*_, _%_, _≤_, _<_}
 use native.Mathlib.Omega.{arith}
 use lib.IntN.{ℤ, pos, natAbs}
 use lib.ListN.{length}
-use lib.Seq.{sets}
-use Rattle.lists.specs.Tabulated.{tab, over}
+use Rattle.lists.specs.Tabulated.{over}
 use Rattle.lists.proofs.Tabulated.{getD-tab, tab-same, length-over, over-out, over-same, over-self, over-whole}
 use Rattle.model.specs.Iteration.{at, row}
-use Rattle.fours.specs.Turned.{entry, place, straight}
+use Rattle.fours.specs.Turned.{entry, stored, place, straight}
 use Rattle.fours.proofs.Places.{entry-tab, entry-is, four-more, straight-first, straight-four}
 use Rattle.fours.proofs.straighten.Statement.{statement}
 use Rattle.fours.proofs.straighten.Tie as tie
@@ -90,8 +89,7 @@ put-is c =
     let n = start l .args .count in
     let q = c .before .before .before .load-all .result in
     c .before .store-four .ensures
-    ∙ ap
-    (λ (s : List ℤ). sets (sets (sets (sets s (4 * t) (tab 4 (λ k. entry q k 0))) (4 * (t + 1)) (tab 4 (λ k. entry q k 1))) (4 * (t + 2)) (tab 4 (λ k. entry q k 2))) (4 * (t + 3)) (tab 4 (λ k. entry q k 3)))
+    ∙ ap (λ (s : List ℤ). stored s t q)
     (l .loop .inv .3)
     ∙ four-more (ss l) (goal l) t q (omega (arith, start l .pre .1, below c)) (λ k r h m.
     read (c .before .before .before) k r h m ∙ sym (straight-four n (ss l) t r k (l .loop .inv .0) (l .loop .inv .1) (omega (arith, below c)) m h))
