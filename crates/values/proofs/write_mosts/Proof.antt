@@ -68,7 +68,7 @@ loop-again : tie.Need-loop-again Inv-loop μ-loop
 loop-again c =
     let l = c .before .before in
     let s = l .before .args in
-    (omega arith, rw (l .loop .inv .1) (over-stored w64 (l .loop .i) (mostOf (s .ratio)) (s .mosts .now) _ (omega arith) (mul-mosts c) (most-is c .is)))
+    (omega arith, rw (l .loop .inv .1) (over-stored w64 (l .loop .i) (mostOf (s .ratio)) (s .mosts .now) _ (omega arith) (fits (most-is c) w64 tt) (most-is c .is)))
 
 same-length : tie.Need-same-length Inv-loop μ-loop
 same-length c = long (c .before)
