@@ -31,12 +31,20 @@ pub share-four : (s : List ℤ) (t p : ℕ) → share (tab 4 (λ r. row s t r)) 
 unfolding share
 share-four s t p = refl
 
+-- what `rows::shares` forms of four rows
+pub formed : (q x : List ℤ) → x ≡ tab 3 (λ p. sumℤ 4 (λ r. sign r p *ℤ pos (slack (at q r) + multiplier (at q r)))) → x ≡ tab 3 (share q 0)
+unfolding share
+formed q x e = e
+
 -- a share of rows that are small
 pub share-small : (s : List ℤ) (t p : ℕ) → p < 3 → ((r : ℕ) → natAbs (row s t r) ≤ 131072000) → natAbs (share s t p) ≤ 524288000
 unfolding share
 share-small s t p l h =
     let size : ℕ → ℤ = λ r. pos (slack (row s t r) + multiplier (row s t r)) in
     le-trans (sumℤ-bound 4 (λ r. sign r p *ℤ size r) (λ _. 131072000) (λ r k. rw (signed-abs r p (size r) k l) (omega (arith, about (row s t r), h r)))) (omega arith)
+
+pub formed-small : (s : List ℤ) (t p : ℕ) → ((r : ℕ) → natAbs (row s t r) ≤ 131072000) → natAbs (at (tab 3 (share s t)) p) ≤ 524288000
+formed-small s t p h = at-tab (λ z. natAbs z ≤ 524288000) 3 (share s t) p (λ l. share-small s t p l h) (omega arith)
 
 when-small : (b : Bool) (z : ℤ) (u : ℕ) → natAbs z ≤ u → natAbs (z when b) ≤ u
 when-small true z u h = h
