@@ -9,15 +9,19 @@ use borrow.Author.Tests.{eq-eqb, ne-eqb}
 use lib.Dec.{eqb}
 use lib.IntN.{ℤ, pos, natAbs, _+ℤ_, _*ℤ_, +ℤ-idr}
 use lib.ListN.{length, set}
+use mir.Syntax.{w32}
+use mir.Val.{toZ, ofZ}
 use Rattle.integers.specs.Sum.{sumℤ}
 use Rattle.integers.proofs.Sums.{sumℕ-bound, sumℤ-bound}
 use Rattle.integers.proofs.Linear.{split, toℕ, about, abs-add}
+use Rattle.integers.proofs.Machine.{held}
 use Rattle.lists.specs.Tabulated.{tab}
 use Rattle.lists.proofs.Tabulated.{length-tab, getD-tab, tab-same, tab-getD, tab-set}
 use Rattle.model.specs.Iteration.{at, sign, row, slack, multiplier, share, _when_, sumOf}
 use Rattle.model.specs.Bounds.{RowsWithin}
 use Rattle.model.specs.Splitting.{member}
 use Rattle.model.proofs.Rows.{three, signed-abs, at-tab}
+use Rattle.fours.specs.Turned.{lane}
 
 -- one entry of a list of sums is increased
 pub increased : (l : List ℤ) (v : ℕ) (x : ℤ) → v < length l → set l v (at l v +ℤ x) ≡ tab (length l) (λ u. at l u +ℤ (x when eqb v u))
@@ -53,6 +57,16 @@ when-small false z u h = omega arith
 -- rows that a run reaches
 pub reached : (s : List ℤ) → RowsWithin 3999 s → (i : ℕ) → natAbs (at s i) ≤ 131072000
 reached s w i = omega (arith, about (at s i), w .multipliers i, w .slacks i)
+
+pub lane-small : (s : List ℤ) → RowsWithin 3999 s → (t k r : ℕ) → natAbs (at (lane s t k) r) ≤ 131072000
+lane-small s w t k r = at-tab (λ z. natAbs z ≤ 131072000) 4 (λ r. row s (t + r) k) r (λ _. reached s w (4 * (t + r) + k)) (omega arith)
+
+pub lane-share-small : (s : List ℤ) → RowsWithin 3999 s → (t k p : ℕ) → p < 3 → natAbs (share (lane s t k) 0 p) ≤ 524288000
+lane-share-small s w t k p l = share-small (lane s t k) 0 p l (λ r. lane-small s w t k (0 + r))
+
+-- position p of what was formed, as it is read
+pub formed-read : (q x : List ℤ) → ((r : ℕ) → natAbs (at q r) ≤ 131072000) → x ≡ tab 3 (share q 0) → (p : ℕ) → p < 3 → toZ w32 (ofZ w32 (at x p)) ≡ share q 0 p
+formed-read q x h e p l = held w32 (at x p) 524288000 tt (rw e (formed-small q 0 p (λ r. h (0 + r)))) .is ∙ ap (λ (k : List ℤ). at k p) e ∙ getD-tab 3 (share q 0) p (pos 0) l
 
 pub part-small : (ts : List ℕ) (s : List ℤ) → RowsWithin 3999 s → (t p v : ℕ) → p < 3 → natAbs (share s t p when eqb (member ts t p) v) ≤ 524288000
 part-small ts s w t p v l = when-small (eqb (member ts t p) v) (share s t p) 524288000 (share-small s t p l (λ r. reached s w (4 * t + r)))
