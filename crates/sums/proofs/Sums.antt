@@ -69,16 +69,18 @@ lane-share-small s w t k p l = share-small (lane s t k) 0 p l (λ r. lane-small 
 pub formed-read : (q x : List ℤ) → ((r : ℕ) → natAbs (at q r) ≤ 131072000) → x ≡ tab 3 (share q 0) → (p : ℕ) → p < 3 → toZ w32 (ofZ w32 (at x p)) ≡ share q 0 p
 formed-read q x h e p l = held w32 (at x p) 524288000 tt (rw e (formed-small q 0 p (λ r. h (0 + r)))) .is ∙ ap (λ (k : List ℤ). at k p) e ∙ getD-tab 3 (share q 0) p (pos 0) l
 
-pub part-small : (ts : List ℕ) (s : List ℤ) → RowsWithin 3999 s → (t p v : ℕ) → p < 3 → natAbs (share s t p when eqb (member ts t p) v) ≤ 524288000
-part-small ts s w t p v l = when-small (eqb (member ts t p) v) (share s t p) 524288000 (share-small s t p l (λ r. reached s w (4 * t + r)))
+-- what a triple gives one variable, and what n triples give it
+pub triple-small : (z : ℕ → ℤ) (b : ℕ → Bool) → ((p : ℕ) → p < 3 → natAbs (z p) ≤ 524288000) → natAbs (sumℤ 3 (λ p. z p when b p)) ≤ 1572864000
+triple-small z b h = le-trans (sumℤ-bound 3 (λ p. z p when b p) (λ _. 524288000) (λ p l. when-small (b p) (z p) 524288000 (h p l))) (omega arith)
+
+pub triples-small : (n : ℕ) (f : ℕ → ℤ) → ((t : ℕ) → t < n → natAbs (f t) ≤ 1572864000) → natAbs (sumℤ n f) ≤ 1572864000 * n
+triples-small n f h = le-trans (sumℤ-bound n f (λ _. 1572864000) h) (omega (arith, sumℕ-bound n 1572864000 (λ _. 1572864000) (λ k _. omega arith)))
 
 pub sums-small : (ts : List ℕ) (s : List ℤ) → RowsWithin 3999 s → (t v : ℕ) → t ≤ 8192 → natAbs (sumOf ts t s v) ≤ 2 ^ 58
 unfolding sumOf
 sums-small ts s w t v l =
-    let part : ℕ → ℕ → ℤ = λ t p. share s t p when eqb (member ts t p) v in
-    let three : (t : ℕ) → natAbs (sumℤ 3 (part t)) ≤ 1572864000
-    = λ t. le-trans (sumℤ-bound 3 (part t) (λ _. 524288000) (λ p k. part-small ts s w t p v k)) (omega arith) in
-    le-trans (sumℤ-bound t (λ t. sumℤ 3 (part t)) (λ _. 1572864000) (λ t _. three t)) (omega (arith, sumℕ-bound t 1572864000 (λ _. 1572864000) (λ k _. omega arith)))
+    le-trans (triples-small t (λ t. sumℤ 3 (λ p. share s t p when eqb (member ts t p) v)) (λ t _. triple-small (share s t) (λ p. eqb (member ts t p) v) (λ p k. share-small s t p k (λ r. reached s w (4 * t + r)))))
+    (omega arith)
 
 -- ---- a list of sums, with x added at v
 abbrev pub added : List ℤ → ℕ → ℤ → List ℤ
