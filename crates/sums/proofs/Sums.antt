@@ -1,23 +1,22 @@
 -- S, as one triple after another is added. Assumes nothing.
 use mathlib.Core.Bool.{Bool, true, false}
 use mathlib.Core.List.{List}
-use mathlib.Core.Path.{_≡_, refl, sym, ap, ap₂, _∙_}
-use Prim.Native.Nat.{ℕ, _+_, _*_, _/_, _%_, _^_, _≤_, _<_}
+use mathlib.Core.Path.{_≡_, refl, sym, ap, _∙_}
+use Prim.Native.Nat.{ℕ, _+_, _*_, _^_, _≤_, _<_}
 use native.Mathlib.Nat.{le-trans}
 use native.Mathlib.Omega.{arith}
 use borrow.Author.Tests.{eq-eqb, ne-eqb}
 use lib.Dec.{eqb}
 use lib.IntN.{ℤ, pos, natAbs, _+ℤ_, _*ℤ_, +ℤ-idr}
 use lib.ListN.{length, set}
-use lib.Seq.{sets}
 use mir.Syntax.{w32}
 use mir.Val.{toZ, ofZ}
 use Rattle.integers.specs.Sum.{sumℤ}
 use Rattle.integers.proofs.Sums.{sumℕ-bound, sumℤ-bound}
 use Rattle.integers.proofs.Linear.{split, toℕ, about, abs-add}
 use Rattle.integers.proofs.Machine.{held}
-use Rattle.lists.specs.Tabulated.{tab, over}
-use Rattle.lists.proofs.Tabulated.{length-tab, getD-tab, tab-same, tab-getD, tab-set, over-sets}
+use Rattle.lists.specs.Tabulated.{tab}
+use Rattle.lists.proofs.Tabulated.{length-tab, getD-tab, tab-same, tab-getD, tab-set}
 use Rattle.model.specs.Iteration.{at, sign, row, slack, multiplier, share, _when_, sumOf}
 use Rattle.model.specs.Bounds.{RowsWithin}
 use Rattle.model.specs.Splitting.{member}
@@ -109,23 +108,3 @@ added-three l v x =
   where
     sorted : (a b c d : ℤ) → a +ℤ b +ℤ c +ℤ d ≡ a +ℤ (pos 0 +ℤ b +ℤ c +ℤ d)
     sorted a b c d = rw (split a, split b, split c, split d) (simp toℕ (omega arith))
-
--- ---- the shares of a group of fours: entry i of position p's list, those from triple t on
-abbrev pub staged : List ℤ → ℕ → ℕ → ℕ → ℤ
-staged s t p i = share (lane s (t + 4 * (i / 4)) (i % 4)) 0 p
-
-staged-four : (s : List ℤ) (t p b k : ℕ) → k < 4 → share (lane s (t + 4 * b) k) 0 p ≡ staged s t p (4 * b + k)
-staged-four s t p b k h =
-    let d : (4 * b + k) / 4 ≡ b = omega arith in
-    let m : (4 * b + k) % 4 ≡ k = omega arith in
-    rw (d, m)
-
--- four b is stored
-pub staged-next : (s : List ℤ) (t p b : ℕ) (old x y : List ℤ) → 4 * b + 4 ≤ length old → x ≡ over (4 * b) (staged s t p) old
-    → y ≡ sets x (4 * b) (tab 4 (λ k. share (lane s (t + 4 * b) k) 0 p)) → y ≡ over (4 * (b + 1)) (staged s t p) old
-staged-next s t p b old x y h e g =
-    let m : 4 * b + 4 ≡ 4 * (b + 1) = omega arith in
-    g
-    ∙ ap₂ (λ (l k : List ℤ). sets l (4 * b) k) e (tab-same 4 (λ k. share (lane s (t + 4 * b) k) 0 p) (λ k. staged s t p (4 * b + k)) (staged-four s t p b))
-    ∙ over-sets 4 (4 * b) (staged s t p) old h
-    ∙ ap (λ (n : ℕ). over n (staged s t p) old) m

@@ -7,7 +7,7 @@ use lib.IntN.{ℤ}
 use lib.ListN.{length}
 use Rattle.lists.specs.Tabulated.{over}
 use Rattle.lists.proofs.Tabulated.{length-over}
-use Rattle.sums.proofs.Sums.{staged, staged-next}
+use Rattle.sums.proofs.Groups.{staged, staged-next}
 use Rattle.sums.proofs.share_group.Statement.{statement}
 use Rattle.sums.proofs.share_group.Tie as tie
 
