@@ -4,7 +4,6 @@ use mathlib.Core.Path.{_≡_, sym, ap, ap₂, _∙_}
 use Prim.Native.Nat.{ℕ, zero, suc, _+_, _-_, _*_, _/_, _%_, _≤_, _<_}
 use native.Mathlib.Nat.{add-zero, add-suc}
 use native.Mathlib.Omega.{arith}
-use lib.Dec.{eqb}
 use lib.IntN.{ℤ, pos, natAbs, _+ℤ_, +ℤ-idr, +ℤ-assoc}
 use lib.ListN.{length}
 use lib.Seq.{sets}
@@ -12,13 +11,12 @@ use Rattle.integers.specs.Sum.{sumℤ}
 use Rattle.integers.proofs.Sums.{sumℤ-same}
 use Rattle.lists.specs.Tabulated.{tab, over}
 use Rattle.lists.proofs.Tabulated.{length-tab, getD-tab, tab-same, over-in, over-sets}
-use Rattle.model.specs.Iteration.{at, row, slack, multiplier, share, _when_, sumOf}
+use Rattle.model.specs.Iteration.{at, row, slack, multiplier, share, sumOf}
 use Rattle.model.specs.Bounds.{RowsWithin}
-use Rattle.model.specs.Splitting.{member}
 use Rattle.model.proofs.Rows.{three, at-tab}
 use Rattle.fours.specs.Turned.{entry, lane, place, straight}
 use Rattle.fours.proofs.Places.{straight-first, straight-four}
-use Rattle.sums.proofs.Sums.{share-four, lane-share-small}
+use Rattle.sums.proofs.Sums.{share-four, lane-share-small, part, part-same}
 
 -- ---- entry i of position p's list: the share of the i-th triple from t on
 abbrev pub staged : List ℤ → ℕ → ℕ → ℕ → ℤ
@@ -45,20 +43,12 @@ sumℤ-split : (m n : ℕ) (f : ℕ → ℤ) → sumℤ (m + n) f ≡ sumℤ m f
 sumℤ-split m zero f = rw (add-zero m) (sym (+ℤ-idr (sumℤ m f)))
 sumℤ-split m (suc n) f = rw (add-suc m n, sumℤ-split m n f) (+ℤ-assoc (sumℤ m f) (sumℤ n (λ k. f (m + k))) (f (m + n)))
 
--- what triple t gives variable v
-abbrev part : List ℕ → List ℤ → ℕ → ℕ → ℤ
-part ts s v t = sumℤ 3 (λ p. share s t p when eqb (member ts t p) v)
-
-part-same : (ts : List ℕ) (s q : List ℤ) (v t : ℕ) → ((p : ℕ) → share s t p ≡ share q t p) → part ts s v t ≡ part ts q v t
-part-same ts s q v t h =
-    sumℤ-same 3 (λ p. share s t p when eqb (member ts t p) v) (λ p. share q t p when eqb (member ts t p) v) (λ p _. ap (λ (z : ℤ). z when eqb (member ts t p) v) (h p))
-
 -- ---- the rows in the order of document 01
 pub straight-within : (n T : ℕ) (s : List ℤ) → RowsWithin n s → RowsWithin n (straight T s)
 straight-within n T s w =
     record {
       multipliers = λ i. at-tab (λ z. multiplier z ≤ 32768 * n) (4 * T) (λ i. at s (place T i)) i (λ _. w .multipliers (place T i)) (omega arith);
-      slacks = λ i. at-tab (λ z. slack z ≤ 65536) (4 * T) (λ i. at s (place T i)) i (λ _. w .slacks (place T i)) (omega arith)
+      slacks = λ i. at-tab (λ z. slack z ≤ 65536) (4 * T) (λ i. at s (place T i)) i (λ _. w .slacks (place T i)) (omega arith);
     }
 
 -- among the first triples
@@ -70,7 +60,8 @@ share-first T s t p h =
 
 pub sum-first : (ts : List ℕ) (T : ℕ) (s : List ℤ) (v : ℕ) → sumOf ts (T % 4) s v ≡ sumOf ts (T % 4) (straight T s) v
 unfolding sumOf
-sum-first ts T s v = sumℤ-same (T % 4) (part ts s v) (part ts (straight T s) v) (λ t h. part-same ts s (straight T s) v t (λ p. share-first T s t p h))
+sum-first ts T s v =
+    sumℤ-same (T % 4) (λ t. part ts v t (share s t)) (λ t. part ts v t (share (straight T s) t)) (λ t h. part-same ts v t (share s t) (share (straight T s) t) (λ p _. share-first T s t p h))
 
 -- in a four, which begins with triple t
 share-lane : (T : ℕ) (s : List ℤ) (t k p : ℕ) → T % 4 ≤ t → (T - t) % 4 ≡ 0 → t < T → k < 4 → share (lane s t k) 0 p ≡ share (straight T s) (t + k) p
@@ -92,7 +83,7 @@ pub staged-lists : (s : List ℤ) (t b n : ℕ) (x y z x′ y′ z′ : List ℤ
     → x′ ≡ over (4 * b) (staged s t 0) x → y′ ≡ over (4 * b) (staged s t 1) y → z′ ≡ over (4 * b) (staged s t 2) z → Staged s t n (x′ ∷ y′ ∷ z′ ∷ [])
 staged-lists s t b n x y z x′ y′ z′ e f g h =
     record {
-      are = λ p i l m. three (λ p. entry (x′ ∷ y′ ∷ z′ ∷ []) p i ≡ staged s t p i) (one 0 x x′ f i (omega (arith, e))) (one 1 y y′ g i (omega (arith, e))) (one 2 z z′ h i (omega (arith, e))) p l
+      are = λ p i l m. three (λ p. entry (x′ ∷ y′ ∷ z′ ∷ []) p i ≡ staged s t p i) (one 0 x x′ f i (omega (arith, e))) (one 1 y y′ g i (omega (arith, e))) (one 2 z z′ h i (omega (arith, e))) p l;
     }
   where
     one : (p : ℕ) (old l : List ℤ) → l ≡ over (4 * b) (staged s t p) old → (i : ℕ) → i < 4 * b → at l i ≡ staged s t p i
@@ -104,15 +95,14 @@ module _ {s : List ℤ} {t n : ℕ} {q : List (List ℤ)} (g : Staged s t n q) w
 
   -- the group is given to sums of the triples before it
   pub group-more : (ts : List ℕ) (T N : ℕ) (l : List ℤ) → T % 4 ≤ t → (T - t) % 4 ≡ 0 → t + n ≤ T → l ≡ tab N (sumOf ts t (straight T s))
-      → tab (length l) (λ u. at l u +ℤ sumℤ n (λ i. sumℤ 3 (λ p. entry q p i when eqb (member ts (t + i) p) u))) ≡ tab N (sumOf ts (t + n) (straight T s))
+      → tab (length l) (λ u. at l u +ℤ sumℤ n (λ i. part ts u (t + i) (λ p. entry q p i))) ≡ tab N (sumOf ts (t + n) (straight T s))
   unfolding sumOf
   group-more ts T N l h e k is =
       let S = straight T s in
-      let given : ℕ → ℕ → ℤ = λ u i. sumℤ 3 (λ p. entry q p i when eqb (member ts (t + i) p) u) in
+      let given : ℕ → ℕ → ℤ = λ u i. part ts u (t + i) (λ p. entry q p i) in
+      let all : ℕ → ℕ → ℤ = λ u t. part ts u t (share S t) in
       let long : length l ≡ N = ap length is ∙ length-tab N (sumOf ts t S) in
-      let same : (u i : ℕ) → i < n → given u i ≡ part ts S u (t + i)
-      = λ u i m. sumℤ-same 3 (λ p. entry q p i when eqb (member ts (t + i) p) u) (λ p. share S (t + i) p when eqb (member ts (t + i) p) u) (λ p v.
-      ap (λ (z : ℤ). z when eqb (member ts (t + i) p) u) (g .are p i v m ∙ staged-is T s t p i h e (omega arith))) in
+      let same : (u i : ℕ) → i < n → given u i ≡ all u (t + i)
+      = λ u i m. part-same ts u (t + i) (λ p. entry q p i) (share S (t + i)) (λ p v. g .are p i v m ∙ staged-is T s t p i h e (omega arith)) in
       rw long (tab-same N (λ u. at l u +ℤ sumℤ n (given u)) (sumOf ts (t + n) S) (λ u m.
-      ap₂ _+ℤ_ (ap (λ (k : List ℤ). at k u) is ∙ getD-tab N (sumOf ts t S) u (pos 0) m) (sumℤ-same n (given u) (λ i. part ts S u (t + i)) (same u))
-      ∙ sym (sumℤ-split t n (part ts S u))))
+      ap₂ _+ℤ_ (ap (λ (k : List ℤ). at k u) is ∙ getD-tab N (sumOf ts t S) u (pos 0) m) (sumℤ-same n (given u) (λ i. all u (t + i)) (same u)) ∙ sym (sumℤ-split t n (all u))))

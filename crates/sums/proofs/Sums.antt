@@ -12,7 +12,7 @@ use lib.ListN.{length, set}
 use mir.Syntax.{w32}
 use mir.Val.{toZ, ofZ}
 use Rattle.integers.specs.Sum.{sumℤ}
-use Rattle.integers.proofs.Sums.{sumℕ-bound, sumℤ-bound}
+use Rattle.integers.proofs.Sums.{sumℕ-bound, sumℤ-same, sumℤ-bound}
 use Rattle.integers.proofs.Linear.{split, toℕ, about, abs-add}
 use Rattle.integers.proofs.Machine.{held}
 use Rattle.lists.specs.Tabulated.{tab}
@@ -20,7 +20,7 @@ use Rattle.lists.proofs.Tabulated.{length-tab, getD-tab, tab-same, tab-getD, ta
 use Rattle.model.specs.Iteration.{at, sign, row, slack, multiplier, share, _when_, sumOf}
 use Rattle.model.specs.Bounds.{RowsWithin}
 use Rattle.model.specs.Splitting.{member}
-use Rattle.model.proofs.Rows.{three, signed-abs, at-tab}
+use Rattle.model.proofs.Rows.{signed-abs, at-tab}
 use Rattle.fours.specs.Turned.{lane}
 
 -- one entry of a list of sums is increased
@@ -41,7 +41,7 @@ unfolding share
 formed q x e = e
 
 -- a share of rows that are small
-pub share-small : (s : List ℤ) (t p : ℕ) → p < 3 → ((r : ℕ) → natAbs (row s t r) ≤ 131072000) → natAbs (share s t p) ≤ 524288000
+share-small : (s : List ℤ) (t p : ℕ) → p < 3 → ((r : ℕ) → natAbs (row s t r) ≤ 131072000) → natAbs (share s t p) ≤ 524288000
 unfolding share
 share-small s t p l h =
     let size : ℕ → ℤ = λ r. pos (slack (row s t r) + multiplier (row s t r)) in
@@ -68,18 +68,25 @@ lane-share-small s w t k p l = share-small (lane s t k) 0 p l (λ r. lane-small 
 pub formed-read : (q x : List ℤ) → ((r : ℕ) → natAbs (at q r) ≤ 131072000) → x ≡ tab 3 (share q 0) → (p : ℕ) → p < 3 → toZ w32 (ofZ w32 (at x p)) ≡ share q 0 p
 formed-read q x h e p l = held w32 (at x p) 524288000 tt (rw e (formed-small q 0 p (λ r. h (0 + r)))) .is ∙ ap (λ (k : List ℤ). at k p) e ∙ getD-tab 3 (share q 0) p (pos 0) l
 
--- what a triple gives one variable, and what n triples give it
-pub triple-small : (z : ℕ → ℤ) (b : ℕ → Bool) → ((p : ℕ) → p < 3 → natAbs (z p) ≤ 524288000) → natAbs (sumℤ 3 (λ p. z p when b p)) ≤ 1572864000
-triple-small z b h = le-trans (sumℤ-bound 3 (λ p. z p when b p) (λ _. 524288000) (λ p l. when-small (b p) (z p) 524288000 (h p l))) (omega arith)
+-- what triple t gives variable v, of the shares z of its positions
+abbrev pub part : List ℕ → ℕ → ℕ → (ℕ → ℤ) → ℤ
+part ts v t z = sumℤ 3 (λ p. z p when eqb (member ts t p) v)
 
+pub part-same : (ts : List ℕ) (v t : ℕ) (z y : ℕ → ℤ) → ((p : ℕ) → p < 3 → z p ≡ y p) → part ts v t z ≡ part ts v t y
+part-same ts v t z y h = sumℤ-same 3 (λ p. z p when eqb (member ts t p) v) (λ p. y p when eqb (member ts t p) v) (λ p l. ap (λ (x : ℤ). x when eqb (member ts t p) v) (h p l))
+
+pub part-small : (ts : List ℕ) (v t : ℕ) (z : ℕ → ℤ) → ((p : ℕ) → p < 3 → natAbs (z p) ≤ 524288000) → natAbs (part ts v t z) ≤ 1572864000
+part-small ts v t z h =
+    le-trans (sumℤ-bound 3 (λ p. z p when eqb (member ts t p) v) (λ _. 524288000) (λ p l. when-small (eqb (member ts t p) v) (z p) 524288000 (h p l))) (omega arith)
+
+-- n triples
 pub triples-small : (n : ℕ) (f : ℕ → ℤ) → ((t : ℕ) → t < n → natAbs (f t) ≤ 1572864000) → natAbs (sumℤ n f) ≤ 1572864000 * n
 triples-small n f h = le-trans (sumℤ-bound n f (λ _. 1572864000) h) (omega (arith, sumℕ-bound n 1572864000 (λ _. 1572864000) (λ k _. omega arith)))
 
 pub sums-small : (ts : List ℕ) (s : List ℤ) → RowsWithin 3999 s → (t v : ℕ) → t ≤ 8192 → natAbs (sumOf ts t s v) ≤ 2 ^ 58
 unfolding sumOf
 sums-small ts s w t v l =
-    le-trans (triples-small t (λ t. sumℤ 3 (λ p. share s t p when eqb (member ts t p) v)) (λ t _. triple-small (share s t) (λ p. eqb (member ts t p) v) (λ p k. share-small s t p k (λ r. reached s w (4 * t + r)))))
-    (omega arith)
+    le-trans (triples-small t (λ t. part ts v t (share s t)) (λ t _. part-small ts v t (share s t) (λ p k. share-small s t p k (λ r. reached s w (4 * t + r))))) (omega arith)
 
 -- ---- a list of sums, with x added at v
 abbrev pub added : List ℤ → ℕ → ℤ → List ℤ

@@ -8,7 +8,7 @@ use lib.IntN.{ℤ, natAbs}
 use lib.ListN.{length}
 use Rattle.lists.specs.Tabulated.{tab, over}
 use Rattle.lists.proofs.Tabulated.{length-tab, tab-same, length-over}
-use Rattle.model.specs.Iteration.{at, sumOf}
+use Rattle.model.specs.Iteration.{sumOf}
 use Rattle.model.proofs.Rows.{at-tab}
 use Rattle.fours.specs.Turned.{straight}
 use Rattle.sums.proofs.Sums.{sums-small}

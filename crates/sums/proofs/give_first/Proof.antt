@@ -5,17 +5,13 @@ use Prim.Native.Nat.{ℕ, suc, _+_, _-_, _*_, _^_, _≤_}
 use native.Mathlib.Numerals.{add-one}
 use native.Mathlib.Omega.{arith}
 use borrow.Author.Needs.{needs}
-use lib.Dec.{eqb}
 use lib.IntN.{ℤ, pos, natAbs, _+ℤ_}
 use lib.ListN.{length}
-use Rattle.integers.specs.Sum.{sumℤ}
-use Rattle.integers.proofs.Sums.{sumℤ-same}
 use Rattle.lists.specs.Tabulated.{tab}
 use Rattle.lists.proofs.Tabulated.{length-tab, getD-tab, tab-same}
-use Rattle.model.specs.Iteration.{at, row, share, _when_, sumOf}
-use Rattle.model.specs.Splitting.{member}
+use Rattle.model.specs.Iteration.{at, row, share, sumOf}
 use Rattle.model.proofs.Rows.{at-tab}
-use Rattle.sums.proofs.Sums.{share-four, formed, formed-small, reached, sums-small}
+use Rattle.sums.proofs.Sums.{share-four, formed, formed-small, reached, part, sums-small}
 use Rattle.sums.proofs.give_first.Statement.{statement}
 use Rattle.sums.proofs.give_first.Tie as tie
 
@@ -97,9 +93,8 @@ loop-again c =
     let t = l .loop .t in
     let ts = start l .args .triples .now in
     let q = start l .args .rows .now in
-    let given : List ℤ → ℕ → ℤ = λ x u. sumℤ 3 (λ p. at x p when eqb (member ts t p) u) in
-    let x = c .before .before .before .shares .result in
-    let y = tab 3 (share q t) in (
+    let given : List ℤ → ℕ → ℤ = λ x u. part ts u t (at x) in
+    let x = c .before .before .before .shares .result in (
       omega arith,
       c .before .give .ensures
           ∙ rw (add-one t, long l) (tab-same (n l) (λ u. at (l .loop .sums) u +ℤ given x u) (S l (suc t)) (λ u h.

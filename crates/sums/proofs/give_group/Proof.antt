@@ -5,7 +5,6 @@ use Prim.Native.Nat.{ℕ, suc, _+_, _-_, _*_, _^_, _≤_, _<_}
 use native.Mathlib.Numerals.{add-one}
 use native.Mathlib.Omega.{arith}
 use borrow.Author.Needs.{needs}
-use lib.Dec.{eqb}
 use lib.IntN.{ℤ, pos, natAbs, _+ℤ_, +ℤ-idr, +ℤ-assoc}
 use lib.ListN.{length}
 use mir.Syntax.{w32}
@@ -15,21 +14,20 @@ use Rattle.integers.proofs.Linear.{abs-add}
 use Rattle.integers.proofs.Machine.{held}
 use Rattle.lists.specs.Tabulated.{tab}
 use Rattle.lists.proofs.Tabulated.{length-tab, getD-tab, tab-same, tab-getD}
-use Rattle.model.specs.Iteration.{at, _when_}
-use Rattle.model.specs.Splitting.{member}
+use Rattle.model.specs.Iteration.{at}
 use Rattle.model.proofs.Rows.{three, at-tab}
 use Rattle.fours.specs.Turned.{entry}
-use Rattle.sums.proofs.Sums.{triple-small, triples-small}
+use Rattle.sums.proofs.Sums.{part, part-small, triples-small}
 use Rattle.sums.proofs.give_group.Statement.{statement}
 use Rattle.sums.proofs.give_group.Tie as tie
 
 -- what triple t + i gives variable u
-abbrev part : List ℕ → ℕ → List (List ℤ) → ℕ → ℕ → ℤ
-part ts t q u i = sumℤ 3 (λ p. entry q p i when eqb (member ts (t + i) p) u)
+abbrev parts : List ℕ → ℕ → List (List ℤ) → ℕ → ℕ → ℤ
+parts ts t q u i = part ts u (t + i) (λ p. entry q p i)
 
 abbrev Inv-loop : tie.InvT-loop
 Inv-loop triples t n x y z sums₀ i₀ sums i =
-    (i ≤ n) × (sums ≡ tab (length sums₀) (λ u. at sums₀ u +ℤ sumℤ i (part triples t (x ∷ y ∷ z ∷ []) u)))
+    (i ≤ n) × (sums ≡ tab (length sums₀) (λ u. at sums₀ u +ℤ sumℤ i (parts triples t (x ∷ y ∷ z ∷ []) u)))
 
 abbrev μ-loop : tie.MeasureT-loop
 μ-loop triples t n x y z sums₀ i₀ sums i = n - i
@@ -50,7 +48,7 @@ abbrev lists : tie.Start Inv-loop μ-loop → List (List ℤ)
 lists s = s .args .x .now ∷ s .args .y .now ∷ s .args .z .now ∷ []
 
 abbrev more : tie.Start Inv-loop μ-loop → ℕ → ℕ → ℤ
-more s = part (s .args .triples .now) (s .args .t) (lists s)
+more s = parts (s .args .triples .now) (s .args .t) (lists s)
 
 abbrev sumsAt : tie.Start Inv-loop μ-loop → ℕ → ℕ → ℤ
 sumsAt s i u = at (old s) u +ℤ sumℤ i (more s u)
@@ -67,7 +65,7 @@ sums-small l v =
     let s = start l in
     let i = l .loop .i in
     let given : natAbs (sumℤ i (more s v)) ≤ 1572864000 * i
-    = triples-small i (more s v) (λ k h. triple-small (λ p. entry (lists s) p k) (λ p. eqb (member (s .args .triples .now) (s .args .t + k) p) v) (small s k (omega (arith, l .loop .inv .0)))) in
+    = triples-small i (more s v) (λ k h. part-small (s .args .triples .now) v (s .args .t + k) (λ p. entry (lists s) p k) (small s k (omega (arith, l .loop .inv .0)))) in
     rw (l .loop .inv .1) (at-tab (λ z. natAbs z ≤ 2 ^ 59) (length (old s)) (sumsAt s i) v (λ _. omega (arith, abs-add (at (old s) v) (sumℤ i (more s v)), s .pre .1 .1 .1 v, given, l .loop .inv .0, s .pre .0 .0)) (omega arith))
 
 add-give : tie.Need-add-give Inv-loop μ-loop
@@ -139,7 +137,7 @@ loop-again c =
     let l = d .before in
     let s = start l in
     let i = l .loop .i in
-    let given : List ℤ → ℕ → ℤ = λ x u. sumℤ 3 (λ p. at x p when eqb (member (s .args .triples .now) (s .args .t + i) p) u) in (
+    let given : List ℤ → ℕ → ℤ = λ x u. part (s .args .triples .now) u (s .args .t + i) (at x) in (
       omega arith,
       c .before .give .ensures
           ∙ rw (add-one i, long l) (tab-same (length (old s)) (λ u. at (l .loop .sums) u +ℤ given (read d) u) (sumsAt s (suc i)) (λ u h.
