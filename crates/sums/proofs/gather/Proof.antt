@@ -28,9 +28,7 @@ give-first-requires c κs = let s = c .before .before in ((omega (arith, s .pre 
 
 -- after `give_first` the list is as long as before
 first-long : (c : tie.After-give-first Inv-loop μ-loop) → let s = c .before .before .before in length (c .give-first .last .1 .1 .1 .0) ≡ length (s .args .sums .now)
-first-long c =
-    let s = c .before .before .before in
-    ap length (c .give-first .ensures) ∙ length-tab (length (s .args .sums .now)) (sumOf (s .args .triples .now) (s .args .count % 4) (s .args .rows .now))
+first-long c = ap length (c .give-first .ensures) ∙ length-tab (length (c .before .before .before .args .sums .now)) _
 
 loop-holds : tie.Need-loop-holds Inv-loop μ-loop
 loop-holds c =
