@@ -6,7 +6,7 @@ ghost use Rattle.model.specs.Iteration.{State};
 ghost use Rattle.model.specs.Iteration as Iteration;
 ghost use Rattle.model.specs.Run.{settledBy};
 ghost use Rattle.model.specs.Bounds.{RowsWithin, held, Lent};
-ghost use Rattle.fours.specs.Turned.{straight};
+ghost use Rattle.layout.specs.Turned.{straight};
 ghost use Rattle.values.specs.Divisors.{Tables};
 use model::Settings;
 

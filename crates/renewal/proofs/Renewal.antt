@@ -23,8 +23,8 @@ use Rattle.model.specs.Bounds.{RowsWithin}
 use Rattle.model.specs.Splitting.{member}
 use Rattle.model.proofs.Bounds.{rowSum-bound, renewed-multiplier, renewed-slack, multiplier-change, changes-bound}
 use Rattle.model.proofs.Rows.{renewed-at}
-use Rattle.fours.specs.Turned.{entry, lane, place, straight}
-use Rattle.fours.proofs.Places.{place-first, place-four, entry-is, four-more, straight-first, straight-four, straight-within, by-place}
+use Rattle.layout.specs.Turned.{entry, lane, place, straight}
+use Rattle.layout.proofs.Places.{place-first, place-four, entry-is, four-more, straight-first, straight-four, straight-within, by-place}
 use Rattle.renewal.specs.InPlace.{renewedIn, renewedAll}
 
 -- ---- the test of a loop that goes on while t is below n and neither total exceeds x

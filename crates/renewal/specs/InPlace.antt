@@ -4,7 +4,7 @@ use Prim.Native.Nat.{ℕ, _*_, _/_, _%_}
 use lib.IntN.{ℤ}
 use Rattle.lists.specs.Tabulated.{tab}
 use Rattle.model.specs.Iteration.{at, sumAt, renewed, renewedAt}
-use Rattle.fours.specs.Turned.{place, straight}
+use Rattle.layout.specs.Turned.{place, straight}
 
 -- entry i of the rows of T triples, which stand in s, renewed with the values c
 abbrev pub renewedIn : ℕ → List ℕ → List ℤ → List ℤ → ℕ → ℤ

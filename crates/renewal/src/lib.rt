@@ -14,7 +14,7 @@ ghost use Rattle.model.specs.Iteration.{at, sumAt, slack, multiplier, renewed};
 ghost use Rattle.model.specs.Run.{squareOfChange, settledBy};
 ghost use Rattle.model.specs.Run as Run;
 ghost use Rattle.model.specs.Bounds.{RowsWithin};
-ghost use Rattle.fours.specs.Turned.{entry, straight};
+ghost use Rattle.layout.specs.Turned.{entry, straight};
 ghost use Rattle.renewal.specs.InPlace.{renewedIn, renewedAll};
 
 fn wide(x: i16) -> i32
@@ -28,7 +28,7 @@ fn value_at(triples: &[u16], values: &[i16], t: usize, p: usize) -> i32
     requires { ⌜ (t ≤ 8192) × (p < 3) × (3 * t + p < length (now triples)) × (member (now triples) t p < length (now values)) ⌝ }
     ensures { λ c. ⌜ c ≡ at (now (values .entry)) (member (now (triples .entry)) t p) ⌝ }
 {
-    let v = fours::variable(triples, t, p);
+    let v = layout::variable(triples, t, p);
     wide(values[v])
 }
 
@@ -103,9 +103,9 @@ fn renew_first(triples: &[u16], values: &[i16], rows: &mut [i32], count: usize) 
     let mut multipliers: u64 = 0;
     let mut slacks: u64 = 0;
     while t < first {
-        let old = fours::load(rows, t);
+        let old = layout::load(rows, t);
         let new = renewed_rows(triples, values, t, old);
-        fours::store(rows, t, new);
+        layout::store(rows, t, new);
         multipliers += rows::multiplier_changes(old, new);
         slacks += rows::slack_changes(old, new);
         t += 1;
@@ -138,9 +138,9 @@ fn renew_counted(
     let mut multipliers = first.multipliers;
     let mut slacks = first.slacks;
     while (t < count) & (multipliers <= tolerance) & (slacks <= tolerance) {
-        let old = fours::load_four(rows, t);
+        let old = layout::load_four(rows, t);
         let new = renewed_four(triples, values, t, old);
-        fours::store_four(rows, t, new);
+        layout::store_four(rows, t, new);
         multipliers += multipliers_of_four(old, new);
         slacks += slacks_of_four(old, new);
         t += 4;
@@ -161,9 +161,9 @@ fn renew_rest(triples: &[u16], values: &[i16], rows: &mut [i32], from: usize, co
 {
     let mut t = from;
     while t < count {
-        let old = fours::load_four(rows, t);
+        let old = layout::load_four(rows, t);
         let new = renewed_four(triples, values, t, old);
-        fours::store_four(rows, t, new);
+        layout::store_four(rows, t, new);
         t += 4;
     }
 }

@@ -98,6 +98,6 @@ pub fn run(
         values,
         rows,
     );
-    fours::straighten(rows, count);
+    layout::straighten(rows, count);
     ending
 }

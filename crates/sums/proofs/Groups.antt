@@ -14,8 +14,8 @@ use Rattle.lists.proofs.Tabulated.{length-tab, getD-tab, tab-same, over-in, ove
 use Rattle.model.specs.Iteration.{at, row, slack, multiplier, share, sumOf}
 use Rattle.model.specs.Bounds.{RowsWithin}
 use Rattle.model.proofs.Rows.{three, at-tab}
-use Rattle.fours.specs.Turned.{entry, lane, place, straight}
-use Rattle.fours.proofs.Places.{straight-first, straight-four}
+use Rattle.layout.specs.Turned.{entry, lane, place, straight}
+use Rattle.layout.proofs.Places.{straight-first, straight-four}
 use Rattle.sums.proofs.Sums.{share-four, lane-share-small, part, part-same}
 
 -- ---- entry i of position p's list: the share of the i-th triple from t on

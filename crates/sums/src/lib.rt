@@ -12,25 +12,7 @@ ghost use Rattle.lists.specs.Tabulated.{tab, over};
 ghost use Rattle.model.specs.Splitting.{member};
 ghost use Rattle.model.specs.Iteration.{at, share, _when_, sumOf};
 ghost use Rattle.model.specs.Bounds.{RowsWithin};
-ghost use Rattle.fours.specs.Turned.{entry, lane, straight};
-
-// ---- reading
-
-fn index(x: u16) -> usize
-    ensures { λ r. ⌜ r ≡ x ⌝ }
-{
-    x as usize
-}
-
-// The variable at position p of triple t.
-pub fn variable(triples: &[u16], t: usize, p: usize) -> usize
-    requires { ⌜ (t ≤ 8192) × (p < 3) × (3 * t + p < length (now triples)) ⌝ }
-    ensures { λ v. ⌜ v ≡ member (now (triples .entry)) t p ⌝ }
-{
-    index(triples[3 * t + p])
-}
-
-// ---- S
+ghost use Rattle.layout.specs.Turned.{entry, lane, straight};
 
 fn clear(sums: &mut [i64])
     ensures { λ _. ⌜ now (sums .exit) ≡ tab (length (now (sums .entry))) (λ _. pos 0) ⌝ }
@@ -58,9 +40,9 @@ fn give(triples: &[u16], t: usize, shares: [i32; 3], sums: &mut [i64])
     ensures { λ _. ⌜ now (sums .exit) ≡ tab (length (now (sums .entry))) (λ u.
         at (now (sums .entry)) u +ℤ sumℤ 3 (λ p. at shares p when eqb (member (now (triples .entry)) t p) u)) ⌝ }
 {
-    let v0 = variable(triples, t, 0);
-    let v1 = variable(triples, t, 1);
-    let v2 = variable(triples, t, 2);
+    let v0 = layout::variable(triples, t, 0);
+    let v1 = layout::variable(triples, t, 1);
+    let v2 = layout::variable(triples, t, 2);
     add(sums, v0, shares[0]);
     add(sums, v1, shares[1]);
     add(sums, v2, shares[2]);
@@ -75,7 +57,7 @@ fn give_first(triples: &[u16], rows: &[i32], first: usize, sums: &mut [i64])
     clear(sums);
     let mut t = 0;
     while t < first {
-        give(triples, t, rows::shares(fours::load(rows, t)), sums);
+        give(triples, t, rows::shares(layout::load(rows, t)), sums);
         t += 1;
     }
 }
@@ -88,14 +70,14 @@ fn share_four(rows: &[i32], t: usize, b: usize, x: &mut [i32], y: &mut [i32], z:
         × (now (y .exit) ≡ sets (now (y .entry)) (4 * b) (tab 4 (λ k. share (lane (now (rows .entry)) t k) 0 1)))
         × (now (z .exit) ≡ sets (now (z .entry)) (4 * b) (tab 4 (λ k. share (lane (now (rows .entry)) t k) 0 2))) ⌝ }
 {
-    let s = fours::load_four(rows, t);
+    let s = layout::load_four(rows, t);
     let e = rows::shares(s[0]);
     let f = rows::shares(s[1]);
     let g = rows::shares(s[2]);
     let h = rows::shares(s[3]);
-    fours::store(x, b, [e[0], f[0], g[0], h[0]]);
-    fours::store(y, b, [e[1], f[1], g[1], h[1]]);
-    fours::store(z, b, [e[2], f[2], g[2], h[2]]);
+    layout::store(x, b, [e[0], f[0], g[0], h[0]]);
+    layout::store(y, b, [e[1], f[1], g[1], h[1]]);
+    layout::store(z, b, [e[2], f[2], g[2], h[2]]);
 }
 
 // The shares of the 4n triples from t on.

@@ -15,8 +15,8 @@ use Rattle.model.specs.Bounds.{RowsWithin, Ready, held, Bounds}
 use Rattle.model.specs.Code.{triples, variables}
 use Rattle.model.specs.Splitting.{System}
 use Rattle.model.proofs.Bounds.{bounds}
-use Rattle.fours.specs.Turned.{straight}
-use Rattle.fours.proofs.Places.{straight-back}
+use Rattle.layout.specs.Turned.{straight}
+use Rattle.layout.proofs.Places.{straight-back}
 use Rattle.iteration.proofs.iterate.Statement.{statement}
 use Rattle.iteration.proofs.iterate.Tie as tie
 
@@ -52,12 +52,12 @@ module _ (s : tie.Start) where
   within = straight-back 3999 (s .args .count) (s .args .rows .now) (sym (s .pre .0 .rows)) (s .pre .1 .0)
 
 gather-requires : tie.Need-gather-requires
-gather-requires c κs = let s = c .before .before .before .before .before .before .before in ((is-ready s .triples, s .pre .0 .members, s .pre .0 .rows), ((λ i h. rw (s .pre .0 .sums) (s .pre .0 .below i h)), within s))
+gather-requires c κs = let s = c .before .before .before .before in ((is-ready s .triples, s .pre .0 .members, s .pre .0 .rows), ((λ i h. rw (s .pre .0 .sums) (s .pre .0 .below i h)), within s))
 
 -- ---- S
 module _ (c : tie.After-gather) where
   abbrev first : tie.Start
-  first = c .before .before .before .before .before .before .before .before
+  first = c .before .before .before .before .before
 
   sums-are : c .gather .last .1 .1 .1 .0 ≡ b first .sums
   unfolding iterate sumsOf
@@ -89,13 +89,13 @@ module _ (c : tie.After-renew) where
   abbrev given : tie.After-gather
   given = c .before .before .before .before
 
-  values-are : c .renew .last .1 .1 .1 .1 .1 .1 .0 ≡ b (first given) .values
+  values-are : c .renew .last .1 .1 .1 .1 .1 .1 .1 .0 ≡ b (first given) .values
   unfolding iterate valuesOf
   values-are =
       c .renew .ensures ∙ tab-same (g (first given) .variables) _ (valueOf quotient (g (first given)) (first given .args .settings) (costs (first given)) (b (first given) .sums))
       (λ v h. ap₂ (λ (l : List ℤ) (n : ℕ). quotient (numerator (first given .args .settings .weight) (at l v) (at (costs (first given)) v)) (divisor (4 * n) (first given .args .settings .ratio))) (sums-are given) (count-is (first given) v h))
 
-  values-length : length (c .renew .last .1 .1 .1 .1 .1 .1 .0) ≡ g (first given) .variables
+  values-length : length (c .renew .last .1 .1 .1 .1 .1 .1 .1 .0) ≡ g (first given) .variables
   unfolding iterate valuesOf
   values-length = ap length values-are ∙ length-tab (g (first given) .variables) (valueOf quotient (g (first given)) (first given .args .settings) (costs (first given)) (b (first given) .sums))
 
@@ -134,7 +134,7 @@ returns c =
     let m = c .before .before .before .before .before .before in
     let s = first (given m) in
     let settled : ℕ → List ℤ → List ℤ → ℕ = settledBy (s .args .settings .tolerance) in (
-      equal (record { sums = given m .gather .last .1 .1 .1 .0; values = m .renew .last .1 .1 .1 .1 .1 .1 .0; rows = straight (s .args .count) (c .before .renew2 .last .1 .1 .0) }) (b s)
+      equal (record { sums = given m .gather .last .1 .1 .1 .0; values = m .renew .last .1 .1 .1 .1 .1 .1 .1 .0; rows = straight (s .args .count) (c .before .renew2 .last .1 .1 .0) }) (b s)
           (sums-are (given m)) (values-are m) (rows-are c),
       c .before .renew2 .ensures .1 ∙ ap (settled (s .args .count) (a s .rows)) (sym (c .before .renew2 .ensures .0 .0)),
     )

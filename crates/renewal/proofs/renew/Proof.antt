@@ -9,7 +9,7 @@ use lib.ListN.{length}
 use Rattle.lists.specs.Tabulated.{tab, over}
 use Rattle.lists.proofs.Tabulated.{length-tab, length-over, over-out}
 use Rattle.model.specs.Iteration.{at, slack, multiplier}
-use Rattle.fours.specs.Turned.{straight}
+use Rattle.layout.specs.Turned.{straight}
 use Rattle.renewal.specs.InPlace.{renewedIn, renewedAll}
 use Rattle.renewal.proofs.Renewal.{renewedTo, in-two, all-straight, settled-is}
 use Rattle.renewal.proofs.renew.Statement.{statement}
@@ -77,8 +77,8 @@ returns c =
     let new = tab (4 * T m) (renewedIn (T m) (ts m) (ss m) (cs m)) in
     let e : c .before .before .renew-rest .last .1 .1 .0 ≡ new
     = c .before .before .renew-rest .ensures
-        ∙ ap (λ (l : List ℤ). over (4 * d m) (at l) (tab (4 * T m) (renewedIn (T m) (ts m) l (cs m)))) (mid-is m)
-        ∙ in-two (T m) (ts m) (ss m) (cs m) (d m) (r .ensures .0 .2) in (
+    ∙ ap (λ (l : List ℤ). over (4 * d m) (at l) (tab (4 * T m) (renewedIn (T m) (ts m) l (cs m)))) (mid-is m)
+    ∙ in-two (T m) (ts m) (ss m) (cs m) (d m) (r .ensures .0 .2) in (
       (ap (straight (T m)) e ∙ all-straight (T m) (ts m) (ss m) (cs m), ap length e ∙ length-tab (4 * T m) (renewedIn (T m) (ts m) (ss m) (cs m))),
       c .settles .ensures
           ∙ settled-is (first m .args .tolerance) (d m) (T m) (straight (T m) (ss m)) (renewedAll (T m) (ts m) (ss m) (cs m)) (r .ensures .0 .2) (r .result .multipliers) (r .result .slacks) (r .ensures .1 .1 .0) (r .ensures .1 .1 .1) (r .ensures .0 .3),

@@ -14,8 +14,8 @@ use Rattle.lists.proofs.Tabulated.{length-over, over-out}
 use Rattle.model.specs.Iteration.{at, row, sumAt, slack, multiplier, renewed}
 use Rattle.model.specs.Run.{squareOfChange, changes}
 use Rattle.model.specs.Bounds.{RowsWithin}
-use Rattle.fours.specs.Turned.{entry, lane, stored, straight}
-use Rattle.fours.proofs.Places.{entry-tab, four-more}
+use Rattle.layout.specs.Turned.{entry, lane, stored, straight}
+use Rattle.layout.proofs.Places.{entry-tab, four-more}
 use Rattle.renewal.specs.InPlace.{renewedIn, renewedAll}
 use Rattle.renewal.proofs.Renewal.{going, ended, Aligned, four-left, next-four, renewedTo, oldFour, newFour, fourChanges, old-four, new-entry, new-in, rest, rest-first, rest-at, begun, in-part, total-so-far, multipliers-most, slacks-most}
 use Rattle.renewal.proofs.renew_counted.Statement.{statement}

@@ -16,7 +16,7 @@ use Rattle.model.specs.Run.{squareOfChange, changes}
 use Rattle.model.specs.Bounds.{RowsWithin}
 use Rattle.model.specs.Code.{triples}
 use Rattle.model.proofs.Rows.{at-tab}
-use Rattle.fours.specs.Turned.{straight}
+use Rattle.layout.specs.Turned.{straight}
 use Rattle.renewal.specs.InPlace.{renewedIn, renewedAll}
 use Rattle.renewal.proofs.Renewal.{renewedTo, oldOne, newOne, old-one, new-one, put-one, new-small, total-one, multipliers-most, slacks-most}
 use Rattle.renewal.proofs.renew_first.Statement.{statement}

@@ -9,8 +9,8 @@ use Rattle.integers.proofs.Linear.{about}
 use Rattle.lists.specs.Tabulated.{tab, over}
 use Rattle.lists.proofs.Tabulated.{length-over, over-out}
 use Rattle.model.specs.Iteration.{at, row, sumAt, renewed}
-use Rattle.fours.specs.Turned.{entry, lane, stored}
-use Rattle.fours.proofs.Places.{entry-tab, four-more}
+use Rattle.layout.specs.Turned.{entry, lane, stored}
+use Rattle.layout.proofs.Places.{entry-tab, four-more}
 use Rattle.renewal.specs.InPlace.{renewedIn}
 use Rattle.renewal.proofs.Renewal.{Aligned, four-left, next-four, oldFour, newFour, old-four, new-entry, new-in, rest, rest-first, rest-at, rest-whole}
 use Rattle.renewal.proofs.renew_rest.Statement.{statement}

@@ -8,7 +8,7 @@ use lib.ListN.{length}
 use Rattle.lists.specs.Tabulated.{tab}
 use Rattle.model.specs.Iteration.{sumAt, renewed}
 use Rattle.rows.proofs.Four.{four-are}
-use Rattle.fours.specs.Turned.{entry}
+use Rattle.layout.specs.Turned.{entry}
 use borrow.Author.Needs.{needs}
 use Rattle.renewal.proofs.renewed_four.Statement.{statement}
 use Rattle.renewal.proofs.renewed_four.Tie as tie

@@ -16,7 +16,7 @@ use Rattle.lists.specs.Tabulated.{tab}
 use Rattle.lists.proofs.Tabulated.{length-tab, getD-tab, tab-same, tab-getD}
 use Rattle.model.specs.Iteration.{at}
 use Rattle.model.proofs.Rows.{three, at-tab}
-use Rattle.fours.specs.Turned.{entry}
+use Rattle.layout.specs.Turned.{entry}
 use Rattle.sums.proofs.Sums.{part, part-small, triples-small}
 use Rattle.sums.proofs.give_group.Statement.{statement}
 use Rattle.sums.proofs.give_group.Tie as tie
