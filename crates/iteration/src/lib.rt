@@ -1,6 +1,8 @@
 // One iteration (document 01) on lists of exact length: S and c for each variable, four rows for each triple, which stand turned while a run goes.
 // Rows of fewer than 4,000 iterations are taken.
 ghost use mathlib.Core.Path.{_≡_};
+ghost use Prim.Native.Nat.{_*_};
+ghost use lib.ListN.{length};
 ghost use Rattle.quotient.specs.Quotient.{quotient};
 ghost use Rattle.model.specs.Iteration.{State};
 ghost use Rattle.model.specs.Iteration as Iteration;
@@ -28,6 +30,7 @@ pub fn iterate(
     ensures { λ _. ⌜ (let g = held (now (triples .entry)) count (now (values .entry)) in
         let a : State = record { sums = now (sums .entry); values = now (values .entry); rows = straight count (now (rows .entry)) } in
         record { sums = now (sums .exit); values = now (values .exit); rows = straight count (now (rows .exit)) } ≡ Iteration.iterate quotient g settings (now (costs .entry)) a) ⌝ }
+    ensures { λ _. ⌜ length (now (rows .exit)) ≡ 4 * count ⌝ }
     ensures { λ settled. ⌜ settled ≡ settledBy (settings .tolerance) count (straight count (now (rows .entry))) (straight count (now (rows .exit))) ⌝ }
 {
     sums::gather(triples, rows, count, sums);

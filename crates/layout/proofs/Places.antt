@@ -78,6 +78,11 @@ module _ (T : ℕ) (s : List ℤ) where
   straight-four t k r h e g l m =
       getD-tab (4 * T) (λ i. at s (place T i)) (4 * (t + k) + r) (pos 0) (omega arith) ∙ ap (at s) (place-four T t k r h e (omega arith) l m)
 
+-- rows that are 0
+pub straight-zero : (T : ℕ) → straight T (tab (4 * T) (λ _. pos 0)) ≡ tab (4 * T) (λ _. pos 0)
+straight-zero T =
+    tab-same (4 * T) (λ i. at (tab (4 * T) (λ _. pos 0)) (place T i)) (λ _. pos 0) (λ i _. at-tab (λ z. z ≡ pos 0) (4 * T) (λ _. pos 0) (place T i) (λ _. refl) refl)
+
 -- every entry is one of the first triples' or one of a four's
 pub by-place : (T : ℕ) (P : ℕ → Type 0)
     → ((t r : ℕ) → t < T % 4 → r < 4 → P (4 * t + r))

@@ -136,7 +136,7 @@ returns c =
     let settled : ℕ → List ℤ → List ℤ → ℕ = settledBy (s .args .settings .tolerance) in (
       equal (record { sums = given m .gather .last .1 .1 .1 .0; values = m .renew .last .1 .1 .1 .1 .1 .1 .1 .0; rows = straight (s .args .count) (c .before .renew2 .last .1 .1 .0) }) (b s)
           (sums-are (given m)) (values-are m) (rows-are c),
-      c .before .renew2 .ensures .1 ∙ ap (settled (s .args .count) (a s .rows)) (sym (c .before .renew2 .ensures .0 .0)),
+      (c .before .renew2 .ensures .0 .1, c .before .renew2 .ensures .1 ∙ ap (settled (s .args .count) (a s .rows)) (sym (c .before .renew2 .ensures .0 .0))),
     )
 
 pub iterate-spec : {M : Type 1} → statement M
