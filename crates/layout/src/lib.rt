@@ -1,7 +1,6 @@
 // Rows in a list: those of one triple, and those of four triples, which stand turned while a run goes. So the compiler works four triples
 // out side by side.
 ghost use mathlib.Core.Path.{_≡_};
-ghost use mathlib.Core.List.{[]};
 ghost use Prim.Native.Nat.{ℕ, _+_, _-_, _*_, _%_, _≤_, _<_};
 ghost use lib.IntN.{natAbs};
 ghost use lib.ListN.{length};

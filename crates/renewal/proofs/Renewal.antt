@@ -24,7 +24,7 @@ use Rattle.model.specs.Splitting.{member}
 use Rattle.model.proofs.Bounds.{rowSum-bound, renewed-multiplier, renewed-slack, multiplier-change, changes-bound}
 use Rattle.model.proofs.Rows.{renewed-at}
 use Rattle.layout.specs.Turned.{entry, lane, place, straight}
-use Rattle.layout.proofs.Places.{place-first, place-four, entry-is, four-more, straight-first, straight-four, straight-within, by-place}
+use Rattle.layout.proofs.Places.{place-first, place-four, entry-is, straight-first, straight-four, straight-within, by-place}
 use Rattle.renewal.specs.InPlace.{renewedIn, renewedAll}
 
 -- ---- the test of a loop that goes on while t is below n and neither total exceeds x

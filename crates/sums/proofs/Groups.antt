@@ -1,20 +1,19 @@
 -- The shares of groups of fours, whose rows stand turned, and the sums that they come to. Assumes nothing.
 use mathlib.Core.List.{List, [], _∷_}
 use mathlib.Core.Path.{_≡_, sym, ap, ap₂, _∙_}
-use Prim.Native.Nat.{ℕ, zero, suc, _+_, _-_, _*_, _/_, _%_, _≤_, _<_}
-use native.Mathlib.Nat.{add-zero, add-suc}
+use Prim.Native.Nat.{ℕ, _+_, _-_, _*_, _/_, _%_, _≤_, _<_}
 use native.Mathlib.Omega.{arith}
-use lib.IntN.{ℤ, pos, natAbs, _+ℤ_, +ℤ-idr, +ℤ-assoc}
+use lib.IntN.{ℤ, pos, natAbs, _+ℤ_}
 use lib.ListN.{length}
 use lib.Seq.{sets}
 use Rattle.integers.specs.Sum.{sumℤ}
-use Rattle.integers.proofs.Sums.{sumℤ-same}
+use Rattle.integers.proofs.Sums.{sumℤ-same, sumℤ-split}
 use Rattle.lists.specs.Tabulated.{tab, over}
 use Rattle.lists.proofs.Tabulated.{length-tab, getD-tab, tab-same, over-in, over-sets}
-use Rattle.model.specs.Iteration.{at, row, slack, multiplier, share, sumOf}
+use Rattle.model.specs.Iteration.{at, row, share, sumOf}
 use Rattle.model.specs.Bounds.{RowsWithin}
-use Rattle.model.proofs.Rows.{three, at-tab}
-use Rattle.layout.specs.Turned.{entry, lane, place, straight}
+use Rattle.model.proofs.Rows.{three}
+use Rattle.layout.specs.Turned.{entry, lane, straight}
 use Rattle.layout.proofs.Places.{straight-first, straight-four}
 use Rattle.sums.proofs.Sums.{share-four, lane-share-small, part, part-same}
 
@@ -38,19 +37,7 @@ staged-next s t p b old x y h e g =
     ∙ over-sets 4 (4 * b) (staged s t p) old h
     ∙ ap (λ (n : ℕ). over n (staged s t p) old) m
 
--- ---- a sum in two parts
-sumℤ-split : (m n : ℕ) (f : ℕ → ℤ) → sumℤ (m + n) f ≡ sumℤ m f +ℤ sumℤ n (λ k. f (m + k))
-sumℤ-split m zero f = rw (add-zero m) (sym (+ℤ-idr (sumℤ m f)))
-sumℤ-split m (suc n) f = rw (add-suc m n, sumℤ-split m n f) (+ℤ-assoc (sumℤ m f) (sumℤ n (λ k. f (m + k))) (f (m + n)))
-
 -- ---- the rows in the order of document 01
-pub straight-within : (n T : ℕ) (s : List ℤ) → RowsWithin n s → RowsWithin n (straight T s)
-straight-within n T s w =
-    record {
-      multipliers = λ i. at-tab (λ z. multiplier z ≤ 32768 * n) (4 * T) (λ i. at s (place T i)) i (λ _. w .multipliers (place T i)) (omega arith);
-      slacks = λ i. at-tab (λ z. slack z ≤ 65536) (4 * T) (λ i. at s (place T i)) i (λ _. w .slacks (place T i)) (omega arith);
-    }
-
 -- among the first triples
 share-first : (T : ℕ) (s : List ℤ) (t p : ℕ) → t < T % 4 → share s t p ≡ share (straight T s) t p
 share-first T s t p h =

@@ -1,5 +1,4 @@
 -- `layout::column` meets its contract. Assumes nothing.
-use native.Mathlib.Omega.{arith}
 use mir.Syntax.{w32}
 use Rattle.integers.proofs.Machine.{held}
 use Rattle.rows.proofs.Four.{four-are}

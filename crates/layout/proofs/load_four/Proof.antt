@@ -1,15 +1,11 @@
 -- `layout::load_four` meets its contract. Assumes nothing.
-use mathlib.Core.List.{List, []}
-use mathlib.Core.Path.{_≡_, ap, _∙_}
-use Prim.Native.Nat.{ℕ, _+_, _*_, _≤_, _<_}
-use native.Mathlib.Decide.{decLt}
+use mathlib.Core.List.{List}
+use mathlib.Core.Path.{ap, _∙_}
+use Prim.Native.Nat.{ℕ, _+_, _*_, _≤_}
 use native.Mathlib.Omega.{arith}
 use lib.IntN.{ℤ, natAbs}
-use lib.ListN.{getD}
 use Rattle.lists.specs.Tabulated.{tab}
-use Rattle.lists.proofs.Tabulated.{getD-tab}
-use Rattle.model.specs.Iteration.{at, row}
-use Rattle.model.proofs.Rows.{at-tab}
+use Rattle.model.specs.Iteration.{at}
 use Rattle.layout.specs.Turned.{entry}
 use Rattle.layout.proofs.Places.{entry-tab}
 use borrow.Author.Needs.{needs}

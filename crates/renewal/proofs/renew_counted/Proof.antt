@@ -1,7 +1,7 @@
 -- `renewal::renew_counted` meets its contract: after the first triples, the fours up to t are renewed, and their totals formed. Assumes nothing.
 use mathlib.Core.List.{List}
-use mathlib.Core.Path.{_≡_, refl, sym, ap, ap₂, _∙_}
-use Prim.Native.Nat.{ℕ, suc, _+_, _-_, _*_, _/_, _%_, _^_, _≤_, _<_}
+use mathlib.Core.Path.{_≡_, sym, ap, ap₂, _∙_}
+use Prim.Native.Nat.{ℕ, suc, _+_, _-_, _*_, _/_, _%_, _^_, _≤_}
 use native.Mathlib.Omega.{arith}
 use lib.IntN.{ℤ, pos, natAbs}
 use lib.ListN.{length}
@@ -17,7 +17,7 @@ use Rattle.model.specs.Bounds.{RowsWithin}
 use Rattle.layout.specs.Turned.{entry, lane, stored, straight}
 use Rattle.layout.proofs.Places.{entry-tab, four-more}
 use Rattle.renewal.specs.InPlace.{renewedIn, renewedAll}
-use Rattle.renewal.proofs.Renewal.{going, ended, Aligned, four-left, next-four, renewedTo, oldFour, newFour, fourChanges, old-four, new-entry, new-in, rest, rest-first, rest-at, begun, in-part, total-so-far, multipliers-most, slacks-most}
+use Rattle.renewal.proofs.Renewal.{going, ended, Aligned, four-left, next-four, renewedTo, oldFour, newFour, fourChanges, old-four, new-entry, new-in, rest, rest-first, rest-at, in-part, total-so-far, multipliers-most, slacks-most}
 use Rattle.renewal.proofs.renew_counted.Statement.{statement}
 use Rattle.renewal.proofs.renew_counted.Tie as tie
 

@@ -11,7 +11,7 @@ use Rattle.integers.specs.Sum.{sumℕ}
 use Rattle.integers.proofs.Linear.{about}
 use Rattle.lists.specs.Tabulated.{tab}
 use Rattle.lists.proofs.Tabulated.{length-over}
-use Rattle.model.specs.Iteration.{at, sumAt, row, slack, multiplier, renewed, renewedAt}
+use Rattle.model.specs.Iteration.{at, sumAt, row, slack, multiplier, renewed}
 use Rattle.model.specs.Run.{squareOfChange, changes}
 use Rattle.model.specs.Bounds.{RowsWithin}
 use Rattle.model.specs.Code.{triples}

@@ -1,7 +1,7 @@
 -- `renewal::renew_rest` meets its contract: the triples from `from` to t are renewed. Assumes nothing.
 use mathlib.Core.List.{List}
 use mathlib.Core.Path.{_≡_, sym, ap, ap₂, _∙_}
-use Prim.Native.Nat.{ℕ, _+_, _-_, _*_, _≤_, _<_}
+use Prim.Native.Nat.{ℕ, _+_, _-_, _*_, _≤_}
 use native.Mathlib.Omega.{arith}
 use lib.IntN.{ℤ, pos, natAbs}
 use lib.ListN.{length}
@@ -11,7 +11,6 @@ use Rattle.lists.proofs.Tabulated.{length-over, over-out}
 use Rattle.model.specs.Iteration.{at, row, sumAt, renewed}
 use Rattle.layout.specs.Turned.{entry, lane, stored}
 use Rattle.layout.proofs.Places.{entry-tab, four-more}
-use Rattle.renewal.specs.InPlace.{renewedIn}
 use Rattle.renewal.proofs.Renewal.{Aligned, four-left, next-four, oldFour, newFour, old-four, new-entry, new-in, rest, rest-first, rest-at, rest-whole}
 use Rattle.renewal.proofs.renew_rest.Statement.{statement}
 use Rattle.renewal.proofs.renew_rest.Tie as tie

@@ -1,10 +1,9 @@
 -- `renewal::renewed_four` meets its contract. Assumes nothing.
 use mathlib.Core.List.{List}
 use mathlib.Core.Path.{_≡_, ap, _∙_}
-use Prim.Native.Nat.{ℕ, _+_, _*_, _<_}
+use Prim.Native.Nat.{ℕ, _+_}
 use native.Mathlib.Omega.{arith}
 use lib.IntN.{ℤ}
-use lib.ListN.{length}
 use Rattle.lists.specs.Tabulated.{tab}
 use Rattle.model.specs.Iteration.{sumAt, renewed}
 use Rattle.rows.proofs.Four.{four-are}

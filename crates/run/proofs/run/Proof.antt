@@ -4,15 +4,13 @@ use mathlib.Core.Path.{_≡_, sym, ap, _∙_}
 use Prim.Native.Nat.{ℕ, suc, _*_}
 use native.Mathlib.Omega.{arith}
 use borrow.Author.Needs.{needs}
-use lib.IntN.{ℤ, pos, natAbs, _*ℤ_}
+use lib.IntN.{ℤ, pos, natAbs}
 use lib.ListN.{length}
 use Rattle.integers.proofs.Linear.{about}
 use Rattle.lists.proofs.Tabulated.{length-tab}
-use Rattle.quotient.specs.Quotient.{unit, inverse}
-use Rattle.model.specs.Iteration.{at, divisor, State}
-use Rattle.model.specs.Run.{Ended}
-use Rattle.layout.specs.Turned.{straight}
-use Rattle.values.specs.Divisors.{inversesOf, mostsOf, Tables}
+use Rattle.quotient.specs.Quotient.{inverse}
+use Rattle.model.specs.Iteration.{at, divisor}
+use Rattle.values.specs.Divisors.{inversesOf, mostsOf}
 use Rattle.run.proofs.run.Statement.{statement}
 use Rattle.run.proofs.run.Tie as tie
 

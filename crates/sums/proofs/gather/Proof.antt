@@ -12,7 +12,8 @@ use Rattle.model.specs.Iteration.{sumOf}
 use Rattle.model.proofs.Rows.{at-tab}
 use Rattle.layout.specs.Turned.{straight}
 use Rattle.sums.proofs.Sums.{sums-small}
-use Rattle.sums.proofs.Groups.{staged, straight-within, sum-first, Staged, staged-lists, staged-small, group-more}
+use Rattle.layout.proofs.Places.{straight-within}
+use Rattle.sums.proofs.Groups.{staged, sum-first, Staged, staged-lists, staged-small, group-more}
 use Rattle.sums.proofs.gather.Statement.{statement}
 use Rattle.sums.proofs.gather.Tie as tie
 
