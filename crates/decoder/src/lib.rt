@@ -87,7 +87,7 @@ fn run_system(
     rows: &mut [i32],
 ) -> Ending
     requires { ⌜ (judge (now code) ≡ 0) × (total ≡ Code.triples (codeOf (now code))) × (variables ≡ Code.variables (codeOf (now code))) ⌝ }
-    requires { ⌜ (Calls.wild settings ≡ false) × ((v : ℕ) → natAbs (at (now costs) v) ≤ 32767) ⌝ }
+    requires { ⌜ (Calls.wild settings ≡ false) × (length (now costs) ≡ codeOf (now code) .bits) × ((v : ℕ) → natAbs (at (now costs) v) ≤ 32767) ⌝ }
     requires { ⌜ (3 * total ≤ length (now triples)) × (variables ≤ length (now counts)) ⌝ }
     requires { ⌜ (variables ≤ length (now sums)) × (variables ≤ length (now values)) × (4 * total ≤ length (now rows)) ⌝ }
     ensures { λ _. ⌜ (let g = systemOf (codeOf (now (code .entry))) in
@@ -127,7 +127,7 @@ fn decode_accepted(
     word: &mut [u8],
 ) -> Decoding
     requires { ⌜ (judge (now code) ≡ 0) × (bits ≡ codeOf (now code) .bits) × (checks ≡ length (codeOf (now code) .checks)) × (total ≡ Code.triples (codeOf (now code))) × (variables ≡ Code.variables (codeOf (now code))) ⌝ }
-    requires { ⌜ (Calls.wild settings ≡ false) × ((v : ℕ) → natAbs (at (now costs) v) ≤ 32767) ⌝ }
+    requires { ⌜ (Calls.wild settings ≡ false) × (length (now costs) ≡ codeOf (now code) .bits) × ((v : ℕ) → natAbs (at (now costs) v) ≤ 32767) ⌝ }
     requires { ⌜ (3 * total ≤ length (now triples)) × (variables ≤ length (now counts)) ⌝ }
     requires { ⌜ (variables ≤ length (now sums)) × (variables ≤ length (now values)) × (4 * total ≤ length (now rows)) × (bits ≤ length (now word)) ⌝ }
     ensures { λ d. ⌜ (let k = codeOf (now (code .entry)) in

@@ -1,10 +1,10 @@
 -- Sums over a range. Assumes nothing.
-use mathlib.Core.Path.{_≡_, refl, ap₂}
+use mathlib.Core.Path.{_≡_, refl, sym, ap₂}
 use Prim.Native.Nat.{ℕ, zero, suc, _+_, _*_, _≤_, _<_}
 use native.Mathlib.Decide.{decLt}
 use native.Mathlib.Nat.{add-zero, add-suc}
 use native.Mathlib.Omega.{arith}
-use lib.IntN.{ℤ, pos, negℤ, natAbs, _+ℤ_, _*ℤ_}
+use lib.IntN.{ℤ, pos, negℤ, natAbs, _+ℤ_, _*ℤ_, +ℤ-idr, +ℤ-assoc}
 use Rattle.integers.specs.Sum.{sumℕ, sumℤ}
 use Rattle.integers.proofs.Linear.{split, toℕ, abs-add}
 
@@ -66,6 +66,10 @@ sumℤ-add (suc n) f g = rw (sumℤ-add n f g, split (sumℤ n f), split (sumℤ
 pub sumℤ-scale : (n : ℕ) (c : ℤ) (f : ℕ → ℤ) → sumℤ n (λ k. c *ℤ f k) ≡ c *ℤ sumℤ n f
 sumℤ-scale zero c f = rw (split c) (simp toℕ (omega arith))
 sumℤ-scale (suc n) c f = rw (sumℤ-scale n c f, split (sumℤ n f), split (f n), split c) (simp toℕ (omega arith))
+
+pub sumℤ-split : (m n : ℕ) (f : ℕ → ℤ) → sumℤ (m + n) f ≡ sumℤ m f +ℤ sumℤ n (λ k. f (m + k))
+sumℤ-split m zero f = rw (add-zero m) (sym (+ℤ-idr (sumℤ m f)))
+sumℤ-split m (suc n) f = rw (add-suc m n, sumℤ-split m n f) (+ℤ-assoc (sumℤ m f) (sumℤ n (λ k. f (m + k))) (f (m + n)))
 
 pub sumℤ-pos : (n : ℕ) (f : ℕ → ℕ) → sumℤ n (λ k. pos (f k)) ≡ pos (sumℕ n f)
 sumℤ-pos zero f = refl

@@ -1,309 +1,16 @@
-// One iteration (document 01) on lists of exact length: S and c for each variable, four rows for each triple.
+// One iteration (document 01) on lists of exact length: S and c for each variable, four rows for each triple, which stand turned while a run goes.
 // Rows of fewer than 4,000 iterations are taken.
 ghost use mathlib.Core.Path.{_≡_};
-ghost use Prim.Native.Nat.{ℕ, _+_, _*_, _^_, _≤_, _<_};
-ghost use mathlib.Core.Bool.{_&&_};
-ghost use lib.Dec.{leb, eqb};
-ghost use lib.IntN.{pos, natAbs, _+ℤ_};
-ghost use lib.ListN.{length, getD};
-ghost use lib.Seq.{sets};
-ghost use Rattle.integers.specs.Sum.{sumℤ};
-ghost use Rattle.lists.specs.Tabulated.{tab, over};
+ghost use Prim.Native.Nat.{_*_};
+ghost use lib.ListN.{length};
 ghost use Rattle.quotient.specs.Quotient.{quotient};
-ghost use Rattle.model.specs.Causes.{_if_};
-ghost use Rattle.model.specs.Splitting.{member};
-ghost use Rattle.model.specs.Iteration.{at, row, sumAt, slack, multiplier, share, _when_, sumOf, renewed, renewedAt, State};
+ghost use Rattle.model.specs.Iteration.{State};
 ghost use Rattle.model.specs.Iteration as Iteration;
-ghost use Rattle.model.specs.Run.{changes, settledBy};
+ghost use Rattle.model.specs.Run.{settledBy};
 ghost use Rattle.model.specs.Bounds.{RowsWithin, held, Lent};
-ghost use Rattle.iteration.specs.Inverses.{inversesOf};
+ghost use Rattle.layout.specs.Turned.{straight};
+ghost use Rattle.values.specs.Divisors.{Tables};
 use model::Settings;
-
-// ---- reading
-
-fn index(x: u16) -> usize
-    ensures { λ r. ⌜ r ≡ x ⌝ }
-{
-    x as usize
-}
-
-// The variable at position p of triple t.
-fn variable(triples: &[u16], t: usize, p: usize) -> usize
-    requires { ⌜ (t ≤ 8192) × (p < 3) × (3 * t + p < length (now triples)) ⌝ }
-    ensures { λ v. ⌜ v ≡ member (now (triples .entry)) t p ⌝ }
-{
-    index(triples[3 * t + p])
-}
-
-// The four rows of triple t.
-fn four(rows: &[i32], t: usize) -> [i32; 4]
-    requires { ⌜ (t ≤ 8192) × (4 * t + 3 < length (now rows)) ⌝ }
-    ensures { λ l. ⌜ l ≡ tab 4 (λ r. row (now (rows .entry)) t r) ⌝ }
-{
-    let i = 4 * t;
-    [rows[i], rows[i + 1], rows[i + 2], rows[i + 3]]
-}
-
-// ---- S
-
-fn clear(sums: &mut [i64])
-    ensures { λ _. ⌜ now (sums .exit) ≡ tab (length (now (sums .entry))) (λ _. pos 0) ⌝ }
-{
-    let n = sums.len();
-    let mut v = 0;
-    while v < n {
-        sums[v] = 0;
-        v += 1;
-    }
-}
-
-// The variable v is given x.
-fn add(sums: &mut [i64], v: usize, x: i32)
-    requires { ⌜ (v < length (now sums)) × (natAbs (at (now sums) v) ≤ 2 ^ 60) ⌝ }
-    ensures { λ _. ⌜ now (sums .exit) ≡ tab (length (now (sums .entry))) (λ u. at (now (sums .entry)) u +ℤ (x when eqb v u)) ⌝ }
-{
-    sums[v] += x as i64;
-}
-
-// Each variable of triple t is given its share.
-fn give(triples: &[u16], rows: &[i32], t: usize, sums: &mut [i64])
-    requires { ⌜ (t < 8192) × (3 * t + 2 < length (now triples)) × (4 * t + 3 < length (now rows)) ⌝ }
-    requires { ⌜ ((i : ℕ) → i < length (now triples) → getD (now triples) i 0 < length (now sums)) ⌝ }
-    requires { ⌜ (RowsWithin 3999 (now rows)) × ((v : ℕ) → natAbs (at (now sums) v) ≤ 2 ^ 59) ⌝ }
-    ensures { λ _. ⌜ now (sums .exit) ≡ tab (length (now (sums .entry))) (λ u.
-        at (now (sums .entry)) u +ℤ sumℤ 3 (λ p. share (now (rows .entry)) t p when eqb (member (now (triples .entry)) t p) u)) ⌝ }
-{
-    let shares = rows::shares(four(rows, t));
-    let v0 = variable(triples, t, 0);
-    let v1 = variable(triples, t, 1);
-    let v2 = variable(triples, t, 2);
-    add(sums, v0, shares[0]);
-    add(sums, v1, shares[1]);
-    add(sums, v2, shares[2]);
-}
-
-// "S is the sum over its rows of z + p", for every variable.
-fn gather(triples: &[u16], rows: &[i32], count: usize, sums: &mut [i64])
-    requires { ⌜ (count ≤ 8192) × (3 * count ≡ length (now triples)) × (4 * count ≡ length (now rows)) ⌝ }
-    requires { ⌜ ((i : ℕ) → i < length (now triples) → getD (now triples) i 0 < length (now sums)) ⌝ }
-    requires { ⌜ RowsWithin 3999 (now rows) ⌝ }
-    ensures { λ _. ⌜ now (sums .exit) ≡ tab (length (now (sums .entry))) (sumOf (now (triples .entry)) count (now (rows .entry))) ⌝ }
-{
-    clear(sums);
-    let mut t = 0;
-    while t < count {
-        give(triples, rows, t, sums);
-        t += 1;
-    }
-}
-
-// ---- c
-
-// "-(256 × S + W × L)"
-fn numerator(weight: u32, sum: i64, cost: i16) -> i64
-    requires { ⌜ (weight ≤ 65535) × (natAbs sum ≤ 2 ^ 40) × (natAbs cost ≤ 32767) ⌝ }
-    ensures { λ z. ⌜ z ≡ Iteration.numerator weight sum cost ⌝ }
-{
-    -(256 * sum + (weight as i64) * (cost as i64))
-}
-
-// "256 × e - A", for a variable in `count` triples
-fn divisor(count: usize, ratio: u32) -> i64
-    requires { ⌜ (count ≤ 2048) × (ratio ≤ 1023) ⌝ }
-    ensures { λ z. ⌜ z ≡ Iteration.divisor (4 * count) ratio ⌝ }
-{
-    1024 * (count as i64) - (ratio as i64)
-}
-
-// The inverses of the divisors of the counts 1, 2, on.
-pub fn write_inverses(ratio: u32, inverses: &mut [u64])
-    requires { ⌜ (ratio ≤ 1023) × (length (now inverses) ≤ 63) ⌝ }
-    ensures { λ _. ⌜ now (inverses .exit) ≡ inversesOf ratio (length (now (inverses .entry))) ⌝ }
-{
-    let n = inverses.len();
-    let mut i = 0;
-    while i < n {
-        inverses[i] = quotient::inverse(divisor(i + 1, ratio));
-        i += 1;
-    }
-}
-
-// "divided by 256 × e - A, rounded to nearest, halves away from zero, then limited": by an inverse where the list has one.
-fn divide(num: i64, count: usize, ratio: u32, inverses: &[u64]) -> i16
-    requires { ⌜ (natAbs num ≤ 2 ^ 48) × (1 ≤ count) × (count ≤ 2048) × (ratio ≤ 1023) ⌝ }
-    requires { ⌜ (length (now inverses) ≤ 63) × (now inverses ≡ inversesOf ratio (length (now inverses))) ⌝ }
-    ensures { λ c. ⌜ c ≡ quotient num (Iteration.divisor (4 * count) ratio) ⌝ }
-{
-    let den = divisor(count, ratio);
-    if count <= inverses.len() {
-        quotient::divide_by(num, den, inverses[count - 1])
-    } else {
-        quotient::divide(num, den)
-    }
-}
-
-// The cost of a variable: an auxiliary's is 0.
-fn cost_of(costs: &[i16], v: usize) -> i16
-    ensures { λ r. ⌜ r ≡ at (now (costs .entry)) v ⌝ }
-{
-    if v < costs.len() { costs[v] } else { 0 }
-}
-
-// "First every c is renewed"
-fn renew_values(
-    sums: &[i64],
-    counts: &[u16],
-    costs: &[i16],
-    weight: u32,
-    ratio: u32,
-    inverses: &[u64],
-    values: &mut [i16],
-)
-    requires { ⌜ (length (now sums) ≡ length (now values)) × (length (now counts) ≡ length (now values)) × (weight ≤ 65535) × (ratio ≤ 1023) ⌝ }
-    requires { ⌜ ((v : ℕ) → v < length (now values) → (natAbs (at (now sums) v) ≤ 2 ^ 40) × (natAbs (at (now costs) v) ≤ 32767)
-        × (natAbs (Iteration.numerator weight (at (now sums) v) (at (now costs) v)) ≤ 2 ^ 48) × (1 ≤ getD (now counts) v 0) × (getD (now counts) v 0 ≤ 2048)) ⌝ }
-    requires { ⌜ (length (now inverses) ≤ 63) × (now inverses ≡ inversesOf ratio (length (now inverses))) ⌝ }
-    ensures { λ _. ⌜ now (values .exit) ≡ tab (length (now (values .entry))) (λ v.
-        quotient (Iteration.numerator weight (at (now (sums .entry)) v) (at (now (costs .entry)) v)) (Iteration.divisor (4 * getD (now (counts .entry)) v 0) ratio)) ⌝ }
-{
-    let n = values.len();
-    let mut v = 0;
-    while v < n {
-        let num = numerator(weight, sums[v], cost_of(costs, v));
-        values[v] = divide(num, index(counts[v]), ratio, inverses);
-        v += 1;
-    }
-}
-
-// ---- s
-
-fn wide(x: i16) -> i32
-    ensures { λ r. ⌜ r ≡ x ⌝ }
-{
-    x as i32
-}
-
-// The value of the variable at position p of triple t.
-fn value_at(triples: &[u16], values: &[i16], t: usize, p: usize) -> i32
-    requires { ⌜ (t ≤ 8192) × (p < 3) × (3 * t + p < length (now triples)) × (member (now triples) t p < length (now values)) ⌝ }
-    ensures { λ c. ⌜ c ≡ at (now (values .entry)) (member (now (triples .entry)) t p) ⌝ }
-{
-    let v = variable(triples, t, p);
-    wide(values[v])
-}
-
-// The rows s of triple t, renewed: "with the old p and new c".
-fn renewed_rows(triples: &[u16], values: &[i16], t: usize, s: [i32; 4]) -> [i32; 4]
-    requires { ⌜ (t < 8192) × (3 * t + 2 < length (now triples)) ⌝ }
-    requires { ⌜ ((i : ℕ) → i < length (now triples) → getD (now triples) i 0 < length (now values)) ⌝ }
-    requires { ⌜ ((v : ℕ) → natAbs (at (now values) v) ≤ 16384) × ((r : ℕ) → natAbs (at s r) ≤ 131072000) ⌝ }
-    ensures { λ l. ⌜ l ≡ tab 4 (λ r. renewed (at s r) (sumAt (now (triples .entry)) (now (values .entry)) t r)) ⌝ }
-{
-    let a = value_at(triples, values, t, 0);
-    let b = value_at(triples, values, t, 1);
-    let c = value_at(triples, values, t, 2);
-    rows::renew_all(s, rows::sums(a, b, c))
-}
-
-fn put(rows: &mut [i32], t: usize, s: [i32; 4])
-    requires { ⌜ (t ≤ 8192) × (4 * t + 3 < length (now rows)) ⌝ }
-    requires { ⌜ ((r : ℕ) → natAbs (at s r) ≤ 131072000) ⌝ }
-    ensures { λ _. ⌜ now (rows .exit) ≡ sets (now (rows .entry)) (4 * t) (tab 4 (at s)) ⌝ }
-{
-    let i = 4 * t;
-    rows[i] = s[0];
-    rows[i + 1] = s[1];
-    rows[i + 2] = s[2];
-    rows[i + 3] = s[3];
-}
-
-// How far a renewal came, with the totals of the triples that are done.
-struct Totals {
-    done: usize,
-    multipliers: u64,
-    slacks: u64,
-}
-
-// The rows are renewed, and the totals formed, until one of them exceeds the tolerance.
-fn renew_counted(
-    triples: &[u16],
-    values: &[i16],
-    rows: &mut [i32],
-    count: usize,
-    tolerance: u64,
-) -> Totals
-    requires { ⌜ (count ≤ 8192) × (3 * count ≡ length (now triples)) × (4 * count ≡ length (now rows)) ⌝ }
-    requires { ⌜ ((i : ℕ) → i < length (now triples) → getD (now triples) i 0 < length (now values)) × ((v : ℕ) → natAbs (at (now values) v) ≤ 16384) ⌝ }
-    requires { ⌜ RowsWithin 3999 (now rows) ⌝ }
-    ensures { λ r. ⌜ (r .done ≤ count) × (r .multipliers ≤ tolerance → r .slacks ≤ tolerance → r .done ≡ count) ⌝ }
-    ensures { λ r. ⌜ now (rows .exit) ≡ over (4 * r .done) (renewedAt (now (triples .entry)) (now (rows .entry)) (now (values .entry))) (now (rows .entry)) ⌝ }
-    ensures { λ r. ⌜ (r .multipliers ≡ changes multiplier (r .done) (now (rows .entry)) (tab (4 * count) (renewedAt (now (triples .entry)) (now (rows .entry)) (now (values .entry)))))
-        × (r .slacks ≡ changes slack (r .done) (now (rows .entry)) (tab (4 * count) (renewedAt (now (triples .entry)) (now (rows .entry)) (now (values .entry))))) ⌝ }
-{
-    let mut t = 0;
-    let mut multipliers: u64 = 0;
-    let mut slacks: u64 = 0;
-    while (t < count) & (multipliers <= tolerance) & (slacks <= tolerance) {
-        let old = four(rows, t);
-        let new = renewed_rows(triples, values, t, old);
-        put(rows, t, new);
-        multipliers += rows::multiplier_changes(old, new);
-        slacks += rows::slack_changes(old, new);
-        t += 1;
-    }
-    Totals {
-        done: t,
-        multipliers,
-        slacks,
-    }
-}
-
-// The rows of triple `from` and of those after it are renewed.
-fn renew_rest(triples: &[u16], values: &[i16], rows: &mut [i32], from: usize, count: usize)
-    requires { ⌜ (from ≤ count) × (count ≤ 8192) × (3 * count ≡ length (now triples)) × (4 * count ≡ length (now rows)) ⌝ }
-    requires { ⌜ ((i : ℕ) → i < length (now triples) → getD (now triples) i 0 < length (now values)) × ((v : ℕ) → natAbs (at (now values) v) ≤ 16384) ⌝ }
-    requires { ⌜ ((i : ℕ) → 4 * from ≤ i → (multiplier (at (now rows) i) ≤ 32768 * 3999) × (slack (at (now rows) i) ≤ 65536)) ⌝ }
-    ensures { λ _. ⌜ now (rows .exit) ≡ over (4 * from) (at (now (rows .entry))) (tab (4 * count) (renewedAt (now (triples .entry)) (now (rows .entry)) (now (values .entry)))) ⌝ }
-{
-    let mut t = from;
-    while t < count {
-        let old = four(rows, t);
-        let new = renewed_rows(triples, values, t, old);
-        put(rows, t, new);
-        t += 1;
-    }
-}
-
-fn settles(multipliers: u64, slacks: u64, tolerance: u64) -> u32
-    ensures { λ settled. ⌜ settled ≡ 1 if (leb multipliers tolerance && leb slacks tolerance) ⌝ }
-{
-    if (multipliers <= tolerance) & (slacks <= tolerance) {
-        1
-    } else {
-        0
-    }
-}
-
-// "Then each row"; and whether "neither total exceeds X".
-fn renew_rows(
-    triples: &[u16],
-    values: &[i16],
-    rows: &mut [i32],
-    count: usize,
-    tolerance: u64,
-) -> u32
-    requires { ⌜ (count ≤ 8192) × (3 * count ≡ length (now triples)) × (4 * count ≡ length (now rows)) ⌝ }
-    requires { ⌜ ((i : ℕ) → i < length (now triples) → getD (now triples) i 0 < length (now values)) × ((v : ℕ) → natAbs (at (now values) v) ≤ 16384) ⌝ }
-    requires { ⌜ RowsWithin 3999 (now rows) ⌝ }
-    ensures { λ _. ⌜ now (rows .exit) ≡ tab (4 * count) (renewedAt (now (triples .entry)) (now (rows .entry)) (now (values .entry))) ⌝ }
-    ensures { λ settled. ⌜ settled ≡ settledBy tolerance count (now (rows .entry)) (tab (4 * count) (renewedAt (now (triples .entry)) (now (rows .entry)) (now (values .entry)))) ⌝ }
-{
-    let totals = renew_counted(triples, values, rows, count, tolerance);
-    renew_rest(triples, values, rows, totals.done, count);
-    settles(totals.multipliers, totals.slacks, tolerance)
-}
-
-// ---- one iteration
 
 // The lists of a run afterwards are those of `iterate`; the answer says whether the run stops, settled.
 pub fn iterate(
@@ -312,27 +19,30 @@ pub fn iterate(
     counts: &[u16],
     costs: &[i16],
     count: usize,
-    inverses: &[u64],
+    mosts: &[i64],
+    inverses: &[i64],
     sums: &mut [i64],
     values: &mut [i16],
     rows: &mut [i32],
 ) -> u32
     requires { ⌜ Lent settings (now triples) (now counts) (now costs) count (now sums) (now values) (now rows) ⌝ }
-    requires { ⌜ (RowsWithin 3999 (now rows)) × (length (now inverses) ≤ 63) × (now inverses ≡ inversesOf (settings .ratio) (length (now inverses))) ⌝ }
+    requires { ⌜ (RowsWithin 3999 (straight count (now rows))) × (Tables (settings .ratio) (now mosts) (now inverses)) ⌝ }
     ensures { λ _. ⌜ (let g = held (now (triples .entry)) count (now (values .entry)) in
-        let a : State = record { sums = now (sums .entry); values = now (values .entry); rows = now (rows .entry) } in
-        record { sums = now (sums .exit); values = now (values .exit); rows = now (rows .exit) } ≡ Iteration.iterate quotient g settings (now (costs .entry)) a) ⌝ }
-    ensures { λ settled. ⌜ settled ≡ settledBy (settings .tolerance) count (now (rows .entry)) (now (rows .exit)) ⌝ }
+        let a : State = record { sums = now (sums .entry); values = now (values .entry); rows = straight count (now (rows .entry)) } in
+        record { sums = now (sums .exit); values = now (values .exit); rows = straight count (now (rows .exit)) } ≡ Iteration.iterate quotient g settings (now (costs .entry)) a) ⌝ }
+    ensures { λ _. ⌜ length (now (rows .exit)) ≡ 4 * count ⌝ }
+    ensures { λ settled. ⌜ settled ≡ settledBy (settings .tolerance) count (straight count (now (rows .entry))) (straight count (now (rows .exit))) ⌝ }
 {
-    gather(triples, rows, count, sums);
-    renew_values(
+    sums::gather(triples, rows, count, sums);
+    values::renew(
         sums,
         counts,
         costs,
         settings.weight,
         settings.ratio,
+        mosts,
         inverses,
         values,
     );
-    renew_rows(triples, values, rows, count, settings.tolerance as u64)
+    renewal::renew(triples, values, rows, count, settings.tolerance as u64)
 }

@@ -101,6 +101,12 @@ module _ {ℓ} {A : Type ℓ} where
   pub over-over : (n : ℕ) (f g : ℕ → A) (old : List A) → over n f (over n g old) ≡ over n f old
   over-over n f g old = ap (λ (l : List A). tab n f ++ l) (drop-at (tab n g) (drop n old) n (length-tab n g))
 
+  pub over-under : (m n : ℕ) (f g : ℕ → A) (old : List A) → m ≤ n → m ≤ length old → over n f (over m g old) ≡ over n f old
+  over-under zero n f g old h l = refl
+  over-under (suc m) zero f g old h l = absurd (omega arith)
+  over-under (suc m) (suc n) f g [] h l = absurd (omega arith)
+  over-under (suc m) (suc n) f g (x ∷ old) h l = ap (_∷_ (f 0)) (over-under m n (λ k. f (suc k)) (λ k. g (suc k)) old (omega arith) (omega arith))
+
   -- all of it
   pub over-self : (n : ℕ) (l : List A) (d : A) → n ≤ length l → over n (λ i. getD l i d) l ≡ l
   over-self zero l d h = refl

@@ -7,6 +7,7 @@ use native.Mathlib.Omega.{arith}
 use native.Mathlib.Nat.{mul-le-mul, mul-le-mul-left, le-trans, le-of-eq}
 use lib.Dec.{eqb, ltb}
 use lib.IntN.{ℤ, pos, negℤ, natAbs, _+ℤ_, _-ℤ_, _*ℤ_}
+use lib.ListN.{length}
 use lib.Signed.{_≤ℤ_, _<ℤ_}
 use Rattle.integers.specs.Parts.{up, dn}
 use Rattle.integers.specs.Sum.{sumℕ, sumℤ}
@@ -172,14 +173,15 @@ rows-after g o costs ready zero = start-within g
 rows-after g o costs ready (suc n) = bounds g o costs n (after quotient g o costs n (start g)) ready (rows-after g o costs ready n) .rows
 
 -- ---- an accepted code, settings and costs are ready
-pub ready : (k : Code) → Sound k → (o : Settings) → wild o ≡ false → (costs : List ℤ) → ((v : ℕ) → natAbs (at costs v) ≤ 32767) → Ready (systemOf k) o costs
+pub ready : (k : Code) → Sound k → (o : Settings) → wild o ≡ false → (costs : List ℤ) → length costs ≡ k .bits → ((v : ℕ) → natAbs (at costs v) ≤ 32767) → Ready (systemOf k) o costs
 unfolding systemOf
-ready k s o h costs small =
+ready k s o h costs e small =
     let a = or-false (outside 1 65535 (o .weight)) _ h in
     let b = or-false (ltb 1023 (o .ratio)) _ (a .1) in
     record {
       some = occurs-some k s;
       few = occurs-few k s;
+      bits = omega (arith, e);
       triples = s .triples-most;
       weight = within 1 65535 (o .weight) (a .0) .1;
       ratio = ltb-false 1023 (o .ratio) (b .0);

@@ -20,6 +20,7 @@ pub record RowsWithin (n : ℕ) (s : List ℤ) : Type 0 where
 pub record Ready (g : System) (o : Settings) (costs : List ℤ) : Type 0 where
   pub some : (v : ℕ) → v < g .variables → 1 ≤ occurrences (g .members) (g .triples) v
   pub few : (v : ℕ) → occurrences (g .members) (g .triples) v ≤ 2048
+  pub bits : length costs ≤ g .variables
   pub triples : g .triples ≤ 8192
   pub weight : o .weight ≤ 65535
   pub ratio : o .ratio ≤ 1023

@@ -1,2 +1,3 @@
 -- Facts that several proofs use.
 pub mod Magnitudes
+pub mod Products

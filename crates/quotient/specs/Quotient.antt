@@ -1,7 +1,9 @@
 -- Document 01, 'One iteration': "rounded to nearest, halves away from zero, then limited to −U..U".
 -- `quotient` is shut: no crate above can open it. What they have of it are the laws below, in `Laws`.
+use mathlib.Core.Bool.{cond}
 use Prim.Native.Nat.{ℕ, suc, _+_, _*_, _/_, _^_, _≤_, _<_, min}
 use lib.IntN.{ℤ, pos, negsuc, negℤ, natAbs}
+use lib.Signed.{ltZ}
 use Rattle.integers.specs.Nearest.{nearest}
 pub mod Laws
 
@@ -24,6 +26,10 @@ pub record Rounded (n d q : ℕ) : Type 0 where
   pub above : 2 * (d * q) ≤ 2 * n + d
   pub below : q < unit → 2 * n < 2 * (d * q) + d
 
--- the next whole number above 2 ^ 48 / 2d: a product with it, divided by 2 ^ 48, takes the place of a division by 2d
+-- q with the sign of z
+abbrev pub signed : ℤ → ℕ → ℤ
+signed z q = cond (ltZ z (pos 0)) (negℤ (pos q)) (pos q)
+
+-- the next whole number above 2 ^ 47 / d: a product with it, divided by 2 ^ 47, takes the place of a division by d
 unfoldable pub inverse : ℕ → ℕ
-inverse d = 2 ^ 48 / (2 * d) + 1
+inverse d = 2 ^ 47 / d + 1

@@ -1,16 +1,18 @@
 // The rounded quotient (document 01, 'One iteration'): the lowest part of the decoder.
 ghost use mathlib.Core.Path.{_≡_};
-ghost use mathlib.Core.Bool.{cond};
 ghost use Prim.Native.Nat.{_+_, _*_, _<_, _≤_, _^_, min};
-ghost use lib.IntN.{pos, negℤ, natAbs};
-ghost use lib.Signed.{ltZ, _≤ℤ_, _<ℤ_};
+ghost use lib.IntN.{pos, negℤ, natAbs, _+ℤ_, _*ℤ_};
+ghost use lib.Signed.{_≤ℤ_, _<ℤ_};
 ghost use Rattle.quotient.specs.Quotient as Quotient;
 ghost use Rattle.quotient.specs.Quotient.{unit, Rounded, quotient};
 
 const UNIT: u64 = 16384;
 
-// 2^48
-const SCALE: u64 = 281474976710656;
+// 2^47
+const SCALE: u64 = 140737488355328;
+
+// (16384 + 1/2) * 2^47
+const RAISE: i64 = 2305913377957871616;
 
 // ---- magnitudes
 
@@ -46,20 +48,12 @@ fn rounded(n: u64, d: u64) -> u64
     dividend(n, d) / (2 * d)
 }
 
-// The same by the inverse of d.
-fn rounded_by(n: u64, d: u64, inverse: u64) -> u64
-    requires { ⌜ (n ≤ 2 ^ 48) × (0 < d) × (d ≤ 64512) × (inverse ≡ Quotient.inverse d) ⌝ }
-    ensures { λ r. ⌜ Rounded n d r ⌝ }
-{
-    dividend(n, d) * inverse / SCALE
-}
-
 // ---- the sign
 
 // q with the sign of num.
 fn signed(q: u64, num: i64) -> i16
     requires { ⌜ q ≤ unit ⌝ }
-    ensures { λ r. ⌜ r ≡ cond (ltZ num (pos 0)) (negℤ (pos q)) (pos q) ⌝ }
+    ensures { λ r. ⌜ r ≡ Quotient.signed num q ⌝ }
 {
     let z = q as i16;
     if num < 0 { -z } else { z }
@@ -77,17 +71,37 @@ pub fn divide(num: i64, den: i64) -> i16
 // ---- by an inverse, where many are divided by one number
 
 // The inverse of den.
-pub fn inverse(den: i64) -> u64
+pub fn inverse(den: i64) -> i64
     requires { ⌜ (pos 0 <ℤ den) × (den ≤ℤ pos 64512) ⌝ }
-    ensures { λ r. ⌜ r ≡ Quotient.inverse (natAbs den) ⌝ }
+    ensures { λ r. ⌜ r ≡ pos (Quotient.inverse (natAbs den)) ⌝ }
 {
-    SCALE / (2 * natural(den)) + 1
+    (SCALE / natural(den) + 1) as i64
 }
 
-// The quotient by a den whose inverse is at hand.
-pub fn divide_by(num: i64, den: i64, inverse: u64) -> i16
-    requires { ⌜ (natAbs num ≤ 2 ^ 48) × (pos 0 <ℤ den) × (den ≤ℤ pos 64512) × (inverse ≡ Quotient.inverse (natAbs den)) ⌝ }
-    ensures { λ r. ⌜ r ≡ quotient num den ⌝ }
+// x, limited to -most..=most.
+fn limited(x: i64, most: i64) -> i64
+    requires { ⌜ (pos 0 ≤ℤ most) × (natAbs most ≤ unit * 64512) ⌝ }
+    ensures { λ r. ⌜ r ≡ Quotient.signed x (min (natAbs x) (natAbs most)) ⌝ }
 {
-    signed(rounded_by(magnitude(num), natural(den), inverse), num)
+    let least = -most;
+    let low = if x < least { least } else { x };
+    if most < low { most } else { low }
+}
+
+// -x / den, rounded, and 16384 more, so that what is divided is not negative.
+// The half in RAISE rounds to the nearest. The inverse exceeds 2^47 / den, so halves go away from zero.
+fn raised(x: i64, den: i64, inverse: i64) -> u64
+    requires { ⌜ (pos 0 <ℤ den) × (den ≤ℤ pos 64512) × (natAbs x ≤ unit * natAbs den) × (inverse ≡ pos (Quotient.inverse (natAbs den))) ⌝ }
+    ensures { λ r. ⌜ pos r ≡ pos unit +ℤ quotient (negℤ x) den ⌝ }
+{
+    ((RAISE - x * inverse) as u64) / SCALE
+}
+
+// -x / den, rounded to the nearest whole number, halves away from zero, and limited to -16384..=16384: by the inverse of den, and most = 16384 * den.
+// den stands in the contract alone.
+pub fn divide_opposite(x: i64, den: i64, most: i64, inverse: i64) -> i16
+    requires { ⌜ (natAbs x ≤ 2 ^ 48) × (pos 0 <ℤ den) × (den ≤ℤ pos 64512) × (most ≡ pos unit *ℤ den) × (inverse ≡ pos (Quotient.inverse (natAbs den))) ⌝ }
+    ensures { λ r. ⌜ r ≡ quotient (negℤ x) den ⌝ }
+{
+    ((raised(limited(x, most), den, inverse) as i64) - 16384) as i16
 }

@@ -10,7 +10,7 @@ use Rattle.lists.specs.Tabulated.{tab}
 use Rattle.model.specs.Iteration.{slack, multiplier}
 use Rattle.model.specs.Run.{squareOfChange}
 
-pub four-are : (f : ℕ → ℤ) (a b c d : ℤ) → a ≡ f 0 → b ≡ f 1 → c ≡ f 2 → d ≡ f 3 → a ∷ b ∷ c ∷ d ∷ [] ≡ tab 4 f
+pub four-are : {A : Type 0} (f : ℕ → A) (a b c d : A) → a ≡ f 0 → b ≡ f 1 → c ≡ f 2 → d ≡ f 3 → a ∷ b ∷ c ∷ d ∷ [] ≡ tab 4 f
 four-are f a b c d p q r s = rw (p, q, r, s)
 
 -- a change of a part of two rows, squared

@@ -1,14 +1,15 @@
 // The run (document 01, 'One iteration'): iterations from the start until it settles or K are done, on lists of exact length.
 ghost use mathlib.Core.Path.{_≡_};
-ghost use Prim.Native.Nat.{_≤_};
+ghost use Prim.Native.Nat.{_*_, _≤_};
 ghost use lib.IntN.{pos};
 ghost use lib.ListN.{length};
 ghost use Rattle.lists.specs.Tabulated.{tab};
 ghost use Rattle.quotient.specs.Quotient.{quotient};
 ghost use Rattle.model.specs.Iteration.{State};
 ghost use Rattle.model.specs.Run as Run;
-ghost use Rattle.model.specs.Bounds.{held, Lent};
-ghost use Rattle.iteration.specs.Inverses.{inversesOf};
+ghost use Rattle.model.specs.Bounds.{RowsWithin, held, Lent};
+ghost use Rattle.layout.specs.Turned.{straight};
+ghost use Rattle.values.specs.Divisors.{Tables};
 use model::Ending;
 use model::Settings;
 
@@ -24,24 +25,26 @@ fn clear(rows: &mut [i32])
     }
 }
 
-// Iterations from the start until it settles or K are done: the ending, with S, c and s of the last iteration in the lists.
+// Iterations from the start until it settles or K are done: the ending, with S, c and s of the last iteration in the lists; s as it stands while a run goes.
 fn iterations(
     settings: Settings,
     triples: &[u16],
     counts: &[u16],
     costs: &[i16],
     count: usize,
-    inverses: &[u64],
+    mosts: &[i64],
+    inverses: &[i64],
     sums: &mut [i64],
     values: &mut [i16],
     rows: &mut [i32],
 ) -> Ending
     requires { ⌜ Lent settings (now triples) (now counts) (now costs) count (now sums) (now values) (now rows) ⌝ }
-    requires { ⌜ (length (now inverses) ≤ 63) × (now inverses ≡ inversesOf (settings .ratio) (length (now inverses))) ⌝ }
+    requires { ⌜ Tables (settings .ratio) (now mosts) (now inverses) ⌝ }
     requires { ⌜ (1 ≤ settings .limit) × (settings .limit ≤ 1000) ⌝ }
     ensures { λ e. ⌜ (let g = held (now (triples .entry)) count (now (values .entry)) in
-        let last : State = record { sums = now (sums .exit); values = now (values .exit); rows = now (rows .exit) } in
+        let last : State = record { sums = now (sums .exit); values = now (values .exit); rows = straight count (now (rows .exit)) } in
         record { k = e .k; settled = e .settled; last = last } ≡ Run.run quotient g settings (now (costs .entry))) ⌝ }
+    ensures { λ _. ⌜ (RowsWithin 3999 (now (rows .exit))) × (length (now (rows .exit)) ≡ 4 * count) ⌝ }
 {
     clear(rows);
     let mut k: u32 = 0;
@@ -53,6 +56,7 @@ fn iterations(
             counts,
             costs,
             count,
+            mosts,
             inverses,
             sums,
             values,
@@ -80,17 +84,22 @@ pub fn run(
         let last : State = record { sums = now (sums .exit); values = now (values .exit); rows = now (rows .exit) } in
         record { k = e .k; settled = e .settled; last = last } ≡ Run.run quotient g settings (now (costs .entry))) ⌝ }
 {
-    let mut inverses = [0u64; 31];
-    iteration::write_inverses(settings.ratio, &mut inverses);
-    iterations(
+    let mut mosts = [0i64; 31];
+    values::write_mosts(settings.ratio, &mut mosts);
+    let mut inverses = [0i64; 31];
+    values::write_inverses(settings.ratio, &mut inverses);
+    let ending = iterations(
         settings,
         triples,
         counts,
         costs,
         count,
+        &mosts,
         &inverses,
         sums,
         values,
         rows,
-    )
+    );
+    layout::straighten(rows, count);
+    ending
 }

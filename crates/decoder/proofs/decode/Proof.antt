@@ -5,7 +5,9 @@ use mathlib.Core.Path.{_≡_, sym, ap, ap₂, _∙_}
 use Prim.Native.Nat.{ℕ, _+_, _-_, _*_}
 use native.Mathlib.Omega.{arith}
 use borrow.Author.Needs.{needs}
-use borrow.Author.Tests.{ltb-false}
+use borrow.Author.Tests.{ltb-false, eqb-true, not-false}
+use lib.Dec.{eqb}
+use lib.ListN.{length}
 use Rattle.lists.specs.Entries.{some}
 use Rattle.model.specs.Calls.{wild, unequal, forbidden, readingTold, Lists, noRoom}
 use Rattle.model.specs.Causes.{_if_, firstOf, short}
@@ -114,6 +116,11 @@ module _ (c : tie.Else1) where
   room : tooShort (c .before) (bits (c .before)) (total (c .before)) (vars (c .before)) ≡ false
   room = sym (c .before .before .no-room .ensures) ∙ unless 9 (c .before .before .no-room .result) (none .1 .1 .1 .0)
 
+  agree : length (s (c .before) .args .costs .now) ≡ bits (c .before)
+  agree =
+      let costs = s (c .before) .args .costs .now in
+      eqb-true (length costs) (bits (c .before)) (not-false (eqb (length costs) (bits (c .before))) (unless 11 (unequal costs (bits (c .before))) (none .1 .0)))
+
 decode-accepted-requires : tie.Need-decode-accepted-requires
 decode-accepted-requires c κs =
     let e = c .before .before .before .before .before .before in
@@ -126,7 +133,7 @@ decode-accepted-requires c κs =
     let a5 = or-false (short (4 * total q) (l q .rows)) _ (a4 .1) in (
       (r .judged, r .bits, r .checks, r .triples, r .variables),
       (
-        (unless 10 (wild (s q .args .settings)) (none e .0), q .cause .ensures .1 (e .if1 .left)),
+        (unless 10 (wild (s q .args .settings)) (none e .0), agree e ∙ r .bits, q .cause .ensures .1 (e .if1 .left)),
         (
           (ltb-false _ _ (a1 .0), ltb-false _ _ (a2 .0)),
           (ltb-false _ _ (a3 .0), ltb-false _ _ (a4 .0), ltb-false _ _ (a5 .0), ltb-false _ _ (a5 .1)),

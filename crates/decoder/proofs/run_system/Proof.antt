@@ -87,7 +87,7 @@ module _ (w : tie.After-write-system) where
       (subst (λ (l : List ℕ). getD l i 0 < variables k) (sym ts-is) (member-below k sound i (omega (arith, ts-long, s .pre .0 .1))))
 
   is-ready : Ready (systemOf k) (s .args .settings) (s .args .costs .now)
-  is-ready = ready k sound (s .args .settings) (s .pre .1 .0 .0) (s .args .costs .now) (s .pre .1 .0 .1)
+  is-ready = ready k sound (s .args .settings) (s .pre .1 .0 .0) (s .args .costs .now) (s .pre .1 .0 .1) (s .pre .1 .0 .2)
 
 mul-run : tie.Need-mul-run
 mul-run c = search needs

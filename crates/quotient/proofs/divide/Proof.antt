@@ -1,14 +1,13 @@
 -- `quotient::divide` meets its contract: the magnitudes are rounded, and the sign goes over. Assumes nothing.
 use mathlib.Core.Path.{_≡_, ap, _∙_}
-use mathlib.Core.Bool.{cond}
 use native.Mathlib.Omega.{arith}
 use borrow.Author.Needs.{needs}
-use lib.IntN.{ℤ, pos, negℤ, natAbs}
-use lib.Signed.{ltZ}
+use lib.IntN.{ℤ, natAbs}
 use mir.Syntax.{w16}
 use mir.Facts.{toZ-ofZ}
 use Rattle.integers.proofs.Linear.{readℤ}
 use Rattle.integers.proofs.Machine.{read-back}
+use Rattle.quotient.specs.Quotient.{signed}
 use Rattle.quotient.proofs.Magnitudes.{positive, divided}
 use Rattle.quotient.proofs.divide.Statement.{statement}
 use Rattle.quotient.proofs.divide.Tie as tie
@@ -40,7 +39,7 @@ returns c =
     let s = m .before .before in
     let q = c .before .rounded .result in
     read-back w16 (c .signed .ok)
-    (c .signed .ensures ∙ ap (λ (z : ℤ). cond (ltZ z (pos 0)) (negℤ (pos q)) (pos q)) (toZ-ofZ (s .fits .num))
+    (c .signed .ensures ∙ ap (λ (z : ℤ). signed z q) (toZ-ofZ (s .fits .num))
     ∙ divided (s .args .num) (s .args .den) 2097152 (m .before .magnitude .result) (m .natural .result) q (s .pre .1) (s .pre .2) (num-is (m .before)) (den-is m) (c .before .rounded .ensures))
 
 pub divide-spec : {M : Type 1} → statement M

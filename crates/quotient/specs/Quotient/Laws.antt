@@ -1,15 +1,13 @@
 -- All that is known of the quotient: it is odd, it is `Rounded`, and that determines it. Assumes nothing.
 use mathlib.Core.Path.{_≡_, refl, sym, ap}
-use mathlib.Core.Bool.{cond}
 use Prim.Native.Nat.{ℕ, zero, suc, _+_, _*_, _/_, _≤_, _<_, min}
 use native.Mathlib.Omega.{arith, by-contra}
 use native.Mathlib.Nat.{mul-le-mul-left, le-antisymm, div-eq-of-lt}
 use lib.IntN.{ℤ, pos, negsuc, negℤ, natAbs, negℤ-negℤ}
-use lib.Signed.{ltZ}
 use Rattle.integers.specs.Nearest.{nearest}
 use Rattle.integers.proofs.Nearest.{nearest-is}
 use Rattle.integers.proofs.Linear.{abs-neg, false-ltZ}
-use Rattle.quotient.specs.Quotient.{unit, limited, quotient, Rounded}
+use Rattle.quotient.specs.Quotient.{unit, limited, quotient, Rounded, signed}
 
 -- ---- magnitudes
 pub rounded-by : (n d : ℕ) → 0 < d → Rounded n d (min (nearest n d) unit)
@@ -61,7 +59,7 @@ quotient-is n d q h r =
     ap pos (le-antisymm (rounded-le n d (limited n d) q (limited-rounded n d h) r) (rounded-le n d q (limited n d) r (limited-rounded n d h)))
 
 -- from the magnitude, by the sign
-pub quotient-signed : (n : ℤ) (d q : ℕ) → 0 < d → Rounded (natAbs n) d q → cond (ltZ n (pos 0)) (negℤ (pos q)) (pos q) ≡ quotient n (pos d)
+pub quotient-signed : (n : ℤ) (d q : ℕ) → 0 < d → Rounded (natAbs n) d q → signed n q ≡ quotient n (pos d)
 unfolding quotient
 quotient-signed (pos n) d q h r = rw (false-ltZ (pos n) (pos 0) (omega arith)) (sym (quotient-is n d q h r))
 quotient-signed (negsuc n) d q h r = ap negℤ (sym (quotient-is (suc n) d q h r))

@@ -1,0 +1,54 @@
+-- `layout::load_all` meets its contract. Assumes nothing.
+use mathlib.Core.List.{List}
+use mathlib.Core.Path.{_≡_, ap, _∙_}
+use Prim.Native.Nat.{ℕ, _+_}
+use native.Mathlib.Omega.{arith}
+use lib.IntN.{ℤ}
+use Rattle.lists.specs.Tabulated.{tab}
+use Rattle.model.specs.Iteration.{row}
+use Rattle.rows.proofs.Four.{four-are}
+use borrow.Author.Needs.{needs}
+use Rattle.layout.proofs.load_all.Statement.{statement}
+use Rattle.layout.proofs.load_all.Tie as tie
+
+load-requires : tie.Need-load-requires
+load-requires c κs = search needs
+
+add-load : tie.Need-add-load
+add-load c = search needs
+
+load-requires-2 : tie.Need-load-requires-2
+load-requires-2 c κs = search needs
+
+add-load-2 : tie.Need-add-load-2
+add-load-2 c = search needs
+
+load-requires-3 : tie.Need-load-requires-3
+load-requires-3 c κs = search needs
+
+add-load-3 : tie.Need-add-load-3
+add-load-3 c = search needs
+
+load-requires-4 : tie.Need-load-requires-4
+load-requires-4 c κs = search needs
+
+returns : tie.Need-returns
+returns c =
+    let s = c .before .before .before .before in
+    let t = s .args .t in
+    let of : ℕ → List ℤ = λ u. tab 4 (λ j. row (s .args .rows .now) u j) in
+    let e : t ≡ t + 0 = omega arith in
+    four-are (λ k. of (t + k)) _ _ _ _ (c .before .before .before .load .ensures ∙ ap of e) (c .before .before .load2 .ensures) (c .before .load3 .ensures) (c .load4 .ensures)
+
+pub load-all-spec : {M : Type 1} → statement M
+load-all-spec =
+    tie.close
+    (tie.spec
+    load-requires
+    add-load
+    load-requires-2
+    add-load-2
+    load-requires-3
+    add-load-3
+    load-requires-4
+    returns)

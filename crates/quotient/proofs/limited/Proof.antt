@@ -1,0 +1,67 @@
+-- `quotient::limited` meets its contract. Assumes nothing.
+use mathlib.Core.Logic.{inl, inr}
+use mathlib.Core.Path.{_≡_, ap, _∙_}
+use Prim.Native.Nat.{_*_, min}
+use native.Mathlib.Omega.{arith}
+use lib.IntN.{pos, negℤ, natAbs, _-ℤ_}
+use mir.Syntax.{w64}
+use mir.Val.{toZ, ofZ}
+use mir.Facts.{toZ-ofZ}
+use Rattle.integers.specs.Parts.{up, dn}
+use Rattle.integers.proofs.Linear.{readℤ, ltZ-true, ltZ-false, about, about-neg}
+use Rattle.integers.proofs.Machine.{Worth, held, negative, fits, stored}
+use Rattle.quotient.specs.Quotient.{unit}
+use Rattle.quotient.proofs.Magnitudes.{limited-is}
+use Rattle.quotient.proofs.limited.Statement.{statement}
+use Rattle.quotient.proofs.limited.Tie as tie
+
+x-is : (s : tie.Start) → toZ w64 (ofZ w64 (s .args .x)) ≡ s .args .x
+x-is s = toZ-ofZ (s .fits .x)
+
+most-is : (s : tie.Start) → Worth (toZ w64 (ofZ w64 (s .args .most))) (s .args .most) (unit * 64512)
+most-is s = held w64 (s .args .most) (unit * 64512) tt (s .pre .1)
+
+least-is : (s : tie.Start) → Worth (pos 0 -ℤ toZ w64 (ofZ w64 (s .args .most))) (negℤ (s .args .most)) (unit * 64512)
+least-is s = negative (most-is s)
+
+-- the part below 0 is limited
+low-is : (c : tie.Joined1)
+    → let low = toZ w64 (c .if1 .low) in
+    let a = c .before .args in
+    (up low ≡ up (a .x)) × (dn low ≡ min (dn (a .x)) (natAbs (a .most)))
+low-is c =
+    let s = c .before in
+    let x = s .args .x in
+    let least = negℤ (s .args .most) in
+    let e = stored (least-is s) w64 tt .is in
+    let x-parts = about x in
+    let most-parts = about (s .args .most) in
+    let least-parts = about-neg (s .args .most) in
+    elim (c .if1 .came) [
+      | inl w ↦ rw (ap (toZ w64) (w .1) ∙ e) (omega (arith, readℤ, ltZ-true x least (rw (x-is s, e) at (w .0 .taken))))
+      | inr w ↦ rw (ap (toZ w64) (w .1) ∙ x-is s) (omega (arith, readℤ, ltZ-false x least (rw (x-is s, e) at (w .0 .left))))
+    ]
+
+sub-least : tie.Need-sub-least
+sub-least c = fits (least-is c) w64 tt
+
+-- then the part above 0
+returns : tie.Need-returns
+returns c =
+    let s = c .before .before in
+    let most = s .args .most in
+    let low = toZ w64 (c .before .if1 .low) in
+    let over = ltZ-true most low (rw (most-is s .is) at (c .if2 .taken)) in
+    let e : (up most ≡ min (up (s .args .x)) (natAbs most)) × (dn most ≡ min (dn (s .args .x)) (natAbs most)) = omega (arith, readℤ, low-is (c .before), about most, about low) in
+    rw (most-is s .is) (limited-is (s .args .x) most (natAbs most) (e .0) (e .1))
+
+returns-2 : tie.Need-returns-2
+returns-2 c =
+    let s = c .before .before in
+    let most = s .args .most in
+    let low = toZ w64 (c .before .if1 .low) in
+    let within = ltZ-false most low (rw (most-is s .is) at (c .if2 .left)) in
+    limited-is (s .args .x) low (natAbs most) (omega (arith, readℤ, low-is (c .before), about most, about low)) (low-is (c .before) .1)
+
+pub limited-spec : {M : Type 1} → statement M
+limited-spec = tie.close (tie.spec sub-least returns returns-2)

@@ -1,0 +1,34 @@
+-- `renewal::value_at` meets its contract. Assumes nothing.
+use mathlib.Core.Path.{ap, _∙_}
+use borrow.Author.Needs.{needs}
+use mir.Facts.{toZ-ofZ}
+use mir.Syntax.{w16, w32}
+use mir.Val.{SFits}
+use Rattle.integers.proofs.Machine.{read-back}
+use Rattle.model.specs.Iteration.{at}
+use Rattle.renewal.proofs.value_at.Statement.{statement}
+use Rattle.renewal.proofs.value_at.Tie as tie
+
+variable-requires : tie.Need-variable-requires
+variable-requires c κs = search needs
+
+mul-wide : tie.Need-mul-wide
+mul-wide c = search needs
+
+shared-slice-copy-out-wide : tie.Need-shared-slice-copy-out-wide
+shared-slice-copy-out-wide c = search needs
+
+wide-requires : tie.Need-wide-requires
+wide-requires c κs = search needs
+
+returns : tie.Need-returns
+returns c =
+    let s = c .before .before .before .before in
+    let v = c .before .before .variable .result in
+    let e : SFits w16 (at (s .args .values .now) v) = search needs in
+    read-back w32 (c .wide .ok) (c .wide .ensures ∙ toZ-ofZ {w = w16} e ∙ ap (at (s .args .values .now)) (c .before .before .variable .ensures))
+
+pub value-at-spec : {M : Type 1} → statement M
+value-at-spec =
+    tie.close
+    (tie.spec variable-requires mul-wide shared-slice-copy-out-wide wide-requires returns)
