@@ -117,7 +117,7 @@ fn renew_first(triples: &[u16], values: &[i16], rows: &mut [i32], count: usize) 
     }
 }
 
-// The rows of four triples after the other are renewed, and the totals formed, until one of them exceeds the tolerance.
+// The first triples, then one four after the other: the rows are renewed, and the totals formed, until one of them exceeds the tolerance.
 fn renew_counted(
     triples: &[u16],
     values: &[i16],

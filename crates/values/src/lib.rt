@@ -44,7 +44,7 @@ pub fn write_inverses(ratio: u32, inverses: &mut [i64])
     }
 }
 
-// The most that is divided by each of them: more than it is limited.
+// The most that is divided by each of them: what is larger is limited to it.
 pub fn write_mosts(ratio: u32, mosts: &mut [i64])
     requires { ⌜ (ratio ≤ 1023) × (length (now mosts) ≤ 63) ⌝ }
     ensures { λ _. ⌜ now (mosts .exit) ≡ mostsOf ratio (length (now (mosts .entry))) ⌝ }
