@@ -70,6 +70,33 @@ module _ {A : Type 0} (f : A → Bool) where
       by false p e (suc i) h ih = ih i d e (omega arith)
       by true p e i h ih = absurd (subst T e tt)
 
+-- where some entry passes one test and every entry another, there is one that passes both
+pub some-every : {A : Type 0} (f g : A → Bool) (l : List A) → some f l ≡ true → every g l ≡ true → (x : A) × (f x ≡ true) × (g x ≡ true)
+some-every f g [] h k = absurd (subst T (sym h) tt)
+some-every {A = A} f g (x ∷ l) h k = by (f x) refl (g x) refl h k (some-every f g l)
+  where
+    Both : Type 0
+    Both = (x : A) × (f x ≡ true) × (g x ≡ true)
+
+    by : (s : Bool) → f x ≡ s → (t : Bool) → g x ≡ t → (s || some f l) ≡ true → (t && every g l) ≡ true → (some f l ≡ true → every g l ≡ true → Both) → Both
+    by true p true q h k more = (x, p, q)
+    by false p true q h k more = more h k
+    by s p false q h k more = absurd (subst T (sym k) tt)
+
+-- none of a tabulated list passes, or all do
+pub none-in-tab : {A : Type 0} (f : A → Bool) (n : ℕ) (g : ℕ → A) → ((i : ℕ) → i < n → f (g i) ≡ false) → some f (tab n g) ≡ false
+none-in-tab f zero g h = refl
+none-in-tab f (suc n) g h = rw (h 0 (omega arith)) (none-in-tab f n (λ i. g (suc i)) (λ i l. h (suc i) (omega arith)))
+
+pub every-in-tab : {A : Type 0} (f : A → Bool) (n : ℕ) (g : ℕ → A) → ((i : ℕ) → i < n → f (g i) ≡ true) → every f (tab n g) ≡ true
+every-in-tab f zero g h = refl
+every-in-tab f (suc n) g h = rw (h 0 (omega arith)) (every-in-tab f n (λ i. g (suc i)) (λ i l. h (suc i) (omega arith)))
+
+-- none of a list passes
+pub none-in : {A : Type 0} (f : A → Bool) (l : List A) (d : A) → ((i : ℕ) → i < length l → f (getD l i d) ≡ false) → some f l ≡ false
+none-in f [] d h = refl
+none-in f (x ∷ l) d h = rw (h 0 (omega arith)) (none-in f l d (λ i k. h (suc i) (omega arith)))
+
 -- tests that agree on the entries
 pub every-same : {A : Type 0} (n : ℕ) (h : ℕ → A) (f g : A → Bool) → ((i : ℕ) → i < n → f (h i) ≡ g (h i)) → every f (tab n h) ≡ every g (tab n h)
 every-same zero h f g e = refl

@@ -6,7 +6,7 @@ use Prim.Native.Nat.{ℕ, zero, suc, _+_, _*_, _≤_, _<_}
 use native.Mathlib.Omega.{arith}
 use lib.Dec.{ltb, leb, eqb}
 use lib.ListN.{length, drop, length-drop}
-use borrow.Author.Tests.{ltb-false, leb-false, not-false}
+use borrow.Author.Tests.{ltb-false, leb-false, eqb-true, not-false}
 use Rattle.lists.specs.Tabulated.{tab}
 use Rattle.lists.specs.Entries.{some}
 use Rattle.lists.proofs.Tabulated.{length-tab, getD-tab}
@@ -19,6 +19,7 @@ use Rattle.model.proofs.Causes.{clear, unless, within}
 
 -- ---- the header
 pub record SoundHeader (s : List ℕ) : Type 0 where
+  pub mark : twoBytes s ≡ 0x4C48
   pub room : 6 ≤ length s
   pub bits-least : 3 ≤ bitCount s
   pub bits-most : bitCount s ≤ 4096
@@ -32,6 +33,7 @@ header-sound s h =
     let n = within 3 4096 (bitCount s) (unless 2 _ (x .1 .1 .1 .0)) in
     let m = within 1 2048 (checkCount s) (unless 2 _ (x .1 .1 .1 .1 .1 .0)) in
     record {
+      mark = eqb-true (twoBytes s) 0x4C48 (not-false _ (unless 1 _ (x .1 .0)));
       room = ltb-false (length s) 6 (unless 0 _ (x .1 .1 .1 .1 .0));
       bits-least = n .0;
       bits-most = n .1;
@@ -41,6 +43,7 @@ header-sound s h =
 
 -- ---- a check record
 pub record SoundRecord (n : ℕ) (s : List ℕ) : Type 0 where
+  pub mark : twoBytes s ≡ 0x4C43
   pub room : 3 + 2 * degree s ≤ length s
   pub least : 3 ≤ degree s
   pub most : degree s ≤ 32
@@ -69,7 +72,7 @@ record-sound n s h =
     let d = within 3 32 (degree s) (unless 3 _ (x .1 .1 .1 .0)) in
     let three = ltb-false (length s) 3 (unless 0 _ (x .1 .1 .0)) in
     let i = indices-sound n (degree s) 0 (drop 3 s) (x .1 .1 .1 .1 .0) in
-    record { room = omega (arith, i .0, length-drop 3 s); least = d .0; most = d .1; rising = i .1 }
+    record { mark = eqb-true (twoBytes s) 0x4C43 (not-false _ (unless 1 _ (x .1 .0))); room = omega (arith, i .0, length-drop 3 s); least = d .0; most = d .1; rising = i .1 }
 
 pub check-sound : (n : ℕ) (s : List ℕ) → SoundRecord n s → SoundCheck n (indices s)
 check-sound n s r =
@@ -97,7 +100,7 @@ pub record SoundBytes (s : List ℕ) : Type 0 where
   pub triples-most : triples (codeOf s) ≤ 8192
   pub covered : (b : ℕ) → b < bitCount s → some (some (eqb b)) (codeOf s .checks) ≡ true
 
-each-covered : (k : Code) → covered k ≡ true → (b : ℕ) → b < k .bits → some (some (eqb b)) (k .checks) ≡ true
+pub each-covered : (k : Code) → covered k ≡ true → (b : ℕ) → b < k .bits → some (some (eqb b)) (k .checks) ≡ true
 unfolding covered
 each-covered k h b l =
     let f : ℕ → Bool = λ b. some (some (eqb b)) (k .checks) in

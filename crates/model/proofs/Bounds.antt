@@ -75,55 +75,15 @@ divisor-above e A h k = simp toℕ (omega arith)
 pub divisor-below : (e A m : ℕ) → e ≤ m → divisor (4 * e) A ≤ℤ pos (1024 * m)
 divisor-below e A m h = simp toℕ (omega arith)
 
--- ---- one iteration
-module _ (g : System) (o : Settings) (costs : List ℤ) (n : ℕ) (a : State) (ready : Ready g o costs) (within : RowsWithin n (a .rows)) where
-  abbrev S : ℕ → ℤ
-  S v = sumOf (g .members) (g .triples) (a .rows) v
-
+-- ---- one iteration: the values and the rows, whatever the settings and costs
+module _ (g : System) (o : Settings) (costs : List ℤ) (a : State) where
   abbrev e : ℕ → ℕ
   e v = occurrences (g .members) (g .triples) v
 
   abbrev b : State
   b = iterate quotient g o costs a
 
-  -- a position's share of a triple, and S
-  share-bound : (t p : ℕ) → p < 3 → natAbs (share (a .rows) t p) ≤ 4 * (32768 * (n + 2))
-  unfolding share
-  share-bound t p l =
-      let size : ℕ → ℕ = λ r. slack (row (a .rows) t r) + multiplier (row (a .rows) t r) in
-      let each : (r : ℕ) → r < 4 → natAbs (sign r p *ℤ pos (size r)) ≤ 32768 * (n + 2)
-      = λ r h. rw (signed-abs r p (pos (size r)) h l) (omega (arith, within .multipliers (4 * t + r), within .slacks (4 * t + r))) in
-      le-trans (sumℤ-bound 4 (λ r. sign r p *ℤ pos (size r)) (λ _. 32768 * (n + 2)) each) (omega arith)
-
-  when-bound : (t : Bool) (z : ℤ) (u : ℕ) → natAbs z ≤ u → natAbs (z when t) ≤ u * (1 if t)
-  when-bound true z u h = omega arith
-  when-bound false z u h = omega arith
-
-  sum-bound : (v : ℕ) → natAbs (S v) ≤ (4 * (32768 * (n + 2))) * e v
-  unfolding sumOf occurrences
-  sum-bound v =
-      let u = 4 * (32768 * (n + 2)) in
-      let f : ℕ → ℕ → ℕ = λ t p. 1 if eqb (member (g .members) t p) v in
-      let part : ℕ → ℕ → ℤ = λ t p. share (a .rows) t p when eqb (member (g .members) t p) v in
-      le-trans (sumℤ-bound (g .triples) (λ t. sumℤ 3 (part t)) (λ t. sumℕ 3 (λ p. u * f t p))
-      (λ t _. sumℤ-bound 3 (part t) (λ p. u * f t p) (λ p l. when-bound (eqb (member (g .members) t p) v) (share (a .rows) t p) u (share-bound t p l))))
-      (le-of-eq (sumℕ-same (g .triples) (λ t. sumℕ 3 (λ p. u * f t p)) (λ t. u * sumℕ 3 (f t)) (λ t _. sumℕ-scale 3 u (f t)) ∙ sumℕ-scale (g .triples) u (λ t. sumℕ 3 (f t))))
-
-  sums : (v : ℕ) → natAbs (at (b .sums) v) ≤ 8192 * (32768 * (n + 2))
-  unfolding iterate sumsOf
-  sums v =
-      at-tab (λ z. natAbs z ≤ 8192 * (32768 * (n + 2))) (g .variables) S v
-      (λ _. le-trans (sum-bound v) (let m : (4 * (32768 * (n + 2))) * e v ≤ (4 * (32768 * (n + 2))) * 2048 = mul-le-mul-left (4 * (32768 * (n + 2))) (ready .few v) in omega arith))
-      (omega arith)
-
-  numerators : n < 4000 → (v : ℕ) → natAbs (numerator (o .weight) (at (b .sums) v) (at costs v)) ≤ 2 ^ 48
-  numerators h v =
-      let x = at (b .sums) v in
-      let y = at costs v in
-      let m : natAbs (pos (o .weight) *ℤ y) ≤ 65535 * 32767 = rw abs-mul (mul-le-mul (ready .weight) (ready .cost v)) in
-      rw (abs-neg (pos 256 *ℤ x +ℤ pos (o .weight) *ℤ y)) (omega (arith, abs-add (pos 256 *ℤ x) (pos (o .weight) *ℤ y), abs-mul (pos 256) x, sums v))
-
-  values : (v : ℕ) → natAbs (at (b .values) v) ≤ unit
+  pub values : (v : ℕ) → natAbs (at (b .values) v) ≤ unit
   unfolding iterate valuesOf
   values v =
       at-tab (λ z. natAbs z ≤ unit) (g .variables) (valueOf quotient g o costs (b .sums)) v
@@ -139,8 +99,8 @@ module _ (g : System) (o : Settings) (costs : List ℤ) (n : ℕ) (a : State) (r
   unfolding iterate rowsOf
   each-row P z h i = at-tab P (4 * g .triples) (λ i. renewed (at (a .rows) i) (sumAt (g .members) (b .values) (i / 4) (i % 4))) i (λ _. h i) z
 
-  rows : RowsWithin (suc n) (b .rows)
-  rows =
+  pub rows : (n : ℕ) → RowsWithin n (a .rows) → RowsWithin (suc n) (b .rows)
+  rows n within =
       let sum : ℕ → ℤ = λ i. sumAt (g .members) (b .values) (i / 4) (i % 4) in
       let small : (i : ℕ) → natAbs (sum i) ≤ 49152 = λ i. sum-small (i / 4) (i % 4) (omega arith) in
       record {
@@ -149,17 +109,62 @@ module _ (g : System) (o : Settings) (costs : List ℤ) (n : ℕ) (a : State) (r
         slacks = each-row (λ s. slack s ≤ 65536) (omega arith) (λ i. renewed-slack (at (a .rows) i) (sum i) (small i));
       }
 
+-- ---- one iteration: all its numbers
+module _ (g : System) (o : Settings) (costs : List ℤ) (n : ℕ) (a : State) (ready : Ready g o costs) (within : RowsWithin n (a .rows)) where
+  abbrev S : ℕ → ℤ
+  S v = sumOf (g .members) (g .triples) (a .rows) v
+
+  abbrev b′ : State
+  b′ = b g o costs a
+
+  -- a position's share of a triple, and S
+  share-bound : (t p : ℕ) → p < 3 → natAbs (share (a .rows) t p) ≤ 4 * (32768 * (n + 2))
+  unfolding share
+  share-bound t p l =
+      let size : ℕ → ℕ = λ r. slack (row (a .rows) t r) + multiplier (row (a .rows) t r) in
+      let each : (r : ℕ) → r < 4 → natAbs (sign r p *ℤ pos (size r)) ≤ 32768 * (n + 2)
+      = λ r h. rw (signed-abs r p (pos (size r)) h l) (omega (arith, within .multipliers (4 * t + r), within .slacks (4 * t + r))) in
+      le-trans (sumℤ-bound 4 (λ r. sign r p *ℤ pos (size r)) (λ _. 32768 * (n + 2)) each) (omega arith)
+
+  when-bound : (t : Bool) (z : ℤ) (u : ℕ) → natAbs z ≤ u → natAbs (z when t) ≤ u * (1 if t)
+  when-bound true z u h = omega arith
+  when-bound false z u h = omega arith
+
+  sum-bound : (v : ℕ) → natAbs (S v) ≤ (4 * (32768 * (n + 2))) * e g o costs a v
+  unfolding sumOf occurrences
+  sum-bound v =
+      let u = 4 * (32768 * (n + 2)) in
+      let f : ℕ → ℕ → ℕ = λ t p. 1 if eqb (member (g .members) t p) v in
+      let part : ℕ → ℕ → ℤ = λ t p. share (a .rows) t p when eqb (member (g .members) t p) v in
+      le-trans (sumℤ-bound (g .triples) (λ t. sumℤ 3 (part t)) (λ t. sumℕ 3 (λ p. u * f t p))
+      (λ t _. sumℤ-bound 3 (part t) (λ p. u * f t p) (λ p l. when-bound (eqb (member (g .members) t p) v) (share (a .rows) t p) u (share-bound t p l))))
+      (le-of-eq (sumℕ-same (g .triples) (λ t. sumℕ 3 (λ p. u * f t p)) (λ t. u * sumℕ 3 (f t)) (λ t _. sumℕ-scale 3 u (f t)) ∙ sumℕ-scale (g .triples) u (λ t. sumℕ 3 (f t))))
+
+  sums : (v : ℕ) → natAbs (at (b′ .sums) v) ≤ 8192 * (32768 * (n + 2))
+  unfolding iterate sumsOf
+  sums v =
+      at-tab (λ z. natAbs z ≤ 8192 * (32768 * (n + 2))) (g .variables) S v
+      (λ _. le-trans (sum-bound v) (let m : (4 * (32768 * (n + 2))) * e g o costs a v ≤ (4 * (32768 * (n + 2))) * 2048 = mul-le-mul-left (4 * (32768 * (n + 2))) (ready .few v) in omega arith))
+      (omega arith)
+
+  numerators : n < 4000 → (v : ℕ) → natAbs (numerator (o .weight) (at (b′ .sums) v) (at costs v)) ≤ 2 ^ 48
+  numerators h v =
+      let x = at (b′ .sums) v in
+      let y = at costs v in
+      let m : natAbs (pos (o .weight) *ℤ y) ≤ 65535 * 32767 = rw abs-mul (mul-le-mul (ready .weight) (ready .cost v)) in
+      rw (abs-neg (pos 256 *ℤ x +ℤ pos (o .weight) *ℤ y)) (omega (arith, abs-add (pos 256 *ℤ x) (pos (o .weight) *ℤ y), abs-mul (pos 256) x, sums v))
+
   pub bounds : Bounds g o costs n a
   unfolding iterate
   bounds = record {
-    divisor-least = λ v h. divisor-above (e v) (o .ratio) (ready .some v h) (ready .ratio);
-    divisor-most = λ v. divisor-below (e v) (o .ratio) 2048 (ready .few v);
+    divisor-least = λ v h. divisor-above (e g o costs a v) (o .ratio) (ready .some v h) (ready .ratio);
+    divisor-most = λ v. divisor-below (e g o costs a v) (o .ratio) 2048 (ready .few v);
     sums = sums;
     numerators = numerators;
-    values = values;
-    rows = rows;
-    multiplier-total = changes-bound multiplier (g .triples) (a .rows) (b .rows) (ready .triples) (λ t r l k. rw (row-renewed g (a .rows) (b .values) t r l k) (multiplier-change (row (a .rows) t r) (sumAt (g .members) (b .values) t r) (sum-small t r k)));
-    slack-total = changes-bound slack (g .triples) (a .rows) (b .rows) (ready .triples) (λ t r l k. abs-difference (slack (row (b .rows) t r)) (slack (row (a .rows) t r)) 65536 (omega (arith, rows .slacks (4 * t + r))) (omega (arith, within .slacks (4 * t + r))));
+    values = values g o costs a;
+    rows = rows g o costs a n within;
+    multiplier-total = changes-bound multiplier (g .triples) (a .rows) (b′ .rows) (ready .triples) (λ t r l k. rw (row-renewed g (a .rows) (b′ .values) t r l k) (multiplier-change (row (a .rows) t r) (sumAt (g .members) (b′ .values) t r) (sum-small g o costs a t r k)));
+    slack-total = changes-bound slack (g .triples) (a .rows) (b′ .rows) (ready .triples) (λ t r l k. abs-difference (slack (row (b′ .rows) t r)) (slack (row (a .rows) t r)) 65536 (omega (arith, rows g o costs a n within .slacks (4 * t + r))) (omega (arith, within .slacks (4 * t + r))));
   }
 
 -- ---- after n iterations
@@ -167,10 +172,15 @@ pub start-within : (g : System) → RowsWithin 0 (start g .rows)
 unfolding start
 start-within g = record { multipliers = λ i. rw (none (4 * g .triples) i) (omega arith); slacks = λ i. rw (none (4 * g .triples) i) (omega arith) }
 
-pub rows-after : (g : System) (o : Settings) (costs : List ℤ) → Ready g o costs → (n : ℕ) → RowsWithin n (after quotient g o costs n (start g) .rows)
+pub rows-after : (g : System) (o : Settings) (costs : List ℤ) (n : ℕ) → RowsWithin n (after quotient g o costs n (start g) .rows)
 unfolding after
-rows-after g o costs ready zero = start-within g
-rows-after g o costs ready (suc n) = bounds g o costs n (after quotient g o costs n (start g)) ready (rows-after g o costs ready n) .rows
+rows-after g o costs zero = start-within g
+rows-after g o costs (suc n) = rows g o costs (after quotient g o costs n (start g)) n (rows-after g o costs n)
+
+pub values-after : (g : System) (o : Settings) (costs : List ℤ) (n v : ℕ) → natAbs (at (after quotient g o costs n (start g) .values) v) ≤ unit
+unfolding after start
+values-after g o costs zero v = rw (none (g .variables) v) (omega arith)
+values-after g o costs (suc n) v = values g o costs (after quotient g o costs n (start g)) v
 
 -- ---- an accepted code, settings and costs are ready
 pub ready : (k : Code) → Sound k → (o : Settings) → wild o ≡ false → (costs : List ℤ) → length costs ≡ k .bits → ((v : ℕ) → natAbs (at costs v) ≤ 32767) → Ready (systemOf k) o costs

@@ -1,17 +1,29 @@
 -- Lists of causes: the first that holds, and what the number 0 says. Assumes nothing.
 use mathlib.Core.Path.{_≡_, refl, subst}
 use mathlib.Core.Bool.{Bool, true, false, _||_}
-use mathlib.Core.List.{List, [], _∷_}
+use mathlib.Core.List.{List, [], _∷_, _++_}
 use Prim.Native.Nat.{ℕ, zero, suc, _≤_}
 use native.Mathlib.Omega.{arith}
 use lib.Dec.{T, ltb}
-use borrow.Author.Tests.{ltb-false}
+use borrow.Author.Tests.{ltb-false, le-ltb}
 use Rattle.model.specs.Causes.{_if_, firstOf, outside}
 
 -- the last cause decides alone
 pub only : (c : ℕ) → firstOf (c ∷ []) ≡ c
 only zero = refl
 only (suc c) = refl
+
+-- the first cause of a list may be found first, and then stand for the list
+pub first-in : (l m : List ℕ) → firstOf (firstOf l ∷ m) ≡ firstOf (l ++ m)
+first-in [] m = refl
+first-in (zero ∷ l) m = first-in l m
+first-in (suc c ∷ l) m = refl
+
+-- the same at a list's end
+pub first-end : (l m : List ℕ) → firstOf (l ++ (firstOf m ∷ [])) ≡ firstOf (l ++ m)
+first-end [] m = only (firstOf m)
+first-end (zero ∷ l) m = first-end l m
+first-end (suc c ∷ l) m = refl
 
 -- none of the causes holds
 abbrev pub Clear : List ℕ → Type 0
@@ -33,3 +45,6 @@ or-false false t h = (refl, h)
 
 pub within : (low high x : ℕ) → outside low high x ≡ false → (low ≤ x) × (x ≤ high)
 within low high x h = let e = or-false (ltb x low) (ltb high x) h in (ltb-false x low (e .0), ltb-false high x (e .1))
+
+pub inside : (low high x : ℕ) → low ≤ x → x ≤ high → outside low high x ≡ false
+inside low high x h k = rw (le-ltb x low h, le-ltb high x k)

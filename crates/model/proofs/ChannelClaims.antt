@@ -1,9 +1,10 @@
 -- What document 01 claims of the channel front holds. Assumes nothing.
-use mathlib.Core.Path.{_≡_, refl, ap, ap₂, _∙_}
+use mathlib.Core.Path.{_≡_, refl, ap, ap₂, _∙_, subst}
 use mathlib.Core.Bool.{Bool, true, false, not}
 use mathlib.Core.List.{List, [], _∷_, map}
+use lib.Dec.{T}
 use lib.IntN.{ℤ, pos, negℤ}
-use lib.Ieee.{Float, nan, inf, fin, binary32, neg, toBits}
+use lib.Ieee.{Float, nan, inf, fin, binary32, fits, isNan, neg, toBits}
 use lib.ListN.{length, length-map}
 use Rattle.lists.proofs.Tests.{and-left, and-right}
 use Rattle.lists.specs.Tabulated.{written}
@@ -12,9 +13,9 @@ use Rattle.lists.proofs.Entries.{every-some}
 use Rattle.model.specs.declared.Channel.{Channel}
 use Rattle.model.specs.Causes.{_if_, firstOf, short, accepted}
 use Rattle.model.specs.Reflection.{turned}
-use Rattle.model.specs.Channel.{finite, inRange, costOfBits, costOf}
+use Rattle.model.specs.Channel.{finite, inRange, product, costOfBits, costOf}
 use Rattle.model.specs.Calls.{channelFront}
-use Rattle.model.specs.ChannelClaims.{ChannelClaims, ofSingles}
+use Rattle.model.specs.ChannelClaims.{Costed, ChannelClaims, ofSingles}
 use Rattle.model.proofs.Products.{product-number, product-single, cost-negated}
 use Rattle.model.proofs.Values.{cost-rounded}
 
@@ -44,22 +45,28 @@ module _ (setting : Channel) (h : ofSingles setting ≡ true) where
     lists true true p q = refl
     lists true false p q = rw (negated l p (every-some finite l ∙ ap not q))
 
-    call : channelFront setting (map neg l) old ≡ record {
+    pub negated-call : channelFront setting (map neg l) old ≡ record {
       number = channelFront setting l old .number;
       costs = accepted (channelFront setting l old .number) (written (map negℤ (map (costOf setting) l)) old) old;
     }
     unfolding channelFront
-    call =
+    negated-call =
         rw (finite-negated l, length-map l neg)
         (ap (λ (k : List ℤ). record { number = channelFront setting l old .number; costs = k })
         (lists (inRange setting) (some (λ x. not (finite x)) l) refl refl))
 
-pub claims : ChannelClaims
-claims = record {
-  finiteProduct = cost-rounded;
-  infiniteProduct = infinite;
+-- the cost of a product, by what the product is
+costed : (x : Float) → fits binary32 x ≡ true → isNan x ≡ false → Costed x (costOfBits (toBits binary32 x))
+unfolding isNan
+costed nan h k = absurd (subst T k tt)
+costed (inf s) h k = infinite s
+costed (fin s m e) h k = cost-rounded s m e h
+
+pub channel-claims : ChannelClaims
+unfolding costOf
+channel-claims = record {
   single = product-single;
   noNaN = product-number;
+  costed = λ setting x h r k. costed (product setting x) (product-single setting x h) (product-number setting x r k);
   negated = λ setting l h r k. negated setting h l r k;
-  negatedCall = λ setting l old h. call setting h l old;
 }

@@ -30,7 +30,7 @@ use Rattle.model.specs.Reflection.{turned, reflect, sumOfWords}
 use Rattle.model.specs.Claims.{Reflection, Demand3}
 use Rattle.model.proofs.Accepted.{accepted}
 use Rattle.model.proofs.Points.{totals-bits, point-begins, point-even, point-binary, points}
-use Rattle.model.proofs.Reflection.{turned-zero, opposite, begun, each, ends}
+use Rattle.model.proofs.Reflection.{turned-zero, unique, injective, opposite, begun, each, ends}
 
 -- ---- from values to word
 turned-undecided : (b : ℕ) (z : ℤ) → eqb (natAbs (turned b z)) 0 ≡ eqb (natAbs z) 0
@@ -124,6 +124,8 @@ module _ (k : Code) (s : Sound k) (w : List ℕ) (c : Codeword k w) where
       let even = point-even k s w c in
       record {
         opposite = opposite g x bin even;
+        unique = unique x (g .members);
+        injective = injective x (g .members);
         begun = begun g x bin even;
         whole = λ o costs h more done a b m.
             let turns = costs-turned costs h in

@@ -1,176 +1,151 @@
 -- What the decoder's contract says of every call. Assumes nothing.
-use mathlib.Core.Bool.{Bool, true, false, not, cond, _&&_}
-use mathlib.Core.List.{List, [], _∷_}
+use mathlib.Core.Bool.{Bool, true, false, not, _&&_}
+use mathlib.Core.List.{List, [], _∷_, _++_}
 use mathlib.Core.Logic.{_⊎_, inl, inr}
 use mathlib.Core.Path.{_≡_, refl, sym, ap, ap₂, _∙_, subst}
 use Prim.Native.Nat.{ℕ, zero, suc, _+_, _*_, _≤_, _<_}
-use native.Mathlib.Nat.{le-trans}
 use native.Mathlib.Omega.{arith}
-use borrow.Author.Tests.{eqb-true, not-false}
+use borrow.Author.Tests.{eqb-true, ne-eqb, not-false}
 use lib.Dec.{leb, ltb, eqb}
-use lib.IntN.{ℤ, pos}
-use lib.ListN.{length, getD, take, drop, length-replicate}
+use lib.IntN.{ℤ, pos, negsuc, natAbs}
+use lib.ListN.{length, take, drop, length-replicate}
 use lib.Seq.{take-at}
 use Rattle.lists.specs.Entries.{some}
 use Rattle.lists.specs.Tabulated.{written}
 use Rattle.lists.proofs.Tabulated.{length-tab, written-in}
-use Rattle.quotient.specs.Quotient.{quotient}
-use Rattle.model.specs.Iteration.{at, slack, multiplier, sumOf, renewedAt, State, sumsOf, rowsOf, valueOf, valuesOf, iterate}
-use Rattle.model.specs.Calls.{wild, unequal, forbidden, Lists, Decoded, noRoom, decoderCauses, decoderCause, decodedBy, decoder}
-use Rattle.model.specs.Reflection.{turned, reflect, sumOfWords}
-use Rattle.model.specs.Claims.{ReflectedRun}
-use Rattle.model.specs.Causes.{_if_, firstOf, short, outside}
-use Rattle.model.specs.Run.{changes, settledBy, start, Ended, after, runFrom, run}
-use Rattle.model.specs.Words.{entry, bitOf, wordOf, firstUndecided, firstOdd, Outcome, tested, outcome}
-use Rattle.model.specs.Records.{twoBytes, bitCount, checkCount, degree, afterCheck, afterChecks, codeOf, judgeHeader, judgeIndices, judgeCheck, judgeChecks, covered, judge}
-use Rattle.model.specs.Points.{Codeword, pointOf}
-use Rattle.model.specs.Code.{Code, triples, variables}
-use Rattle.model.specs.Entry.{Refused, Ran, Course, Iterated, ReflectedCalls, EveryCall}
-use Rattle.model.specs.Splitting.{System, systemOf}
-use Rattle.model.proofs.Runs.{stops, goes-on}
-use Rattle.model.proofs.Causes.{Clear, clear, unless}
-use Rattle.model.proofs.Demand3.{demand-3}
+use Rattle.lists.proofs.Entries.{none-in-tab}
+use Rattle.quotient.specs.Quotient.{unit, quotient}
 use Rattle.model.specs.declared.Settings.{Settings}
-
--- ---- the first cause
-record First (l : List ℕ) (c : ℕ) : Type 0 where
-  pub place : ℕ
-  pub here : getD l place 0 ≡ c
-  pub earlier : (i : ℕ) → i < place → getD l i 0 ≡ 0
-
-first-of : (l : List ℕ) (c : ℕ) → firstOf l ≡ suc c → First l (suc c)
-first-of [] c e = absurd (omega arith)
-first-of (zero ∷ l) c e = by (first-of l c e)
-  where
-    before : (f : First l (suc c)) (i : ℕ) → i < suc (f .place) → getD (zero ∷ l) i 0 ≡ 0
-    before f zero h = refl
-    before f (suc i) h = f .earlier i (omega arith)
-
-    by : First l (suc c) → First (zero ∷ l) (suc c)
-    by f = record { place = suc (f .place); here = f .here; earlier = before f }
-first-of (suc n ∷ l) c e = record { place = 0; here = e; earlier = λ i h. absurd (omega arith) }
-
-none-of : (l : List ℕ) → firstOf l ≡ 0 → (i : ℕ) → getD l i 0 ≡ 0
-none-of [] e i = refl
-none-of (zero ∷ l) e zero = refl
-none-of (zero ∷ l) e (suc i) = none-of l e i
-none-of (suc n ∷ l) e i = absurd (omega arith)
-
--- ---- no number above n
-then : (n c : ℕ) (l : List ℕ) → c ≤ n → firstOf l ≤ n → firstOf (c ∷ l) ≤ n
-then n zero l h k = k
-then n (suc c) l h k = h
-
-test : (n c : ℕ) (t : Bool) (l : List ℕ) → c ≤ n → firstOf l ≤ n → firstOf (c if t ∷ l) ≤ n
-test n c true l h k = then n c l h k
-test n c false l h k = k
-
--- of one cause, and of none
-last : (n c : ℕ) → c ≤ n → firstOf (c ∷ []) ≤ n
-last n c h = then n c [] h (omega arith)
-
-indices-most : (n d low : ℕ) (s : List ℕ) → judgeIndices n d low s ≤ 9
-unfolding judgeIndices
-indices-most n zero low s = omega arith
-indices-most n (suc d) low s =
-    let rest = judgeIndices n d (suc (twoBytes s)) (drop 2 s) in
-    let c6 = 6 if ltb (twoBytes s) low in
-    test 9 1 (short 2 s) (5 if leb n (twoBytes s) ∷ c6 ∷ rest ∷ []) (omega arith)
-    (test 9 5 (leb n (twoBytes s)) (c6 ∷ rest ∷ []) (omega arith) (test 9 6 (ltb (twoBytes s) low) (rest ∷ []) (omega arith) (last 9 rest (indices-most n d (suc (twoBytes s)) (drop 2 s)))))
-
-check-most : (n : ℕ) (s : List ℕ) → judgeCheck n s ≤ 9
-unfolding judgeCheck
-check-most n s =
-    let rest = judgeIndices n (degree s) 0 (drop 3 s) in
-    let wrong = not (eqb (twoBytes s) 0x4C43) in
-    let wide = outside 3 32 (degree s) in
-    test 9 1 (short 2 s) (2 if wrong ∷ 1 if short 3 s ∷ 4 if wide ∷ rest ∷ []) (omega arith)
-    (test 9 2 wrong (1 if short 3 s ∷ 4 if wide ∷ rest ∷ []) (omega arith)
-    (test 9 1 (short 3 s) (4 if wide ∷ rest ∷ []) (omega arith) (test 9 4 wide (rest ∷ []) (omega arith) (last 9 rest (indices-most n (degree s) 0 (drop 3 s))))))
-
-checks-most : (n m : ℕ) (s : List ℕ) → judgeChecks n m s ≤ 9
-unfolding judgeChecks
-checks-most n zero s = omega arith
-checks-most n (suc m) s = then 9 (judgeCheck n s) (judgeChecks n m (afterCheck s) ∷ []) (check-most n s) (last 9 (judgeChecks n m (afterCheck s)) (checks-most n m (afterCheck s)))
-
-header-most : (s : List ℕ) → judgeHeader s ≤ 9
-unfolding judgeHeader
-header-most s =
-    let wrong = not (eqb (twoBytes s) 0x4C48) in
-    let bits = outside 3 4096 (bitCount s) in
-    let checks = outside 1 2048 (checkCount s) in
-    test 9 1 (short 2 s) (2 if wrong ∷ 1 if short 4 s ∷ 3 if bits ∷ 1 if short 6 s ∷ 3 if checks ∷ []) (omega arith)
-    (test 9 2 wrong (1 if short 4 s ∷ 3 if bits ∷ 1 if short 6 s ∷ 3 if checks ∷ []) (omega arith)
-    (test 9 1 (short 4 s) (3 if bits ∷ 1 if short 6 s ∷ 3 if checks ∷ []) (omega arith)
-    (test 9 3 bits (1 if short 6 s ∷ 3 if checks ∷ []) (omega arith)
-    (test 9 1 (short 6 s) (3 if checks ∷ []) (omega arith) (test 9 3 checks [] (omega arith) (omega arith))))))
-
-judge-most : (s : List ℕ) → judge s ≤ 9
-unfolding judge
-judge-most s =
-    let checks = judgeChecks (bitCount s) (checkCount s) (drop 6 s) in
-    let more = ltb 0 (length (afterChecks (checkCount s) (drop 6 s))) in
-    let many = ltb 8192 (triples (codeOf s)) in
-    let bare = not (covered (codeOf s)) in
-    then 9 (judgeHeader s) (checks ∷ 9 if more ∷ 7 if many ∷ 8 if bare ∷ []) (header-most s)
-    (then 9 checks (9 if more ∷ 7 if many ∷ 8 if bare ∷ []) (checks-most (bitCount s) (checkCount s) (drop 6 s))
-    (test 9 9 more (7 if many ∷ 8 if bare ∷ []) (omega arith) (test 9 7 many (8 if bare ∷ []) (omega arith) (test 9 8 bare [] (omega arith) (omega arith)))))
+use Rattle.model.specs.Causes.{_if_, firstOf, outside, accepted}
+use Rattle.model.specs.Code.{Code, triples, variables}
+use Rattle.model.specs.Records.{codeOf, judge, recordCauses}
+use Rattle.model.specs.Splitting.{System, systemOf}
+use Rattle.model.specs.Iteration.{at, slack, multiplier, sumOf, renewedAt, State, sumsOf, rowsOf, valueOf, valuesOf, iterate}
+use Rattle.model.specs.Run.{mostIterations, changes, settledBy, start, Ended, after, runFrom, run}
+use Rattle.model.specs.Words.{entry, wordOf, firstUndecided, firstOdd, Outcome, outcome}
+use Rattle.model.specs.Points.{Codeword, pointOf}
+use Rattle.model.specs.Reflection.{turned, reflect, sumOfWords}
+use Rattle.model.specs.Calls.{wild, unequal, forbidden, Lists, Decoded, noRoom, decoderCauses, decoderCause, decodedBy, decoder}
+use Rattle.model.specs.Bounds.{RowsWithin}
+use Rattle.model.specs.Claims.{ReflectedRun}
+use Rattle.model.specs.Order.{runCauses, Refusal, Ordered, oneToNine}
+use Rattle.model.specs.Told.{Refuses}
+use Rattle.model.specs.Entry.{inputCauses, runOf, iterateOf, Refused, Ran, Course, Iterated, Small, ReflectedCalls}
+use Rattle.model.proofs.Causes.{Clear, clear, unless, or-false, within}
+use Rattle.model.proofs.Order.{nil, cons, refuses, after-records, then-more, outcome-order}
+use Rattle.model.proofs.Runs.{stops, goes-on}
+use Rattle.model.proofs.Bounds.{rows-after, values-after}
+use Rattle.model.proofs.Demand3.{demand-3}
+use Rattle.model.proofs.WordClaims.{tested-is, outcome-is, outcome-claims}
 
 -- ---- a call
 module _ (b : List ℕ) (o : Settings) (costs : List ℤ) (l : Lists) where
-  abbrev k : Code
-  k = codeOf b
-
-  abbrev g : System
-  g = systemOf k
-
-  abbrev e : Ended
-  e = run quotient g o costs
-
-  cause-is : decoderCause b o costs l ≡ firstOf (decoderCauses b o costs l)
+  pub causes-are : decoderCause b o costs l ≡ firstOf (judge b ∷ decoderCauses (codeOf b) o costs l)
   unfolding decoderCause
-  cause-is = refl
+  causes-are = refl
 
-  cause-most : decoderCause b o costs l ≤ 13
-  unfolding decoderCause
-  cause-most =
-      let unlike = unequal costs (k .bits) in
-      let bad = some forbidden costs in
-      then 13 (judge b) (11 if wild o ∷ 12 if unlike ∷ 13 if bad ∷ 10 if noRoom k l ∷ []) (le-trans (judge-most b) (omega arith))
-      (test 13 11 (wild o) (12 if unlike ∷ 13 if bad ∷ 10 if noRoom k l ∷ []) (omega arith)
-      (test 13 12 unlike (13 if bad ∷ 10 if noRoom k l ∷ []) (omega arith)
-      (test 13 13 bad (10 if noRoom k l ∷ []) (omega arith) (test 13 10 (noRoom k l) [] (omega arith) (omega arith)))))
+  -- the causes of the input, one by one
+  pub input-ordered : Ordered (inputCauses b o costs l) (oneToNine ++ (10 ∷ 11 ∷ 12 ∷ 13 ∷ [])) (decoderCause b o costs l)
+  input-ordered =
+      let T = oneToNine ++ (10 ∷ 11 ∷ 12 ∷ 13 ∷ []) in
+      after-records (10 ∷ 11 ∷ 12 ∷ 13 ∷ []) b (decoderCauses (codeOf b) o costs l) (decoderCause b o costs l)
+      (cons T 11 (wild o) _ refl
+      (cons T 12 (unequal costs (codeOf b .bits)) _ refl
+      (cons T 13 (some forbidden costs) _ refl
+      (cons T 10 (noRoom (codeOf b) l) _ refl (nil T)))))
+      causes-are
 
-  refusal : (c : ℕ) → decoderCause b o costs l ≡ suc c → decoder b o costs l ≡ record { answer = record { number = suc c; place = 0; k = 0; settled = 0 }; lists = l }
+  refusal : (c : ℕ) → decoderCause b o costs l ≡ suc c
+      → decoder b o costs l ≡ record { answer = record { number = suc c; place = 0; k = 0; settled = 0 }; lists = l }
   unfolding decoder
   refusal c h = rw h
 
   pub refused : (c : ℕ) → decoderCause b o costs l ≡ suc c → Refused b o costs l (decoder b o costs l)
   refused c h =
-      let f = first-of (decoderCauses b o costs l) c (sym cause-is ∙ h) in
-      subst (Refused b o costs l) (sym (refusal c h))
-      (record { place = f .place; cause = f .here; earlier = f .earlier; number = (omega arith, omega (arith, cause-most)); untouched = refl })
+      subst (Refused b o costs l) (sym (refusal c h)) (record {
+        order = subst (Refusal (inputCauses b o costs l) (oneToNine ++ (10 ∷ 11 ∷ 12 ∷ 13 ∷ []))) h (input-ordered .refused c h);
+        told = refl;
+        untouched = refl;
+      })
+
+  -- an answer of a run is none of a refusal's
+  pub ended-ran : (n : ℕ) → n ≡ decoder b o costs l .answer .number → (n ≡ 0) ⊎ ((n ≡ 16) ⊎ (n ≡ 17)) → decoderCause b o costs l ≡ 0
+  ended-ran n e h = by (decoderCause b o costs l) refl
+    where
+      none : (c : ℕ) → n ≡ suc c → Refuses (suc c) → (n ≡ 0) ⊎ ((n ≡ 16) ⊎ (n ≡ 17)) → ⊥
+      none c e r (inl z) = omega arith
+      none c e r (inr (inl z)) = omega arith
+      none c e r (inr (inr z)) = omega arith
+
+      by : (c : ℕ) → decoderCause b o costs l ≡ c → decoderCause b o costs l ≡ 0
+      by zero f = f
+      by (suc c) f =
+          let T = oneToNine ++ (10 ∷ 11 ∷ 12 ∷ 13 ∷ []) in
+          let r : Refuses (suc c) = refuses (inputCauses b o costs l) T c refl (subst (Ordered (inputCauses b o costs l) T) f input-ordered) in
+          absurd (none c (e ∙ ap (λ (d : Decoded). d .answer .number) (refusal c f)) r h)
 
   module _ (h : decoderCause b o costs l ≡ 0) where
-    pub ran-is : decoder b o costs l ≡ decodedBy k e l
+    pub clear-causes : Clear (judge b ∷ decoderCauses (codeOf b) o costs l)
+    clear-causes = clear (judge b ∷ decoderCauses (codeOf b) o costs l) (sym causes-are ∙ h)
+
+    pub ran-is : decoder b o costs l ≡ decodedBy (codeOf b) (runOf b o costs) l
     unfolding decoder
     ran-is = rw h
 
-    numbers : (c : List ℤ) → (outcome k c .number ≡ 0) ⊎ ((outcome k c .number ≡ 16) ⊎ (outcome k c .number ≡ 17))
-    unfolding outcome tested
-    numbers c = by (ltb (firstUndecided k c) (k .bits)) (ltb (firstOdd k (wordOf k c)) (length (k .checks)))
-      where
-        N : Bool → Bool → Outcome
-        N s t = cond s (record { number = 16; place = firstUndecided k c }) (cond t (record { number = 17; place = firstOdd k (wordOf k c) }) (record { number = 0; place = 0 }))
+    numbers : (c : List ℤ) → (outcome (codeOf b) c .number ≡ 0) ⊎ ((outcome (codeOf b) c .number ≡ 16) ⊎ (outcome (codeOf b) c .number ≡ 17))
+    numbers c =
+        outcome-is (codeOf b) c (λ x. (x .number ≡ 0) ⊎ ((x .number ≡ 16) ⊎ (x .number ≡ 17))) (λ k. inr (inl refl))
+        (λ k. tested-is (codeOf b) (wordOf (codeOf b) c) (λ x. (x .number ≡ 0) ⊎ ((x .number ≡ 16) ⊎ (x .number ≡ 17))) (λ k. inr (inr refl)) (λ k. inl refl))
 
-        by : (s t : Bool) → (N s t .number ≡ 0) ⊎ ((N s t .number ≡ 16) ⊎ (N s t .number ≡ 17))
-        by true t = inr (inl refl)
-        by false true = inr (inr refl)
-        by false false = inl refl
+    left : (c : ℕ) → (c ≡ 0 → ⊥) → (x y : List ℕ) → accepted c x y ≡ y
+    left zero h x y = absurd (h refl)
+    left (suc c) h x y = refl
 
     pub ran : Ran b o costs l (decoder b o costs l)
     unfolding decodedBy
-    ran = subst (Ran b o costs l) (sym ran-is) (record { sound = none-of (decoderCauses b o costs l) (sym cause-is ∙ h); answer = (refl, refl); number = numbers (e .last .values) })
+    ran =
+        let k = codeOf b in
+        let z = runOf b o costs .last .values in
+        let new = written (wordOf k z) (l .word) in
+        let taken : outcome k z .number ≡ 0 → accepted (outcome k z .number) new (l .word) ≡ new = λ h. rw h in
+        subst (Ran b o costs l) (sym ran-is) (record {
+          sound = input-ordered .sound h;
+          number = numbers z;
+          answer = (refl, refl);
+          decided = outcome-claims k z;
+          triples = refl;
+          counts = refl;
+          word = taken;
+          codeword = λ n.
+              subst (Codeword k) (sym (ap (take (k .bits)) (taken n) ∙ take-at (wordOf k z) _ (k .bits) (outcome-claims k z .word .long)))
+              (outcome-claims k z .codeword n);
+          kept = λ n. left (outcome k z .number) n new (l .word);
+        })
+
+  -- the number, with the outcomes of a run as the last causes
+  number-is : (c : ℕ)
+      → accepted c (decodedBy (codeOf b) (runOf b o costs) l) (record { answer = record { number = c; place = 0; k = 0; settled = 0 }; lists = l }) .answer .number
+      ≡ accepted c (outcome (codeOf b) (runOf b o costs .last .values) .number) c
+  unfolding decodedBy
+  number-is zero = refl
+  number-is (suc c) = refl
+
+  pub call-ordered : Ordered (recordCauses b ++ (decoderCauses (codeOf b) o costs l ++ runCauses (codeOf b) (runOf b o costs .last .values)))
+      (oneToNine ++ (10 ∷ 11 ∷ 12 ∷ 13 ∷ 16 ∷ 17 ∷ [])) (decoder b o costs l .answer .number)
+  unfolding decoder
+  call-ordered =
+      let T = oneToNine ++ (10 ∷ 11 ∷ 12 ∷ 13 ∷ 16 ∷ 17 ∷ []) in
+      let k = codeOf b in
+      let c = runOf b o costs .last .values in
+      let input = judge b ∷ decoderCauses k o costs l in
+      after-records (10 ∷ 11 ∷ 12 ∷ 13 ∷ 16 ∷ 17 ∷ []) b (decoderCauses k o costs l ++ runCauses k c) _
+      (cons T 11 (wild o) _ refl
+      (cons T 12 (unequal costs (k .bits)) _ refl
+      (cons T 13 (some forbidden costs) _ refl
+      (cons T 10 (noRoom k l) _ refl
+      (cons T 16 (ltb (firstUndecided k c) (k .bits)) _ refl
+      (cons T 17 (ltb (firstOdd k (wordOf k c)) (length (k .checks))) [] refl (nil T)))))))
+      (number-is (decoderCause b o costs l) ∙ rw (causes-are, outcome-order k c) (then-more input (runCauses k c)))
 
 -- ---- the iterates
 module _ (g : System) (o : Settings) (costs : List ℤ) where
@@ -247,28 +222,7 @@ module _ (g : System) (o : Settings) (costs : List ℤ) where
         early = λ _. settled-one n (a .rows) (iterate quotient g o costs a .rows) e;
       })
 
-module _ (b : List ℕ) (o : Settings) (costs : List ℤ) (l : Lists) (h : decoderCause b o costs l ≡ 0) where
-  abbrev path : Course (systemOf (codeOf b)) o costs (o .limit) 0 (start (systemOf (codeOf b))) (run quotient (systemOf (codeOf b)) o costs)
-  path = course (systemOf (codeOf b)) o costs (o .limit) 0 (start (systemOf (codeOf b)))
-
-  count-is : run quotient (systemOf (codeOf b)) o costs .k ≡ path .steps
-  count-is = omega (arith, path .count)
-
-  last-is : run quotient (systemOf (codeOf b)) o costs .last ≡ after quotient (systemOf (codeOf b)) o costs (run quotient (systemOf (codeOf b)) o costs .k) (start (systemOf (codeOf b)))
-  last-is = path .last ∙ ap (λ (i : ℕ). after quotient (systemOf (codeOf b)) o costs i (start (systemOf (codeOf b)))) (sym count-is)
-
-  pub iterated : Iterated b o costs l (decoder b o costs l)
-  unfolding decodedBy
-  iterated = subst (Iterated b o costs l) (sym (ran-is b o costs l h)) (record {
-    course = path;
-    count = count-is;
-    settled = refl;
-    sums = ap (λ (a : State). written (a .sums) (l .sums)) last-is;
-    values = ap (λ (a : State). written (a .values) (l .values)) last-is;
-    rows = ap (λ (a : State). written (a .rows) (l .rows)) last-is;
-  })
-
--- ---- reflected calls
+-- ---- the lengths of the lists of a run
 module _ (g : System) (o : Settings) (costs : List ℤ) where
   record Long (a : State) : Type 0 where
     pub sums : length (a .sums) ≡ g .variables
@@ -289,71 +243,145 @@ module _ (g : System) (o : Settings) (costs : List ℤ) where
   last-long : Long (run quotient g o costs .last)
   last-long = let c = course g o costs (o .limit) 0 (start g) in subst Long (sym (c .last)) (long (c .steps))
 
-module _ (b w : List ℕ) (o : Settings) (costs : List ℤ) (l m : Lists) (h : decoderCause b o costs l ≡ 0) (h′ : decoderCause b o (reflect w costs) m ≡ 0) (c : Codeword (codeOf b) w) where
-  abbrev code : Code
-  code = codeOf b
+-- an entry of a list that was written
+in-list : (new old : List ℤ) (n i : ℕ) → length new ≡ n → i < n → at (written new old) i ≡ at new i
+in-list new old n i e k = written-in new old i (pos 0) (omega arith)
 
-  abbrev sys : System
-  sys = systemOf code
+module _ (b : List ℕ) (o : Settings) (costs : List ℤ) (l : Lists) (h : decoderCause b o costs l ≡ 0) where
+  abbrev path : Course (systemOf (codeOf b)) o costs (o .limit) 0 (start (systemOf (codeOf b))) (runOf b o costs)
+  path = course (systemOf (codeOf b)) o costs (o .limit) 0 (start (systemOf (codeOf b)))
 
-  abbrev end : Ended
-  end = run quotient sys o costs
+  count-is : runOf b o costs .k ≡ path .steps
+  count-is = omega (arith, path .count)
 
-  abbrev end′ : Ended
-  end′ = run quotient sys o (reflect w costs)
+  last-is : runOf b o costs .last ≡ iterateOf b o costs (runOf b o costs .k)
+  last-is = path .last ∙ ap (iterateOf b o costs) (sym count-is)
 
-  none : Clear (decoderCauses b o costs l)
-  none = clear (decoderCauses b o costs l) (sym (cause-is b o costs l) ∙ h)
+  -- K is at least 1, so there is an iteration
+  some-step : 1 ≤ path .steps
+  some-step =
+      let c = clear-causes b o costs l h in
+      let t = or-false (outside 1 65535 (o .weight)) _ (unless 10 (wild o) (c .1 .0)) in
+      let u = or-false (ltb 1023 (o .ratio)) _ (t .1) in
+      by (path .steps) (path .none) (path .early) (within 1 mostIterations (o .limit) (u .1) .0)
+    where
+      by : (n : ℕ) {s : ℕ} → (n ≡ 0 → s ≡ 0) → (n < o .limit → s ≡ 1) → 1 ≤ o .limit → 1 ≤ n
+      by zero none early l = absurd (omega (arith, none refl, early (omega arith)))
+      by (suc n) none early l = omega arith
 
-  fits : length costs ≡ code .bits
-  fits = eqb-true (length costs) (code .bits) (not-false (eqb (length costs) (code .bits)) (unless 11 (unequal costs (code .bits)) (none .1 .1 .0)))
+  last-within : RowsWithin (path .steps) (runOf b o costs .last .rows)
+  last-within = subst (λ (a : State). RowsWithin (path .steps) (a .rows)) (sym (path .last)) (rows-after (systemOf (codeOf b)) o costs (path .steps))
 
-  both : ReflectedRun code o costs w (o .limit) 0 (start sys) (start sys)
-  both = let r = demand-3 b (none .0) .reflects w c in r .whole o costs fits (o .limit) 0 (start sys) (start sys) (r .begun)
+  last-centred : (v : ℕ) → natAbs (at (runOf b o costs .last .values) v) ≤ unit
+  last-centred v = subst (λ (a : State). natAbs (at (a .values) v) ≤ unit) (sym (path .last)) (values-after (systemOf (codeOf b)) o costs (path .steps) v)
 
-  same-answer : decodedBy code end′ m .answer ≡ decodedBy code end l .answer
+  last-row : (i : ℕ) → i < 4 * triples (codeOf b) → at (written (runOf b o costs .last .rows) (l .rows)) i ≡ at (runOf b o costs .last .rows) i
+  unfolding systemOf
+  last-row i k = in-list (runOf b o costs .last .rows) (l .rows) (4 * triples (codeOf b)) i (last-long (systemOf (codeOf b)) o costs .rows) k
+
+  last-value : (v : ℕ) → v < variables (codeOf b) → at (written (runOf b o costs .last .values) (l .values)) v ≡ at (runOf b o costs .last .values) v
+  unfolding systemOf
+  last-value v k = in-list (runOf b o costs .last .values) (l .values) (variables (codeOf b)) v (last-long (systemOf (codeOf b)) o costs .values) k
+
+  pub iterated : Iterated b o costs l (decoder b o costs l)
   unfolding decodedBy
-  same-answer =
-      ap (λ (x : Outcome). record { number = x .number; place = x .place; k = end′ .k; settled = end′ .settled }) (both .answer)
-      ∙ ap₂ (λ (x y : ℕ). record { number = outcome code (end .last .values) .number; place = outcome code (end .last .values) .place; k = x; settled = y }) (both .count) (both .settled)
+  iterated = subst (Iterated b o costs l) (sym (ran-is b o costs l h)) (record {
+    course = path;
+    count = count-is;
+    range = (omega (arith, count-is, some-step), omega (arith, count-is, path .few));
+    settled = refl;
+    sums = ap (λ (a : State). written (a .sums) (l .sums)) last-is;
+    values = ap (λ (a : State). written (a .values) (l .values)) last-is;
+    rows = ap (λ (a : State). written (a .rows) (l .rows)) last-is;
+    centred = λ v k. rw (last-value v k) (last-centred v);
+    multipliers = λ i k. rw (last-row i k) (omega (arith, last-within .multipliers i, path .few));
+    slacks = λ i k. rw (last-row i k) (last-within .slacks i);
+  })
 
-  -- an entry of a list that was written
-  in-list : (new old : List ℤ) (n i : ℕ) → length new ≡ n → i < n → at (written new old) i ≡ at new i
-  in-list new old n i e k = written-in new old i (pos 0) (omega arith)
+-- ---- reflected calls
+-- a cost that is negated is none of the forbidden ones either
+turned-allowed : (b : ℕ) (z : ℤ) → natAbs z ≤ 32767 → forbidden (turned b z) ≡ false
+turned-allowed zero (pos n) h = refl
+turned-allowed zero (negsuc n) h = ne-eqb (suc n) 32768 (λ q. omega arith)
+turned-allowed (suc b) (pos zero) h = refl
+turned-allowed (suc b) (pos (suc n)) h = ne-eqb (suc n) 32768 (λ q. omega arith)
+turned-allowed (suc b) (negsuc n) h = refl
 
-  word-long : (z : List ℤ) → length (wordOf code z) ≡ code .bits
-  unfolding wordOf
-  word-long z = length-tab (code .bits) (λ v. bitOf (at z v))
+reflected-allowed : (w : List ℕ) (costs : List ℤ) → Small costs → some forbidden (reflect w costs) ≡ false
+unfolding reflect
+reflected-allowed w costs small =
+    none-in-tab forbidden (length costs) (λ i. turned (entry w i) (at costs i)) (λ i l. turned-allowed (entry w i) (at costs i) (small i))
 
-  taken : (z : List ℤ) (old : List ℕ) → take (code .bits) (written (wordOf code z) old) ≡ wordOf code z
-  taken z old = take-at (wordOf code z) (drop (length (wordOf code z)) old) (code .bits) (word-long z)
+pub length-reflect : (w : List ℕ) (costs : List ℤ) → length (reflect w costs) ≡ length costs
+unfolding reflect
+length-reflect w costs = length-tab (length costs) (λ i. turned (entry w i) (at costs i))
 
-  related : ReflectedCalls b w (decodedBy code end l) (decodedBy code end′ m)
-  unfolding decodedBy systemOf
-  related =
-      let long = last-long sys o costs in
-      let long′ = last-long sys o (reflect w costs) in
-      let x = pointOf code w in
-      record {
-        answer = same-answer;
-        values = λ v k. in-list (end′ .last .values) (m .values) (variables code) v (long′ .values) k ∙ both .last .values v
-            ∙ ap (turned (entry x v)) (sym (in-list (end .last .values) (l .values) (variables code) v (long .values) k));
-        sums = λ v k. in-list (end′ .last .sums) (m .sums) (variables code) v (long′ .sums) k ∙ both .last .sums v
-            ∙ ap (turned (entry x v)) (sym (in-list (end .last .sums) (l .sums) (variables code) v (long .sums) k));
-        rows = λ t r q i j k op. in-list (end′ .last .rows) (m .rows) (4 * triples code) (4 * t + q) (long′ .rows) (omega arith) ∙ both .last .rows t r q i j k op
-            ∙ sym (in-list (end .last .rows) (l .rows) (4 * triples code) (4 * t + r) (long .rows) (omega arith));
-        word = λ z.
-            rw (both .answer, z) (taken (end′ .last .values) (m .word) ∙ both .word z ∙ ap (sumOfWords w) (sym (taken (end .last .values) (l .word))));
-      }
+no-cause : (j : ℕ) (s t u v : Bool) → j ≡ 0 → s ≡ false → t ≡ false → u ≡ false → v ≡ false → firstOf (j ∷ 11 if s ∷ 12 if t ∷ 13 if u ∷ 10 if v ∷ []) ≡ 0
+no-cause j s t u v a b c d e = rw (a, b, c, d, e)
 
-  pub reflected-calls : ReflectedCalls b w (decoder b o costs l) (decoder b o (reflect w costs) m)
-  reflected-calls = rw (ran-is b o costs l h, ran-is b o (reflect w costs) m h′) related
+module _ (b w : List ℕ) (o : Settings) (costs : List ℤ) (l m : Lists) where
+  module _ (h : decoderCause b o costs l ≡ 0) (small : Small costs) (room : noRoom (codeOf b) m ≡ false) (c : Codeword (codeOf b) w) where
+    abbrev code : Code
+    code = codeOf b
 
--- ---- of every call that meets the decoder's contract, which is the equation d ≡ decoder b o costs l
-pub every-call : (b : List ℕ) (o : Settings) (costs : List ℤ) (l : Lists) (d : Decoded) → d ≡ decoder b o costs l → EveryCall b o costs l d
-every-call b o costs l d meets = record {
-  refused = λ c h. subst (Refused b o costs l) (sym meets) (refused b o costs l c h);
-  ran = λ h. subst (Ran b o costs l) (sym meets) (ran b o costs l h);
-  iterated = λ h. subst (Iterated b o costs l) (sym meets) (iterated b o costs l h);
-  reflected = λ w m e meets′ h h′ c. rw (meets, meets′) (reflected-calls b w o costs l m h h′ c);
-}
+    abbrev sys : System
+    sys = systemOf code
+
+    abbrev end : Ended
+    end = runOf b o costs
+
+    abbrev end′ : Ended
+    end′ = runOf b o (reflect w costs)
+
+    none : Clear (judge b ∷ decoderCauses code o costs l)
+    none = clear-causes b o costs l h
+
+    fits : length costs ≡ code .bits
+    fits = eqb-true (length costs) (code .bits) (not-false _ (unless 11 (unequal costs (code .bits)) (none .1 .1 .0)))
+
+    h′ : decoderCause b o (reflect w costs) m ≡ 0
+    unfolding decoderCause
+    h′ =
+        no-cause (judge b) (wild o) (unequal (reflect w costs) (code .bits)) (some forbidden (reflect w costs)) (noRoom code m)
+        (none .0)
+        (unless 10 (wild o) (none .1 .0))
+        (ap (λ (n : ℕ). not (eqb n (code .bits))) (length-reflect w costs) ∙ unless 11 (unequal costs (code .bits)) (none .1 .1 .0))
+        (reflected-allowed w costs small)
+        room
+
+    both : ReflectedRun code o costs w (o .limit) 0 (start sys) (start sys)
+    both = let r = demand-3 b (none .0) .reflects w c in r .whole o costs fits (o .limit) 0 (start sys) (start sys) (r .begun)
+
+    same-answer : decodedBy code end′ m .answer ≡ decodedBy code end l .answer
+    unfolding decodedBy
+    same-answer =
+        ap (λ (x : Outcome). record { number = x .number; place = x .place; k = end′ .k; settled = end′ .settled }) (both .answer)
+        ∙ ap₂ (λ (x y : ℕ). record { number = outcome code (end .last .values) .number; place = outcome code (end .last .values) .place; k = x; settled = y })
+        (both .count) (both .settled)
+
+    taken : (z : List ℤ) (old : List ℕ) → take (code .bits) (written (wordOf code z) old) ≡ wordOf code z
+    taken z old = take-at (wordOf code z) (drop (length (wordOf code z)) old) (code .bits) (outcome-claims code z .word .long)
+
+    related : ReflectedCalls b o costs w m (decodedBy code end l) (decodedBy code end′ m)
+    unfolding decodedBy systemOf
+    related =
+        let long = last-long sys o costs in
+        let long′ = last-long sys o (reflect w costs) in
+        let x = pointOf code w in
+        record {
+          accepted = h′;
+          each = both .each;
+          answer = same-answer;
+          values = λ v k. in-list (end′ .last .values) (m .values) (variables code) v (long′ .values) k ∙ both .last .values v
+              ∙ ap (turned (entry x v)) (sym (in-list (end .last .values) (l .values) (variables code) v (long .values) k));
+          sums = λ v k. in-list (end′ .last .sums) (m .sums) (variables code) v (long′ .sums) k ∙ both .last .sums v
+              ∙ ap (turned (entry x v)) (sym (in-list (end .last .sums) (l .sums) (variables code) v (long .sums) k));
+          rows = λ t r q i j k op. in-list (end′ .last .rows) (m .rows) (4 * triples code) (4 * t + q) (long′ .rows) (omega arith)
+              ∙ both .last .rows t r q i j k op
+              ∙ sym (in-list (end .last .rows) (l .rows) (4 * triples code) (4 * t + r) (long .rows) (omega arith));
+          word = λ z.
+              rw (both .answer, z) (taken (end′ .last .values) (m .word) ∙ both .word z ∙ ap (sumOfWords w) (sym (taken (end .last .values) (l .word))));
+        }
+
+    pub reflected-calls : ReflectedCalls b o costs w m (decoder b o costs l) (decoder b o (reflect w costs) m)
+    reflected-calls = rw (ran-is b o costs l h, ran-is b o (reflect w costs) m h′) related

@@ -71,7 +71,7 @@ unfolding sign
 share-here z m = three (λ p. _) (simp toℕ (omega arith)) (simp toℕ (omega arith)) (simp toℕ (omega arith))
 
 -- the right side of a row in centred form is U, whatever its signs
-right-is : (r : ℕ) → r < 4 → pos (2 * unit) *ℤ right r -ℤ (sign r 0 *ℤ pos unit +ℤ sign r 1 *ℤ pos unit +ℤ sign r 2 *ℤ pos unit) ≡ pos unit
+pub right-is : (r : ℕ) → r < 4 → pos (2 * unit) *ℤ right r -ℤ (sign r 0 *ℤ pos unit +ℤ sign r 1 *ℤ pos unit +ℤ sign r 2 *ℤ pos unit) ≡ pos unit
 unfolding sign
 right-is = four (λ r. pos (2 * unit) *ℤ right r -ℤ (sign r 0 *ℤ pos unit +ℤ sign r 1 *ℤ pos unit +ℤ sign r 2 *ℤ pos unit) ≡ pos unit) refl refl refl refl
 

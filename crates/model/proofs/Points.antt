@@ -235,7 +235,7 @@ module _ (k : Code) (s : Sound k) where
   pub point-binary : (w : List ℕ) → Codeword k w → (i : ℕ) → entry (pointOf k w) i < 2
   point-binary w c = extend-binary (systemOf k .members) w (c .word .binary)
 
-  point : (w : List ℕ) → Codeword k w → Point (systemOf k) (pointOf k w)
+  pub point : (w : List ℕ) → Codeword k w → Point (systemOf k) (pointOf k w)
   unfolding systemOf
   point w c = record {
     point = record {
@@ -245,7 +245,7 @@ module _ (k : Code) (s : Sound k) where
     meets = λ t r h l. even-meets _ _ _ (point-binary w c _) (point-binary w c _) (point-binary w c _) (point-even w c t h) r l;
   }
 
-  begins : (w : List ℕ) → Codeword k w → take (k .bits) (pointOf k w) ≡ w
+  pub begins : (w : List ℕ) → Codeword k w → take (k .bits) (pointOf k w) ≡ w
   unfolding systemOf
   begins w c =
       let n : length w ≡ k .bits = c .word .long in

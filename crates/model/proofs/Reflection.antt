@@ -5,9 +5,10 @@ use mathlib.Core.List.{List, [], _∷_}
 use Prim.Native.Nat.{ℕ, zero, suc, _+_, _*_, _%_, _<_}
 use native.Mathlib.Omega.{arith}
 use lib.Dec.{eqb, lit<}
-use lib.IntN.{ℤ, pos, negℤ, natAbs, _+ℤ_, _*ℤ_}
+use lib.IntN.{ℤ, pos, negℤ, natAbs, _+ℤ_, _*ℤ_, negℤ-negℤ}
 use lib.ListN.{getD}
 use borrow.Author.Tests.{eqb-true}
+use Rattle.integers.specs.Parts.{up}
 use Rattle.integers.specs.Sum.{sumℕ, sumℤ}
 use Rattle.integers.proofs.Linear.{split, toℕ, neg-*ℤ}
 use Rattle.integers.proofs.Sums.{sumℕ-same, sumℤ-same, sumℤ-neg, sumℤ-pos}
@@ -76,6 +77,25 @@ exchange =
     (λ f. rw (split (f 0), split (f 1), split (f 2), split (f 3)) (simp toℕ (omega arith))))
     (made 1 0 3 2 (lit< tt, lit< tt, lit< tt, lit< tt) ((refl, refl, refl), (refl, refl, refl), (refl, refl, refl), (refl, refl, refl))
     (λ f. rw (split (f 0), split (f 1), split (f 2), split (f 3)) (simp toℕ (omega arith))))
+
+-- a row is known by its signs: those at its last two positions are its digits
+row-of : (r : ℕ) → r < 4 → up (sign r 1) + 2 * up (sign r 2) ≡ r
+unfolding sign
+row-of = four (λ r. up (sign r 1) + 2 * up (sign r 2) ≡ r) refl refl refl refl
+
+same-row : (r q : ℕ) → r < 4 → q < 4 → ((p : ℕ) → p < 3 → sign r p ≡ sign q p) → r ≡ q
+same-row r q h l e = sym (row-of r h) ∙ rw (e 1 (lit< tt), e 2 (lit< tt)) (row-of q l)
+
+turned-back : (b : ℕ) (y z : ℤ) → turned b y ≡ turned b z → y ≡ z
+turned-back zero y z e = e
+turned-back (suc b) y z e = sym (negℤ-negℤ y) ∙ ap negℤ e ∙ negℤ-negℤ z
+
+module _ (x ts : List ℕ) (t : ℕ) where
+  pub unique : (r q q′ : ℕ) → q < 4 → q′ < 4 → Opposite x ts t r q → Opposite x ts t r q′ → q ≡ q′
+  unique r q q′ h l e f = same-row q q′ h l (λ p k. e p k ∙ sym (f p k))
+
+  pub injective : (r r′ q : ℕ) → r < 4 → r′ < 4 → Opposite x ts t r q → Opposite x ts t r′ q → r ≡ r′
+  injective r r′ q h l e f = same-row r r′ h l (λ p k. turned-back (entry x (member ts t p)) (sign r p) (sign r′ p) (sym (e p k) ∙ f p k))
 
 -- ---- one iteration
 module _ (g : System) (x : List ℕ) (binary : (v : ℕ) → entry x v < 2)

@@ -255,3 +255,20 @@ module _ (k : Code) (s : Sound k) where
       by (yes l) d = bit-occurs v l .1
       by (no l) (yes h) = omega (arith, auxiliary-occurs v (omega arith) h)
       by (no l) (no h) = omega (arith, none-occurs v (omega arith))
+
+  -- the variables of a triple are variables of the code
+  pub member-below : (t p : ℕ) → t < systemOf k .triples → p < 3 → member (systemOf k .members) t p < systemOf k .variables
+  unfolding systemOf
+  member-below t p h l = by (decLt v (variables k))
+    where
+      ts : List ℕ
+      ts = triplesFrom (k .checks) (k .bits)
+
+      v : ℕ
+      v = member ts t p
+
+      by : Dec (v < variables k) → v < variables k
+      by (yes m) = m
+      by (no m) =
+          let long = triples-long (k .bits) (k .checks) (k .bits) (s .checks) in
+          absurd (omega (arith, none-occurs v (omega arith), occurs v (triples k) ts long, total-entry (is v) ts (3 * t + p) (omega arith), is-same v))

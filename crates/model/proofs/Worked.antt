@@ -20,7 +20,7 @@ use Rattle.model.specs.Table.{Table, End, checkOver, settings}
 use Rattle.model.proofs.Runs.{stops, goes-on}
 
 -- ---- the quotient computes, by its laws
-abbrev computes : ℤ → ℤ → ℤ
+abbrev pub computes : ℤ → ℤ → ℤ
 computes n (pos zero) = quotient n (pos zero)
 computes n (negsuc d) = quotient n (negsuc d)
 computes (pos n) (pos (suc d)) = pos (min (nearest n (suc d)) unit)
@@ -29,7 +29,7 @@ computes (negsuc n) (pos (suc d)) = negℤ (pos (min (nearest (suc n) (suc d)) u
 size-computes : (n d : ℕ) → quotient (pos n) (pos (suc d)) ≡ pos (min (nearest n (suc d)) unit)
 size-computes n d = quotient-is n (suc d) _ (omega arith) (rounded-by n (suc d) (omega arith))
 
-quotient-computes : (n d : ℤ) → quotient n d ≡ computes n d
+pub quotient-computes : (n d : ℤ) → quotient n d ≡ computes n d
 quotient-computes n (pos zero) = refl
 quotient-computes n (negsuc d) = refl
 quotient-computes (pos n) (pos (suc d)) = size-computes n d

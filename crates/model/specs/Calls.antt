@@ -1,8 +1,8 @@
 -- Document 01, 'Causes and codes': for each call of the library, from its inputs and the lent lists as they were, its number and values
--- and the lists as they are afterwards. The order of the causes is the order of the list that `firstOf` is given. `..Told` gives the number and the values of
--- every case of an answer. Definitions only.
+-- and the lists as they are afterwards. The order of the causes is the order of the list `..Causes`; where code records are read, theirs come first.
+-- `..Told` gives the number and the values of every case of an answer. Definitions only.
 use mathlib.Core.Bool.{Bool, false, not, _||_}
-use mathlib.Core.List.{List, [], _∷_, map}
+use mathlib.Core.List.{List, [], _∷_, _++_, map}
 use Prim.Native.Nat.{ℕ, suc, _*_}
 use lib.Dec.{ltb, eqb}
 use lib.Ieee.{Float}
@@ -70,10 +70,13 @@ pub record Split : Type 0 where
   pub triples : List ℕ
   pub counts : List ℕ
 
+abbrev pub splitterCauses : Code → List ℕ → List ℕ → List ℕ
+splitterCauses k ts cs = 10 if (short (3 * triples k) ts || short (variables k) cs) ∷ []
+
 unfoldable pub splitter : List ℕ → List ℕ → List ℕ → Split
 splitter b ts cs =
     let k = codeOf b in
-    let c = firstOf (judge b ∷ 10 if (short (3 * triples k) ts || short (variables k) cs) ∷ []) in
+    let c = firstOf (judge b ∷ splitterCauses k ts cs) in
     record {
       number = c;
       triples = accepted c (written (systemOf k .members) ts) ts;
@@ -86,20 +89,27 @@ verdictTold Verdict.Codeword = record { number = 0; place = 0 }
 verdictTold (Verdict.Odd j) = record { number = 17; place = j }
 verdictTold (Verdict.Refused c) = record { number = c; place = 0 }
 
+-- of a word for a code of n bits
+abbrev pub wordCauses : ℕ → List ℕ → List ℕ
+wordCauses n w = 12 if unequal w n ∷ 15 if some notBinary w ∷ []
+
 unfoldable pub codewordTest : List ℕ → List ℕ → Outcome
 codewordTest b w =
     let k = codeOf b in
-    let c = firstOf (judge b ∷ 12 if unequal w (k .bits) ∷ 15 if some notBinary w ∷ []) in
+    let c = firstOf (judge b ∷ wordCauses (k .bits) w) in
     accepted c (tested k w) (record { number = c; place = 0 })
 
 pub record Extended : Type 0 where
   pub outcome : Outcome
   pub point : List ℕ
 
+abbrev pub extensionCauses : Code → List ℕ → List ℕ → List ℕ
+extensionCauses k w p = wordCauses (k .bits) w ++ (10 if short (variables k) p ∷ [])
+
 unfoldable pub extension : List ℕ → List ℕ → List ℕ → Extended
 extension b w p =
     let k = codeOf b in
-    let c = firstOf (judge b ∷ 12 if unequal w (k .bits) ∷ 15 if some notBinary w ∷ 10 if short (variables k) p ∷ []) in
+    let c = firstOf (judge b ∷ extensionCauses k w p) in
     let out = accepted c (tested k w) (record { number = c; place = 0 }) in
     record { outcome = out; point = accepted (out .number) (written (pointOf k w) p) p }
 
@@ -135,13 +145,12 @@ noRoom k l =
     short (3 * triples k) (l .triples) || (short (variables k) (l .counts) || (short (variables k) (l .sums)
     || (short (variables k) (l .values) || (short (4 * triples k) (l .rows) || short (k .bits) (l .word)))))
 
--- the causes of a call, in their order
-abbrev pub decoderCauses : List ℕ → Settings → List ℤ → Lists → List ℕ
-decoderCauses b o costs l =
-    judge b ∷ 11 if wild o ∷ 12 if unequal costs (codeOf b .bits) ∷ 13 if some forbidden costs ∷ 10 if noRoom (codeOf b) l ∷ []
+abbrev pub decoderCauses : Code → Settings → List ℤ → Lists → List ℕ
+decoderCauses k o costs l = 11 if wild o ∷ 12 if unequal costs (k .bits) ∷ 13 if some forbidden costs ∷ 10 if noRoom k l ∷ []
 
+-- why a call is refused, 0 where it is not
 unfoldable pub decoderCause : List ℕ → Settings → List ℤ → Lists → ℕ
-decoderCause b o costs l = firstOf (decoderCauses b o costs l)
+decoderCause b o costs l = firstOf (judge b ∷ decoderCauses (codeOf b) o costs l)
 
 -- what a run that ended with e leaves: "All three carry k and whether settled", and the word is written with the number 0
 unfoldable pub decodedBy : Code → Ended → Lists → Decoded
@@ -171,12 +180,20 @@ pub record Costs : Type 0 where
   pub number : ℕ
   pub costs : List ℤ
 
+abbrev pub frontCauses : declared.Channel → List Float → List ℤ → List ℕ
+frontCauses setting samples old =
+    11 if not (inRange setting) ∷ 14 if some (λ x. not (finite x)) samples ∷ 10 if short (length samples) old ∷ []
+
 unfoldable pub channelFront : declared.Channel → List Float → List ℤ → Costs
 channelFront setting samples old =
-    let c = firstOf (11 if not (inRange setting) ∷ 14 if some (λ x. not (finite x)) samples ∷ 10 if short (length samples) old ∷ []) in
+    let c = firstOf (frontCauses setting samples old) in
     record { number = c; costs = accepted c (written (map (costOf setting) samples) old) old }
+
+abbrev pub reflectorCauses : List ℤ → List ℕ → List ℤ → List ℕ
+reflectorCauses costs w old =
+    12 if unequal w (length costs) ∷ 13 if some forbidden costs ∷ 15 if some notBinary w ∷ 10 if short (length costs) old ∷ []
 
 unfoldable pub reflector : List ℤ → List ℕ → List ℤ → Costs
 reflector costs w old =
-    let c = firstOf (12 if unequal w (length costs) ∷ 13 if some forbidden costs ∷ 15 if some notBinary w ∷ 10 if short (length costs) old ∷ []) in
+    let c = firstOf (reflectorCauses costs w old) in
     record { number = c; costs = accepted c (written (reflect w costs) old) old }

@@ -38,6 +38,9 @@ pub record ReflectedRun (k : Code) (o : Settings) (costs : List ℤ) (w : List �
 pub record Reflection (k : Code) (w : List ℕ) : Type 0 where
   -- each row has a row "of the same triple whose signs differ from its own exactly at the variables where the point has a 1"
   pub opposite : (t r : ℕ) → t < systemOf k .triples → r < 4 → (q : ℕ) × (q < 4) × Opposite (pointOf k w) (systemOf k .members) t r q
+  -- "only change places": the row it goes to is the only such row, and no two rows go to one
+  pub unique : (t r q q′ : ℕ) → q < 4 → q′ < 4 → Opposite (pointOf k w) (systemOf k .members) t r q → Opposite (pointOf k w) (systemOf k .members) t r q′ → q ≡ q′
+  pub injective : (t r r′ q : ℕ) → r < 4 → r′ < 4 → Opposite (pointOf k w) (systemOf k .members) t r q → Opposite (pointOf k w) (systemOf k .members) t r′ q → r ≡ r′
   -- the start of a run is its own reflection
   pub begun : Reflected (systemOf k) (pointOf k w) (start (systemOf k)) (start (systemOf k))
   -- "whatever the accepted settings and costs", and from whatever states that are reflected

@@ -1,75 +1,105 @@
--- What the decoder's contract says of every call, in the words of the demands. Statements only; the proofs are in proofs/Entry.antt.
-use mathlib.Core.List.{List}
+-- What holds of a call of the decoder, in the words of the demands: the parts of `Promises.DecoderCall`. Statements only; the proofs are in proofs/Entry.antt.
+use mathlib.Core.List.{List, [], _∷_, _++_}
 use mathlib.Core.Logic.{_⊎_}
 use mathlib.Core.Path.{_≡_}
-use Prim.Native.Nat.{ℕ, suc, _+_, _≤_, _<_}
-use lib.IntN.{ℤ}
+use Prim.Native.Nat.{ℕ, suc, _+_, _*_, _≤_, _<_}
+use lib.IntN.{ℤ, natAbs}
 use lib.ListN.{getD, take}
 use Rattle.lists.specs.Tabulated.{written}
-use Rattle.quotient.specs.Quotient.{quotient}
-use Rattle.model.specs.Iteration.{at, row, State}
-use Rattle.model.specs.Calls.{Lists, Decoded, decoderCauses, decoderCause, decoder}
-use Rattle.model.specs.Reflection.{turned, reflect, sumOfWords, Opposite}
-use Rattle.model.specs.Run.{settledBy, start, Ended, after, run}
-use Rattle.model.specs.Words.{entry, outcome}
-use Rattle.model.specs.Records.{codeOf}
-use Rattle.model.specs.Points.{Codeword, pointOf}
-use Rattle.model.specs.Code.{triples, variables}
-use Rattle.model.specs.Splitting.{System, systemOf}
+use Rattle.quotient.specs.Quotient.{unit, quotient}
 use Rattle.model.specs.declared.Settings.{Settings}
+use Rattle.model.specs.Code.{triples, variables}
+use Rattle.model.specs.Records.{codeOf, recordCauses}
+use Rattle.model.specs.Splitting.{System, systemOf}
+use Rattle.model.specs.Iteration.{at, row, slack, multiplier, State, countsOf}
+use Rattle.model.specs.Run.{settledBy, start, Ended, after, run}
+use Rattle.model.specs.Words.{entry, wordOf, outcome}
+use Rattle.model.specs.Points.{Codeword, pointOf}
+use Rattle.model.specs.Reflection.{turned, reflect, sumOfWords, Opposite, Reflected}
+use Rattle.model.specs.Calls.{Lists, Decoded, decoderCauses, decoderCause}
+use Rattle.model.specs.Order.{Refusal, oneToNine}
+use Rattle.model.specs.WordClaims.{Decided}
 
--- ---- demand 1: "Every call ends with a number of the table; each number's cause holds and no earlier one does"
+-- the causes before a run, one by one
+abbrev pub inputCauses : List ℕ → Settings → List ℤ → Lists → List ℕ
+inputCauses b o costs l = recordCauses b ++ decoderCauses (codeOf b) o costs l
+
+-- the run of the code that b says, and its state after i iterations
+abbrev pub runOf : List ℕ → Settings → List ℤ → Ended
+runOf b o costs = run quotient (systemOf (codeOf b)) o costs
+
+abbrev pub iterateOf : List ℕ → Settings → List ℤ → ℕ → State
+iterateOf b o costs i = after quotient (systemOf (codeOf b)) o costs i (start (systemOf (codeOf b)))
+
+-- ---- demand 1: a call that is refused
 pub record Refused (b : List ℕ) (o : Settings) (costs : List ℤ) (l : Lists) (d : Decoded) : Type 0 where
-  -- the place of its cause in the list, and that no cause before it holds
-  pub place : ℕ
-  pub cause : getD (decoderCauses b o costs l) place 0 ≡ d .answer .number
-  pub earlier : (i : ℕ) → i < place → getD (decoderCauses b o costs l) i 0 ≡ 0
-  pub number : (1 ≤ d .answer .number) × (d .answer .number ≤ 13)
-  -- "a refused call leaves every list"
+  -- its number is 1 to 13, its cause holds and no earlier one does
+  pub order : Refusal (inputCauses b o costs l) (oneToNine ++ (10 ∷ 11 ∷ 12 ∷ 13 ∷ [])) (d .answer .number)
+  -- "result fields that a row does not name are 0"
+  pub told : d .answer ≡ record { number = d .answer .number; place = 0; k = 0; settled = 0 }
+  -- "a refused input leaves all lent lists as they were"
   pub untouched : d .lists ≡ l
 
 -- a call that is not refused: none of the causes holds, and the number says what the last values are
 pub record Ran (b : List ℕ) (o : Settings) (costs : List ℤ) (l : Lists) (d : Decoded) : Type 0 where
-  pub sound : (i : ℕ) → getD (decoderCauses b o costs l) i 0 ≡ 0
-  pub answer : (d .answer .number ≡ outcome (codeOf b) (run quotient (systemOf (codeOf b)) o costs .last .values) .number)
-      × (d .answer .place ≡ outcome (codeOf b) (run quotient (systemOf (codeOf b)) o costs .last .values) .place)
+  pub sound : (i : ℕ) → getD (inputCauses b o costs l) i 0 ≡ 0
   pub number : (d .answer .number ≡ 0) ⊎ ((d .answer .number ≡ 16) ⊎ (d .answer .number ≡ 17))
+  pub answer : (d .answer .number ≡ outcome (codeOf b) (runOf b o costs .last .values) .number)
+      × (d .answer .place ≡ outcome (codeOf b) (runOf b o costs .last .values) .place)
+  pub decided : Decided (codeOf b) (runOf b o costs .last .values)
+  -- "The decoder also fills lent lists: triples, triple counts per variable"
+  pub triples : d .lists .triples ≡ written (systemOf (codeOf b) .members) (l .triples)
+  pub counts : d .lists .counts ≡ written (countsOf (systemOf (codeOf b))) (l .counts)
+  -- "the word is written" with the number 0, and is a codeword; otherwise the list is left as it was
+  pub word : d .answer .number ≡ 0 → d .lists .word ≡ written (wordOf (codeOf b) (runOf b o costs .last .values)) (l .word)
+  pub codeword : d .answer .number ≡ 0 → Codeword (codeOf b) (take (codeOf b .bits) (d .lists .word))
+  pub kept : (d .answer .number ≡ 0 → ⊥) → d .lists .word ≡ l .word
 
--- ---- "the lists and answer after a run with limit k are the k-th iterate's unless it settled before"
--- a run that ended with e, from the state a, at most `more` iterations being to come
+-- ---- demand 2: "every iterate, the iteration count"
+-- a run that ended with e, from the state a, k iterations being done and at most `more` to come
 pub record Course (g : System) (o : Settings) (costs : List ℤ) (more k : ℕ) (a : State) (e : Ended) : Type 0 where
   pub steps : ℕ
   pub count : e .k ≡ k + steps
   pub few : steps ≤ more
   pub last : e .last ≡ after quotient g o costs steps a
   -- it did not settle before the last iteration, and there it did if it was not the limit's
-  pub going : (i : ℕ) → suc i < steps → settledBy (o .tolerance) (g .triples) (after quotient g o costs i a .rows) (after quotient g o costs (suc i) a .rows) ≡ 0
-  pub ending : (i : ℕ) → suc i ≡ steps → e .settled ≡ settledBy (o .tolerance) (g .triples) (after quotient g o costs i a .rows) (after quotient g o costs (suc i) a .rows)
+  pub going : (i : ℕ) → suc i < steps
+      → settledBy (o .tolerance) (g .triples) (after quotient g o costs i a .rows) (after quotient g o costs (suc i) a .rows) ≡ 0
+  pub ending : (i : ℕ) → suc i ≡ steps
+      → e .settled ≡ settledBy (o .tolerance) (g .triples) (after quotient g o costs i a .rows) (after quotient g o costs (suc i) a .rows)
   pub none : steps ≡ 0 → e .settled ≡ 0
   pub early : steps < more → e .settled ≡ 1
 
 pub record Iterated (b : List ℕ) (o : Settings) (costs : List ℤ) (l : Lists) (d : Decoded) : Type 0 where
-  pub course : Course (systemOf (codeOf b)) o costs (o .limit) 0 (start (systemOf (codeOf b))) (run quotient (systemOf (codeOf b)) o costs)
+  pub course : Course (systemOf (codeOf b)) o costs (o .limit) 0 (start (systemOf (codeOf b))) (runOf b o costs)
   pub count : d .answer .k ≡ course .steps
-  pub settled : d .answer .settled ≡ run quotient (systemOf (codeOf b)) o costs .settled
-  pub sums : d .lists .sums ≡ written (after quotient (systemOf (codeOf b)) o costs (d .answer .k) (start (systemOf (codeOf b))) .sums) (l .sums)
-  pub values : d .lists .values ≡ written (after quotient (systemOf (codeOf b)) o costs (d .answer .k) (start (systemOf (codeOf b))) .values) (l .values)
-  pub rows : d .lists .rows ≡ written (after quotient (systemOf (codeOf b)) o costs (d .answer .k) (start (systemOf (codeOf b))) .rows) (l .rows)
+  pub range : (1 ≤ d .answer .k) × (d .answer .k ≤ o .limit)
+  pub settled : d .answer .settled ≡ runOf b o costs .settled
+  -- the lists have the k-th iterate
+  pub sums : d .lists .sums ≡ written (iterateOf b o costs (d .answer .k) .sums) (l .sums)
+  pub values : d .lists .values ≡ written (iterateOf b o costs (d .answer .k) .values) (l .values)
+  pub rows : d .lists .rows ≡ written (iterateOf b o costs (d .answer .k) .rows) (l .rows)
+  -- "always from −U to U", and "s never leaves −65,536 .. 32,768 × K"
+  pub centred : (v : ℕ) → v < variables (codeOf b) → natAbs (at (d .lists .values) v) ≤ unit
+  pub multipliers : (i : ℕ) → i < 4 * triples (codeOf b) → multiplier (at (d .lists .rows) i) ≤ 32768 * o .limit
+  pub slacks : (i : ℕ) → i < 4 * triples (codeOf b) → slack (at (d .lists .rows) i) ≤ 65536
 
--- ---- demand 3, of two calls whose costs are reflected by the codeword w: d with the costs, e with the reflected ones
-pub record ReflectedCalls (b w : List ℕ) (d e : Decoded) : Type 0 where
+-- costs that are 16-bit numbers and not −32,768, as those of every accepted call are
+abbrev pub Small : List ℤ → Type 0
+Small costs = (v : ℕ) → natAbs (at costs v) ≤ 32767
+
+-- ---- demand 3, of two calls: d with the costs, e with the costs that the codeword w reflects, in lists m of its own
+pub record ReflectedCalls (b : List ℕ) (o : Settings) (costs : List ℤ) (w : List ℕ) (m : Lists) (d e : Decoded) : Type 0 where
+  -- the second call is accepted as the first is
+  pub accepted : decoderCause b o (reflect w costs) m ≡ 0
+  -- "After every iteration c and S are those of the first run, negated where the point has a 1 and the same elsewhere", and rows change places
+  pub each : (i : ℕ) → Reflected (systemOf (codeOf b)) (pointOf (codeOf b) w) (iterateOf b o costs i) (iterateOf b o (reflect w costs) i)
+  -- "Both runs end after the same iteration; the kind of answer, count, settled and place stay"
   pub answer : e .answer ≡ d .answer
+  -- the lists that the calls leave
   pub values : (v : ℕ) → v < variables (codeOf b) → at (e .lists .values) v ≡ turned (entry (pointOf (codeOf b) w) v) (at (d .lists .values) v)
   pub sums : (v : ℕ) → v < variables (codeOf b) → at (e .lists .sums) v ≡ turned (entry (pointOf (codeOf b) w) v) (at (d .lists .sums) v)
   pub rows : (t r q : ℕ) → t < triples (codeOf b) → r < 4 → q < 4 → Opposite (pointOf (codeOf b) w) (systemOf (codeOf b) .members) t r q
       → row (e .lists .rows) t q ≡ row (d .lists .rows) t r
+  -- "and a written word changes by that codeword, bit by bit modulo 2"
   pub word : d .answer .number ≡ 0 → take (codeOf b .bits) (e .lists .word) ≡ sumOfWords w (take (codeOf b .bits) (d .lists .word))
-
--- ---- all of it, of a call whose answer and lists are d
-pub record EveryCall (b : List ℕ) (o : Settings) (costs : List ℤ) (l : Lists) (d : Decoded) : Type 0 where
-  pub refused : (c : ℕ) → decoderCause b o costs l ≡ suc c → Refused b o costs l d
-  pub ran : decoderCause b o costs l ≡ 0 → Ran b o costs l d
-  pub iterated : decoderCause b o costs l ≡ 0 → Iterated b o costs l d
-  -- and of a second call, with the costs that w reflects and lists m of its own, which gave e
-  pub reflected : (w : List ℕ) (m : Lists) (e : Decoded) → e ≡ decoder b o (reflect w costs) m → decoderCause b o costs l ≡ 0 → decoderCause b o (reflect w costs) m ≡ 0
-      → Codeword (codeOf b) w → ReflectedCalls b w d e

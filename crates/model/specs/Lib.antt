@@ -1,23 +1,32 @@
--- Document 01, section by section. All that a contract cites stands here or, for sums, lists and the rounded quotient, in specs/ of the
+-- Document 01, section by section. All that an entry's contract cites stands here or, for sums, lists and the rounded quotient, in specs/ of the
 -- crates below.
+-- the definitions
 pub mod Causes
 pub mod Code
 pub mod Records
-pub mod Sound
 pub mod Splitting
 pub mod Iteration
 pub mod Run
-pub mod TripleRule
 pub mod Words
 pub mod Points
 pub mod Reflection
 pub mod Channel
 pub mod Calls
 pub mod Frames
+-- statements about them
+pub mod Sound
+pub mod RecordClaims
+pub mod TripleRule
 pub mod Bounds
 pub mod Claims
 pub mod Paper
+pub mod PaperSystem
 pub mod Table
-pub mod Entry
+pub mod WholeCalls
 pub mod ChannelClaims
+pub mod WordClaims
+pub mod Told
+pub mod Order
+pub mod Entry
+pub mod Promises
 pub mod FrameClaims

@@ -1,12 +1,13 @@
 -- Document 01, 'Code records'. Definitions only.
--- What bytes say (`codeOf`, total: past the end it reads zeros) stands apart from the judgement (`judge`, 0 for an accepted code).
+-- What bytes say (`codeOf`, total: past the end it reads zeros) stands apart from the judgement (`judge`, 0 for an accepted code); last come the
+-- bytes of a given code (`recordsOf`).
 use mathlib.Core.Bool.{Bool, not}
-use mathlib.Core.List.{List, [], _∷_}
-use Prim.Native.Nat.{ℕ, zero, suc, _+_, _*_}
+use mathlib.Core.List.{List, [], _∷_, _++_}
+use Prim.Native.Nat.{ℕ, zero, suc, _+_, _*_, _/_, _%_}
 use lib.Dec.{leb, ltb, eqb}
 use lib.ListN.{length, getD, drop}
 use Rattle.lists.specs.Tabulated.{tab}
-use Rattle.lists.specs.Entries.{every, some}
+use Rattle.lists.specs.Entries.{every, some, total}
 use Rattle.model.specs.Causes.{_if_, firstOf, short, outside}
 use Rattle.model.specs.Code.{Code, triples}
 
@@ -54,25 +55,33 @@ codeOf s = record { bits = bitCount s; checks = checksIn (checkCount s) (drop 6 
 -- ---- the judgement: "records from left to right, in each the mark, then its fields; a mark or field that is cut gives 1, a whole one is
 -- judged before the next is read, 5 before 6. Then 9, 7, 8"
 
-unfoldable pub judgeHeader : List ℕ → ℕ
-judgeHeader s =
-    firstOf (
+-- the causes of the header that s begins with, in their order
+abbrev pub headerCauses : List ℕ → List ℕ
+headerCauses s =
     1 if short 2 s ∷ 2 if not (eqb (twoBytes s) 0x4C48) ∷
     1 if short 4 s ∷ 3 if outside 3 4096 (bitCount s) ∷
-    1 if short 6 s ∷ 3 if outside 1 2048 (checkCount s) ∷ [])
+    1 if short 6 s ∷ 3 if outside 1 2048 (checkCount s) ∷ []
 
--- d indices of a code of n bits; low is 0 at first, then one above the index before
+unfoldable pub judgeHeader : List ℕ → ℕ
+judgeHeader s = firstOf (headerCauses s)
+
+-- of one index of a code of n bits; low is 0 at first, then one above the index before
+abbrev pub indexCauses : ℕ → ℕ → List ℕ → List ℕ
+indexCauses n low s = 1 if short 2 s ∷ 5 if leb n (twoBytes s) ∷ 6 if ltb (twoBytes s) low ∷ []
+
+-- d indices
 unfoldable pub judgeIndices : ℕ → ℕ → ℕ → List ℕ → ℕ
 judgeIndices n zero low s = 0
-judgeIndices n (suc d) low s =
-    firstOf (1 if short 2 s ∷ 5 if leb n (twoBytes s) ∷ 6 if ltb (twoBytes s) low ∷ judgeIndices n d (suc (twoBytes s)) (drop 2 s) ∷ [])
+judgeIndices n (suc d) low s = firstOf (indexCauses n low s ++ (judgeIndices n d (suc (twoBytes s)) (drop 2 s) ∷ []))
+
+-- of a check record, before its indices
+abbrev pub degreeCauses : List ℕ → List ℕ
+degreeCauses s =
+    1 if short 2 s ∷ 2 if not (eqb (twoBytes s) 0x4C43) ∷
+    1 if short 3 s ∷ 4 if outside 3 32 (degree s) ∷ []
 
 unfoldable pub judgeCheck : ℕ → List ℕ → ℕ
-judgeCheck n s =
-    firstOf (
-    1 if short 2 s ∷ 2 if not (eqb (twoBytes s) 0x4C43) ∷
-    1 if short 3 s ∷ 4 if outside 3 32 (degree s) ∷
-    judgeIndices n (degree s) 0 (drop 3 s) ∷ [])
+judgeCheck n s = firstOf (degreeCauses s ++ (judgeIndices n (degree s) 0 (drop 3 s) ∷ []))
 
 unfoldable pub judgeChecks : ℕ → ℕ → List ℕ → ℕ
 judgeChecks n zero s = 0
@@ -82,11 +91,55 @@ judgeChecks n (suc m) s = firstOf (judgeCheck n s ∷ judgeChecks n m (afterChec
 unfoldable pub covered : Code → Bool
 covered k = every (λ b. some (some (eqb b)) (k .checks)) (tab (k .bits) (λ b. b))
 
-unfoldable pub judge : List ℕ → ℕ
-judge s =
-    firstOf (
-    judgeHeader s ∷
-    judgeChecks (bitCount s) (checkCount s) (drop 6 s) ∷
+-- of all records together
+abbrev pub wholeCauses : List ℕ → List ℕ
+wholeCauses s =
     9 if ltb 0 (length (afterChecks (checkCount s) (drop 6 s))) ∷
     7 if ltb 8192 (triples (codeOf s)) ∷
-    8 if not (covered (codeOf s)) ∷ [])
+    8 if not (covered (codeOf s)) ∷ []
+
+unfoldable pub judge : List ℕ → ℕ
+judge s = firstOf (judgeHeader s ∷ judgeChecks (bitCount s) (checkCount s) (drop 6 s) ∷ wholeCauses s)
+
+-- ---- the same causes one by one, from left to right; `judge` is the first of them (`RecordClaims.order`)
+unfoldable pub indicesCauses : ℕ → ℕ → ℕ → List ℕ → List ℕ
+indicesCauses n zero low s = []
+indicesCauses n (suc d) low s = indexCauses n low s ++ indicesCauses n d (suc (twoBytes s)) (drop 2 s)
+
+abbrev pub checkCauses : ℕ → List ℕ → List ℕ
+checkCauses n s = degreeCauses s ++ indicesCauses n (degree s) 0 (drop 3 s)
+
+unfoldable pub checksCauses : ℕ → ℕ → List ℕ → List ℕ
+checksCauses n zero s = []
+checksCauses n (suc m) s = checkCauses n s ++ checksCauses n m (afterCheck s)
+
+unfoldable pub recordCauses : List ℕ → List ℕ
+recordCauses s = headerCauses s ++ (checksCauses (bitCount s) (checkCount s) (drop 6 s) ++ wholeCauses s)
+
+-- ---- the records of a code
+-- "Two-byte numbers have the high byte first."
+abbrev pub two : ℕ → List ℕ
+two x = (x / 256) ∷ (x % 256) ∷ []
+
+unfoldable pub bytesOf : List ℕ → List ℕ
+bytesOf [] = []
+bytesOf (i ∷ c) = two i ++ bytesOf c
+
+-- "mark 0x4C43, a one-byte degree d (3 to 32), then d bit indices of two bytes"
+unfoldable pub recordOf : List ℕ → List ℕ
+recordOf c = 0x4C ∷ 0x43 ∷ length c ∷ bytesOf c
+
+unfoldable pub checkRecords : List (List ℕ) → List ℕ
+checkRecords [] = []
+checkRecords (c ∷ cs) = recordOf c ++ checkRecords cs
+
+-- "Header: mark 0x4C48, bits n (3 to 4,096), checks m (1 to 2,048), two bytes each.", "Then m check records"
+unfoldable pub recordsOf : Code → List ℕ
+recordsOf k = 0x4C ∷ 0x48 ∷ (two (k .bits) ++ (two (length (k .checks)) ++ checkRecords (k .checks)))
+
+-- how many bytes they have
+abbrev pub recordSize : List ℕ → ℕ
+recordSize c = 3 + 2 * length c
+
+abbrev pub recordsSize : Code → ℕ
+recordsSize k = 6 + total recordSize (k .checks)

@@ -1,0 +1,202 @@
+-- The number of a call is that of its first cause, and one of its entry's own. Assumes nothing.
+use mathlib.Core.Path.{_≡_, refl, sym, ap, _∙_, subst}
+use mathlib.Core.Bool.{Bool, true, false, not, cond}
+use mathlib.Core.List.{List, [], _∷_, _++_}
+use Prim.Native.Nat.{ℕ, zero, suc, _<_}
+use native.Mathlib.Omega.{arith}
+use borrow.Author.Tests.{eqb-true, leb-true}
+use lib.Dec.{leb, ltb, eqb}
+use lib.IntN.{ℤ}
+use lib.ListN.{length, getD, drop}
+use Rattle.lists.specs.Entries.{every, some}
+use Rattle.lists.proofs.Tests.{and-left, and-right}
+use Rattle.lists.proofs.Entries.{some-every}
+use Rattle.model.specs.Causes.{_if_, firstOf, short, outside, accepted}
+use Rattle.model.specs.Code.{Code, triples}
+use Rattle.model.specs.Records.{twoBytes, bitCount, checkCount, degree, afterCheck, afterChecks, codeOf, covered}
+use Rattle.model.specs.Records.{headerCauses, indexCauses, degreeCauses, wholeCauses, indicesCauses, checkCauses, checksCauses, recordCauses}
+use Rattle.model.specs.Records.{judgeHeader, judgeIndices, judgeCheck, judgeChecks, judge}
+use Rattle.model.specs.Words.{wordOf, firstUndecided, firstOdd, Outcome, tested, outcome}
+use Rattle.model.specs.Order.{oddCauses, runCauses, Refusal, Ordered, oneToNine}
+use Rattle.model.specs.Told.{Refuses}
+use Rattle.model.proofs.Causes.{first-in, first-end}
+
+-- ---- numbers of a table
+-- c is 0 or in the table
+abbrev among : List ℕ → ℕ → Bool
+among table zero = true
+among table (suc c) = some (eqb (suc c)) table
+
+among-if : (table : List ℕ) (n : ℕ) → among table n ≡ true → (t : Bool) → among table (n if t) ≡ true
+among-if table n h true = h
+among-if table n h false = refl
+
+-- every number of l is
+pub record Listed (table l : List ℕ) : Type 0 where
+  all : every (among table) l ≡ true
+
+module _ (table : List ℕ) where
+  pub nil : Listed table []
+  nil = record { all = refl }
+
+  pub cons : (n : ℕ) (t : Bool) (l : List ℕ) → among table n ≡ true → Listed table l → Listed table (n if t ∷ l)
+  cons n t l h k = record { all = rw (among-if table n h t) (k .all) }
+
+  pub both : (l m : List ℕ) → Listed table l → Listed table m → Listed table (l ++ m)
+  both [] m h k = k
+  both (c ∷ l) m h k =
+      let x = every (among table) l in
+      record { all = rw (and-left (among table c) x (h .all)) (both l m (record { all = and-right (among table c) x (h .all) }) k .all) }
+
+  first-listed : (l : List ℕ) → every (among table) l ≡ true → (c : ℕ) → firstOf l ≡ suc c → some (eqb (suc c)) table ≡ true
+  first-listed [] h c e = absurd (omega arith)
+  first-listed (zero ∷ l) h c e = first-listed l h c e
+  first-listed (suc n ∷ l) h c e = subst (λ (x : ℕ). some (eqb x) table ≡ true) e (and-left (some (eqb (suc n)) table) (every (among table) l) h)
+
+-- ---- the first cause, and none
+none-of : (l : List ℕ) → firstOf l ≡ 0 → (i : ℕ) → getD l i 0 ≡ 0
+none-of [] e i = refl
+none-of (zero ∷ l) e zero = refl
+none-of (zero ∷ l) e (suc i) = none-of l e i
+none-of (suc n ∷ l) e i = absurd (omega arith)
+
+record First (l : List ℕ) (c : ℕ) : Type 0 where
+  place : ℕ
+  here : getD l place 0 ≡ c
+  earlier : (i : ℕ) → i < place → getD l i 0 ≡ 0
+
+first-of : (l : List ℕ) (c : ℕ) → firstOf l ≡ suc c → First l (suc c)
+first-of [] c e = absurd (omega arith)
+first-of (zero ∷ l) c e = by (first-of l c e)
+  where
+    before : (f : First l (suc c)) (i : ℕ) → i < suc (f .place) → getD (zero ∷ l) i 0 ≡ 0
+    before f zero h = refl
+    before f (suc i) h = f .earlier i (omega arith)
+
+    by : First l (suc c) → First (zero ∷ l) (suc c)
+    by f = record { place = suc (f .place); here = f .here; earlier = before f }
+first-of (suc n ∷ l) c e = record { place = 0; here = e; earlier = λ i h. absurd (omega arith) }
+
+pub ordered : (l table : List ℕ) (number : ℕ) → Listed table l → number ≡ firstOf l → Ordered l table number
+ordered l table number h e = record {
+  refused = λ c f.
+      let x = first-of l c (sym e ∙ f) in
+      record { place = x .place; cause = x .here ∙ sym f; earlier = x .earlier; listed = rw f (first-listed table l (h .all) c (sym e ∙ f)) };
+  sound = λ f. none-of l (sym e ∙ f);
+}
+
+-- by a table of numbers up to 15, what is not 0 is a refusal's number
+pub refuses : (l table : List ℕ) (c : ℕ) → every (λ y. leb y 15) table ≡ true → Ordered l table (suc c) → Refuses (suc c)
+refuses l table c small o =
+    let x = some-every (eqb (suc c)) (λ y. leb y 15) table (o .refused c refl .listed) small in
+    (omega arith, omega (arith, eqb-true (suc c) (x .0) (x .1), leb-true (x .0) 15 (x .2)))
+
+-- ---- code records
+indices-order : (n d low : ℕ) (s : List ℕ) → judgeIndices n d low s ≡ firstOf (indicesCauses n d low s)
+unfolding judgeIndices indicesCauses
+indices-order n zero low s = refl
+indices-order n (suc d) low s =
+    rw (indices-order n d (suc (twoBytes s)) (drop 2 s)) (first-end (indexCauses n low s) (indicesCauses n d (suc (twoBytes s)) (drop 2 s)))
+
+check-order : (n : ℕ) (s : List ℕ) → judgeCheck n s ≡ firstOf (checkCauses n s)
+unfolding judgeCheck
+check-order n s = rw (indices-order n (degree s) 0 (drop 3 s)) (first-end (degreeCauses s) (indicesCauses n (degree s) 0 (drop 3 s)))
+
+checks-order : (n m : ℕ) (s : List ℕ) → judgeChecks n m s ≡ firstOf (checksCauses n m s)
+unfolding judgeChecks checksCauses
+checks-order n zero s = refl
+checks-order n (suc m) s =
+    let more = checksCauses n m (afterCheck s) in
+    rw (check-order n s, checks-order n m (afterCheck s)) (first-in (checkCauses n s) (firstOf more ∷ []) ∙ first-end (checkCauses n s) more)
+
+pub judge-order : (s : List ℕ) → judge s ≡ firstOf (recordCauses s)
+unfolding judge judgeHeader recordCauses
+judge-order s =
+    let checks = checksCauses (bitCount s) (checkCount s) (drop 6 s) in
+    let rest = firstOf checks ∷ wholeCauses s in
+    rw (checks-order (bitCount s) (checkCount s) (drop 6 s))
+    (first-in (headerCauses s) rest ∙ sym (first-end (headerCauses s) rest)
+    ∙ rw (first-in checks (wholeCauses s)) (first-end (headerCauses s) (checks ++ wholeCauses s)))
+
+-- every number of records is in a table that begins with theirs
+module _ (more : List ℕ) where
+  abbrev table : List ℕ
+  table = oneToNine ++ more
+
+  indices-listed : (n d low : ℕ) (s : List ℕ) → Listed table (indicesCauses n d low s)
+  unfolding indicesCauses
+  indices-listed n zero low s = nil table
+  indices-listed n (suc d) low s =
+      cons table 1 (short 2 s) _ refl
+      (cons table 5 (leb n (twoBytes s)) _ refl
+      (cons table 6 (ltb (twoBytes s) low) _ refl
+      (indices-listed n d (suc (twoBytes s)) (drop 2 s))))
+
+  checks-listed : (n m : ℕ) (s : List ℕ) → Listed table (checksCauses n m s)
+  unfolding checksCauses
+  checks-listed n zero s = nil table
+  checks-listed n (suc m) s =
+      both table (checkCauses n s) (checksCauses n m (afterCheck s))
+      (cons table 1 (short 2 s) _ refl
+      (cons table 2 (not (eqb (twoBytes s) 0x4C43)) _ refl
+      (cons table 1 (short 3 s) _ refl
+      (cons table 4 (outside 3 32 (degree s)) _ refl
+      (indices-listed n (degree s) 0 (drop 3 s))))))
+      (checks-listed n m (afterCheck s))
+
+  records-listed : (s : List ℕ) → Listed table (recordCauses s)
+  unfolding recordCauses
+  records-listed s =
+      both table (headerCauses s) _
+      (cons table 1 (short 2 s) _ refl
+      (cons table 2 (not (eqb (twoBytes s) 0x4C48)) _ refl
+      (cons table 1 (short 4 s) _ refl
+      (cons table 3 (outside 3 4096 (bitCount s)) _ refl
+      (cons table 1 (short 6 s) _ refl
+      (cons table 3 (outside 1 2048 (checkCount s)) _ refl (nil table)))))))
+      (both table (checksCauses (bitCount s) (checkCount s) (drop 6 s)) _ (checks-listed (bitCount s) (checkCount s) (drop 6 s))
+      (cons table 9 (ltb 0 (length (afterChecks (checkCount s) (drop 6 s)))) _ refl
+      (cons table 7 (ltb 8192 (triples (codeOf s))) _ refl
+      (cons table 8 (not (covered (codeOf s))) _ refl (nil table)))))
+
+  -- an entry that reads records, with the causes l after them
+  pub after-records : (b l : List ℕ) (number : ℕ) → Listed table l → number ≡ firstOf (judge b ∷ l) → Ordered (recordCauses b ++ l) table number
+  after-records b l number h e =
+      ordered (recordCauses b ++ l) table number (both table (recordCauses b) l (records-listed b) h)
+      (e ∙ rw (judge-order b) (first-in (recordCauses b) l))
+
+pub records-ordered : (b : List ℕ) → Ordered (recordCauses b) oneToNine (judge b)
+records-ordered b = ordered (recordCauses b) oneToNine (judge b) (records-listed [] b) (judge-order b)
+
+-- ---- the entries that end with the test of a word, or with a run
+-- where no cause of l holds, the number of what follows is one cause more
+pub then-more : (l m : List ℕ) → accepted (firstOf l) (firstOf m) (firstOf l) ≡ firstOf (l ++ m)
+then-more [] m = refl
+then-more (zero ∷ l) m = then-more l m
+then-more (suc c ∷ l) m = refl
+
+number-of : (c : ℕ) (x y : Outcome) → accepted c x y .number ≡ accepted c (x .number) (y .number)
+number-of zero x y = refl
+number-of (suc c) x y = refl
+
+tested-order : (k : Code) (w : List ℕ) → tested k w .number ≡ firstOf (oddCauses k w)
+unfolding tested
+tested-order k w = by (ltb (firstOdd k w) (length (k .checks)))
+  where
+    by : (t : Bool) → cond {A = Outcome} t (record { number = 17; place = firstOdd k w }) (record { number = 0; place = 0 }) .number ≡ firstOf (17 if t ∷ [])
+    by true = refl
+    by false = refl
+
+pub outcome-order : (k : Code) (c : List ℤ) → outcome k c .number ≡ firstOf (runCauses k c)
+unfolding outcome
+outcome-order k c = by (ltb (firstUndecided k c) (k .bits))
+  where
+    by : (t : Bool) → cond t (record { number = 16; place = firstUndecided k c }) (tested k (wordOf k c)) .number
+        ≡ firstOf (16 if t ∷ oddCauses k (wordOf k c))
+    by true = refl
+    by false = tested-order k (wordOf k c)
+
+-- a word's test after the causes l
+pub word-order : (k : Code) (w l : List ℕ)
+    → accepted (firstOf l) (tested k w) (record { number = firstOf l; place = 0 }) .number ≡ firstOf (l ++ oddCauses k w)
+word-order k w l = number-of (firstOf l) (tested k w) (record { number = firstOf l; place = 0 }) ∙ rw (tested-order k w) (then-more l (oddCauses k w))

@@ -1,0 +1,122 @@
+-- The listed frames as whole calls, at the real quotient. Assumes nothing.
+use mathlib.Core.Path.{_≡_, refl, fun-ext}
+use mathlib.Core.Bool.{Bool, true, false}
+use mathlib.Core.Logic.{_↔_}
+use mathlib.Core.List.{List, [], _∷_}
+use Prim.Native.Nat.{ℕ, suc, _*_}
+use native.Mathlib.Omega.{arith}
+use lib.Dec.{ltb}
+use lib.IntN.{ℤ, pos}
+use lib.ListN.{length}
+use lib.Ieee.{inf, fin, up, lt}
+use lib.Ieee.Fits.{up-pos}
+use native.Mathlib.Nat.{mul-pos, zero-lt-suc}
+use borrow.Author.Tests.{ltb-false, le-ltb, lt-ltb}
+use Rattle.lists.specs.Entries.{some}
+use Rattle.quotient.specs.Quotient.{quotient}
+use Rattle.model.specs.declared.Settings.{Settings}
+use Rattle.model.specs.Causes.{outside}
+use Rattle.model.specs.Code.{triples}
+use Rattle.model.specs.Records.{twoBytes, numbers, checksIn, afterChecks, codeOf, judgeHeader, judgeIndices, judgeCheck, judgeChecks, covered, judge}
+use Rattle.model.specs.Splitting.{queue, triplesFrom, systemOf}
+use Rattle.model.specs.Iteration.{sign, rowSum, share, sumOf, occurrences, sumsOf, countsOf, valuesOf, rowsOf, iterate}
+use Rattle.model.specs.Run.{changes, settledBy, start, after, runFrom, run}
+use Rattle.model.specs.Words.{wordOf, firstUndecided, firstOdd, tested, outcome}
+use Rattle.model.specs.Calls.{wild, unequal, forbidden, Lists, Decoded, noRoom, decoderCause, decodedBy, decoder, reader}
+use Rattle.model.specs.Table.{settings, by-hand}
+use Rattle.model.specs.WholeCalls.{listed, Room, WholeCalls, InRange, RunEdges, ChannelEdges}
+use Rattle.model.specs.Channel.{scaleInRange, floorInRange, inRange}
+use Rattle.model.proofs.Floats.{above-zero, below-zero}
+use Rattle.model.proofs.Causes.{or-false, within, inside}
+use Rattle.model.proofs.Worked.{computes, quotient-computes}
+
+room : (l : Lists) → Room l → noRoom (codeOf listed) l ≡ false
+unfolding codeOf twoBytes numbers checksIn
+room l r =
+    rw (
+      le-ltb (length (l .triples)) 3 (r .triples),
+      le-ltb (length (l .counts)) 3 (r .counts),
+      le-ltb (length (l .sums)) 3 (r .sums),
+      le-ltb (length (l .values)) 3 (r .values),
+      le-ltb (length (l .rows)) 4 (r .rows),
+      le-ltb (length (l .word)) 3 (r .word),
+    )
+
+-- the call over another division
+abbrev callBy : (ℤ → ℤ → ℤ) → List ℤ → Lists → Decoded
+callBy div costs l = decodedBy (codeOf listed) (run div (systemOf (codeOf listed)) (settings 256 0) costs) l
+
+called : (costs : List ℤ) (l : Lists) → Room l → unequal costs 3 ≡ false → some forbidden costs ≡ false → decoder listed (settings 256 0) costs l ≡ callBy computes costs l
+unfolding decoder decoderCause judge judgeHeader judgeChecks judgeCheck judgeIndices afterChecks covered codeOf twoBytes numbers checksIn
+called costs l r e f =
+    let q : quotient ≡ computes = fun-ext (λ n. fun-ext (quotient-computes n)) in
+    rw (e, f, room l r, q)
+
+pub whole-calls : WholeCalls
+unfolding reader decodedBy judge judgeHeader judgeChecks judgeCheck judgeIndices afterChecks covered codeOf twoBytes numbers checksIn queue triplesFrom systemOf sign rowSum share sumOf occurrences sumsOf countsOf valuesOf rowsOf iterate changes settledBy start after runFrom wordOf firstUndecided firstOdd tested outcome
+whole-calls = record {
+  code = refl;
+  undecided = λ l r. called (pos 0 ∷ pos 0 ∷ pos 0 ∷ []) l r refl refl;
+  odd = λ l r. called by-hand l r refl refl;
+  word = λ l r. called (pos 20000 ∷ pos 20000 ∷ pos 20000 ∷ []) l r refl refl;
+}
+
+-- ---- settings
+in-range : (o : Settings) → (wild o ≡ false) ↔ InRange o
+in-range o = (
+  λ h.
+      let a = or-false (outside 1 65535 (o .weight)) _ h in
+      let b = or-false (ltb 1023 (o .ratio)) _ (a .1) in
+      record { weight = within 1 65535 (o .weight) (a .0); ratio = ltb-false 1023 (o .ratio) (b .0); limit = within 1 1000 (o .limit) (b .1) },
+  λ r. rw (inside 1 65535 (o .weight) (r .weight .0) (r .weight .1), le-ltb 1023 (o .ratio) (r .ratio), inside 1 1000 (o .limit) (r .limit .0) (r .limit .1)),
+)
+
+pub run-edges : RunEdges
+run-edges = record {
+  exactly = in-range;
+  least = λ X. refl;
+  most = λ X. refl;
+  weight-0 = λ A K X. refl;
+  weight-beyond = λ A K X. refl;
+  ratio-beyond = λ X. refl;
+  limit-0 = λ X. refl;
+  limit-beyond = λ X. refl;
+}
+
+none-times : (e : ℤ) → ltb 0 (0 * up e) ≡ false
+none-times e = le-ltb 0 (0 * up e) (omega arith)
+
+some-times : (m : ℕ) (e : ℤ) → ltb 0 (suc m * up e) ≡ true
+some-times m e = lt-ltb 0 (suc m * up e) (mul-pos (zero-lt-suc m) (up-pos e))
+
+pub channel-edges : ChannelEdges
+unfolding inRange lt
+channel-edges = record {
+  kinds = λ x y. (refl, refl, refl);
+  scale-above = λ m e. rw (above-zero false (suc m) e, some-times m e);
+  scale-zero = by;
+  scale-below = λ m e. rw (above-zero true m e);
+  scale-infinite = ends;
+  scale-none = refl;
+  floor-above = λ m e. rw (below-zero false m e);
+  floor-zero = not-below;
+  floor-below = λ m e. rw (below-zero true (suc m) e, some-times m e);
+  floor-infinite = bounds;
+  floor-none = refl;
+}
+  where
+    by : (s : Bool) (e : ℤ) → scaleInRange (fin s 0 e) ≡ false
+    by true e = rw (above-zero true 0 e)
+    by false e = rw (above-zero false 0 e, none-times e)
+
+    not-below : (s : Bool) (e : ℤ) → floorInRange (fin s 0 e) ≡ true
+    not-below true e = rw (below-zero true 0 e, none-times e)
+    not-below false e = rw (below-zero false 0 e)
+
+    ends : (s : Bool) → scaleInRange (inf s) ≡ false
+    ends true = refl
+    ends false = refl
+
+    bounds : (s : Bool) → floorInRange (inf s) ≡ false
+    bounds true = refl
+    bounds false = refl

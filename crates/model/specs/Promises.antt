@@ -1,0 +1,116 @@
+-- What each entry promises of every call: the equation with its definition in Calls, and what follows from it in the words of the demands. An entry's
+-- contract cites its record, and so does the C function over it. Statements only; the proofs are in proofs/Promises.antt.
+use mathlib.Core.Path.{_≡_}
+use mathlib.Core.Bool.{false}
+use mathlib.Core.Logic.{_↔_, _⊎_}
+use mathlib.Core.List.{List, [], _∷_, _++_, map}
+use Prim.Native.Nat.{ℕ, suc, _≤_, _<_}
+use lib.Ieee.{Float, nan, neg}
+use lib.IntN.{ℤ, negℤ}
+use lib.ListN.{length, getD, take}
+use Rattle.lists.specs.Tabulated.{written}
+use Rattle.model.specs.declared.Settings.{Settings}
+use Rattle.model.specs.declared.Channel as declared
+use Rattle.model.specs.Causes.{accepted}
+use Rattle.model.specs.Code.{Code, triples, variables}
+use Rattle.model.specs.Records.{codeOf, judge, recordCauses, recordsOf}
+use Rattle.model.specs.Sound.{Sound}
+use Rattle.model.specs.Splitting.{systemOf}
+use Rattle.model.specs.Iteration.{at, countsOf}
+use Rattle.model.specs.Words.{Outcome, tested}
+use Rattle.model.specs.Points.{Codeword, Point, pointOf}
+use Rattle.model.specs.Reflection.{reflect}
+use Rattle.model.specs.Channel.{product, costOf}
+use Rattle.model.specs.Calls.{ReaderAnswer, reader, Split, splitterCauses, splitter, wordCauses, codewordTest, Extended, extensionCauses, extension}
+use Rattle.model.specs.Calls.{Lists, Decoded, noRoom, decoderCauses, decoderCause, decoder, Costs, frontCauses, channelFront, reflectorCauses, reflector}
+use Rattle.model.specs.Order.{oddCauses, runCauses, Ordered, oneToNine}
+use Rattle.model.specs.WordClaims.{Tested, PointOf}
+use Rattle.model.specs.ChannelClaims.{Costed}
+use Rattle.model.specs.Claims.{Demand3}
+use Rattle.model.specs.Entry.{runOf, Refused, Ran, Iterated, ReflectedCalls}
+
+-- ---- the reader: a is what it tells of the bytes b
+pub record ReaderCall (b : List ℕ) (a : ReaderAnswer) : Type 0 where
+  pub equation : a ≡ reader b
+  pub order : Ordered (recordCauses b) oneToNine (a .number)
+  -- the accepted bytes are the records of the codes that 'Code records' describes
+  pub exactly : (a .number ≡ 0) ↔ ((k : Code) × Sound k × (b ≡ recordsOf k))
+  pub refused : (c : ℕ) → a .number ≡ suc c → a ≡ record { number = suc c; bits = 0; checks = 0; triples = 0 }
+  pub read : a .number ≡ 0
+      → a ≡ record { number = 0; bits = codeOf b .bits; checks = length (codeOf b .checks); triples = triples (codeOf b) }
+
+-- ---- the splitting: a is its number and the lists that were ts and cs
+pub record SplitterCall (b ts cs : List ℕ) (a : Split) : Type 0 where
+  pub equation : a ≡ splitter b ts cs
+  pub order : Ordered (recordCauses b ++ splitterCauses (codeOf b) ts cs) (oneToNine ++ (10 ∷ [])) (a .number)
+  pub refused : (c : ℕ) → a .number ≡ suc c → (a .triples ≡ ts) × (a .counts ≡ cs)
+  pub split : a .number ≡ 0 → (a .triples ≡ written (systemOf (codeOf b) .members) ts) × (a .counts ≡ written (countsOf (systemOf (codeOf b))) cs)
+
+-- ---- the channel front: a is its number and the list that was old
+pub record FrontCall (setting : declared.Channel) (samples : List Float) (old : List ℤ) (a : Costs) : Type 0 where
+  pub equation : a ≡ channelFront setting samples old
+  pub order : Ordered (frontCauses setting samples old) (10 ∷ 11 ∷ 14 ∷ []) (a .number)
+  pub refused : (c : ℕ) → a .number ≡ suc c → a .costs ≡ old
+  pub filled : a .number ≡ 0 → a .costs ≡ written (map (costOf setting) samples) old
+  -- "The cost is the nearest whole number, halves away from zero, limited to −32,767..32,767; an infinite product goes to the limit."
+  pub costed : a .number ≡ 0 → (i : ℕ) → i < length samples → Costed (product setting (getD samples i nan)) (at (a .costs) i)
+  -- "Negated samples give negated costs.": the number stays, and an accepted call writes the negated costs
+  pub negated : channelFront setting (map neg samples) old ≡ record {
+    number = a .number;
+    costs = accepted (a .number) (written (map negℤ (map (costOf setting) samples)) old) old;
+  }
+
+-- ---- the reflector: a is its number and the list that was old
+pub record ReflectorCall (costs : List ℤ) (w : List ℕ) (old : List ℤ) (a : Costs) : Type 0 where
+  pub equation : a ≡ reflector costs w old
+  pub order : Ordered (reflectorCauses costs w old) (10 ∷ 12 ∷ 13 ∷ 15 ∷ []) (a .number)
+  pub refused : (c : ℕ) → a .number ≡ suc c → a .costs ≡ old
+  pub reflected : a .number ≡ 0 → a .costs ≡ written (reflect w costs) old
+
+-- ---- the codeword test: a is what it tells of the word w
+pub record TestCall (b w : List ℕ) (a : Outcome) : Type 0 where
+  pub equation : a ≡ codewordTest b w
+  pub order : Ordered (recordCauses b ++ (wordCauses (codeOf b .bits) w ++ oddCauses (codeOf b) w)) (oneToNine ++ (12 ∷ 15 ∷ 17 ∷ [])) (a .number)
+  -- the number 0 is for the codewords of accepted codes
+  pub codeword : (a .number ≡ 0) ↔ ((judge b ≡ 0) × Codeword (codeOf b) w)
+  -- 17: "not a codeword, with the first such check"; no other number has a place
+  pub odd : a .number ≡ 17 → (a ≡ tested (codeOf b) w) × Tested (codeOf b) w
+  pub place : (a .number ≡ 17 → ⊥) → a .place ≡ 0
+
+-- ---- the extension: a is what it tells of the word w, and the list that was p
+pub record ExtensionCall (b w p : List ℕ) (a : Extended) : Type 0 where
+  pub equation : a ≡ extension b w p
+  pub order : Ordered (recordCauses b ++ (extensionCauses (codeOf b) w p ++ oddCauses (codeOf b) w)) (oneToNine ++ (10 ∷ 12 ∷ 15 ∷ 17 ∷ []))
+      (a .outcome .number)
+  -- the number 0 is for the codewords of accepted codes, where there is room
+  pub codeword : (a .outcome .number ≡ 0) ↔ ((judge b ≡ 0) × (variables (codeOf b) ≤ length p) × Codeword (codeOf b) w)
+  -- with it the codeword's point is written, which is the only point over the codeword
+  pub filled : a .outcome .number ≡ 0 → a .point ≡ written (pointOf (codeOf b) w) p
+  pub point : a .outcome .number ≡ 0 → PointOf (codeOf b) w (take (variables (codeOf b)) (a .point))
+  pub only : a .outcome .number ≡ 0 → (x : List ℕ) → Point (systemOf (codeOf b)) x → take (codeOf b .bits) x ≡ w
+      → x ≡ take (variables (codeOf b)) (a .point)
+  pub odd : a .outcome .number ≡ 17 → (a .outcome ≡ tested (codeOf b) w) × Tested (codeOf b) w
+  pub place : (a .outcome .number ≡ 17 → ⊥) → a .outcome .place ≡ 0
+  pub untouched : (a .outcome .number ≡ 0 → ⊥) → a .point ≡ p
+
+-- ---- the decoder: d is its answer and the lists that were l
+pub record DecoderCall (b : List ℕ) (o : Settings) (costs : List ℤ) (l : Lists) (d : Decoded) : Type 0 where
+  pub equation : d ≡ decoder b o costs l
+  -- demand 1
+  pub order : Ordered (recordCauses b ++ (decoderCauses (codeOf b) o costs l ++ runCauses (codeOf b) (runOf b o costs .last .values)))
+      (oneToNine ++ (10 ∷ 11 ∷ 12 ∷ 13 ∷ 16 ∷ 17 ∷ [])) (d .answer .number)
+  pub refused : (c : ℕ) → decoderCause b o costs l ≡ suc c → Refused b o costs l d
+  -- demand 2
+  pub ran : decoderCause b o costs l ≡ 0 → Ran b o costs l d
+  pub iterated : decoderCause b o costs l ≡ 0 → Iterated b o costs l d
+  -- demand 3 of the code, and of this call and a second one, which gave e, with the costs that w reflects and lists m of its own that have the room
+  pub demand-3 : judge b ≡ 0 → Demand3 (codeOf b)
+  pub reflected : decoderCause b o costs l ≡ 0 → (w : List ℕ) → Codeword (codeOf b) w → (m : Lists) → noRoom (codeOf b) m ≡ false
+      → (e : Decoded) → e ≡ decoder b o (reflect w costs) m → ReflectedCalls b o costs w m d e
+  -- end to end, by the answers alone: this call ended with 0, 16 or 17, the codeword test of w with t, the reflector in the list old with r, and a second
+  -- call with the costs that the reflector wrote with e
+  pub end-to-end : (d .answer .number ≡ 0) ⊎ ((d .answer .number ≡ 16) ⊎ (d .answer .number ≡ 17))
+      → (w : List ℕ) (t : Outcome) → TestCall b w t → t .number ≡ 0
+      → (old : List ℤ) (r : Costs) → ReflectorCall costs w old r → r .number ≡ 0
+      → (m : Lists) → noRoom (codeOf b) m ≡ false
+      → (e : Decoded) → e ≡ decoder b o (take (length costs) (r .costs)) m → ReflectedCalls b o costs w m d e

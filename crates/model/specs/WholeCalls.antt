@@ -1,0 +1,89 @@
+-- Document 01, 'The frame program' and 'Numbers by hand': the three listed frames as whole calls of the decoder on bytes; and the ends of the
+-- ranges of settings. Statements only; the proofs are in proofs/WholeCalls.antt.
+use mathlib.Core.Path.{_≡_}
+use mathlib.Core.Bool.{Bool, true, false, _&&_}
+use mathlib.Core.Logic.{_↔_}
+use mathlib.Core.List.{List, [], _∷_}
+use Prim.Native.Nat.{ℕ, suc, _≤_}
+use lib.Ieee.{Float, nan, inf, fin}
+use lib.IntN.{ℤ, pos}
+use lib.ListN.{length}
+use Rattle.lists.specs.Tabulated.{written}
+use Rattle.model.specs.declared.Settings.{Settings}
+use Rattle.model.specs.declared.Channel.the-variants.{Gaussian, Hard, Erasing}
+use Rattle.model.specs.Channel.{scaleInRange, floorInRange, inRange}
+use Rattle.model.specs.Calls.{wild, Lists, decoder, reader}
+use Rattle.model.specs.Table.{−_, settings, by-hand}
+
+-- "Code n = 3 with check (0,1,2)": its records
+abbrev pub listed : List ℕ
+listed = 0x4C ∷ 0x48 ∷ 0 ∷ 3 ∷ 0 ∷ 1 ∷ 0x4C ∷ 0x43 ∷ 3 ∷ 0 ∷ 0 ∷ 0 ∷ 1 ∷ 0 ∷ 2 ∷ []
+
+-- lists in which a call with this code has room
+pub record Room (l : Lists) : Type 0 where
+  pub triples : 3 ≤ length (l .triples)
+  pub counts : 3 ≤ length (l .counts)
+  pub sums : 3 ≤ length (l .sums)
+  pub values : 3 ≤ length (l .values)
+  pub rows : 4 ≤ length (l .rows)
+  pub word : 3 ≤ length (l .word)
+
+-- what a call with this code leaves in the lists l: its triples and counts, S, c and s, and a word
+abbrev pub leaves : Lists → List ℤ → List ℤ → List ℤ → List ℕ → Lists
+leaves l S c s w = record {
+  triples = written (0 ∷ 1 ∷ 2 ∷ []) (l .triples);
+  counts = written (1 ∷ 1 ∷ 1 ∷ []) (l .counts);
+  sums = written S (l .sums);
+  values = written c (l .values);
+  rows = written s (l .rows);
+  word = w;
+}
+
+pub record WholeCalls : Type 0 where
+  pub code : reader listed ≡ record { number = 0; bits = 3; checks = 1; triples = 1 }
+  -- "frames (0,0,0), (20000,20000,−8000), (20000,20000,20000) print" U 2 1 0, N 2 0 0, W 2 0 000
+  pub undecided : (l : Lists) → Room l → decoder listed (settings 256 0) (pos 0 ∷ pos 0 ∷ pos 0 ∷ []) l ≡ record {
+    answer = record { number = 16; place = 0; k = 2; settled = 1 };
+    lists = leaves l (pos 0 ∷ pos 0 ∷ pos 0 ∷ []) (pos 0 ∷ pos 0 ∷ pos 0 ∷ []) ((− 16384) ∷ (− 16384) ∷ (− 16384) ∷ (− 16384) ∷ []) (l .word);
+  }
+  pub odd : (l : Lists) → Room l → decoder listed (settings 256 0) by-hand l ≡ record {
+    answer = record { number = 17; place = 0; k = 2; settled = 0 };
+    lists = leaves l (pos 20000 ∷ pos 20000 ∷ (− 8000) ∷ []) ((− 10000) ∷ (− 10000) ∷ pos 4000 ∷ []) ((− 20384) ∷ (− 20384) ∷ pos 7616 ∷ (− 32384) ∷ []) (l .word);
+  }
+  pub word : (l : Lists) → Room l → decoder listed (settings 256 0) (pos 20000 ∷ pos 20000 ∷ pos 20000 ∷ []) l ≡ record {
+    answer = record { number = 0; place = 0; k = 2; settled = 0 };
+    lists = leaves l (pos 20000 ∷ pos 20000 ∷ pos 20000 ∷ []) ((− 10000) ∷ (− 10000) ∷ (− 10000) ∷ []) ((− 6384) ∷ (− 6384) ∷ (− 6384) ∷ (− 46384) ∷ [])
+        (written (0 ∷ 0 ∷ 0 ∷ []) (l .word));
+  }
+
+-- "cost weight W (1 to 65,535), ratio A (0 to 1,023 …), iterations K (1 to 1,000), tolerance X (any 32-bit unsigned)"
+pub record InRange (o : Settings) : Type 0 where
+  pub weight : (1 ≤ o .weight) × (o .weight ≤ 65535)
+  pub ratio : o .ratio ≤ 1023
+  pub limit : (1 ≤ o .limit) × (o .limit ≤ 1000)
+
+pub record RunEdges : Type 0 where
+  pub exactly : (o : Settings) → (wild o ≡ false) ↔ InRange o
+  -- "A 1,023 passes, 1,024 gets 11; K 1 and 1,000 pass, 0 and 1,001 get 11", and W
+  pub least : (X : ℕ) → wild (record { weight = 1; ratio = 0; limit = 1; tolerance = X }) ≡ false
+  pub most : (X : ℕ) → wild (record { weight = 65535; ratio = 1023; limit = 1000; tolerance = X }) ≡ false
+  pub weight-0 : (A K X : ℕ) → wild (record { weight = 0; ratio = A; limit = K; tolerance = X }) ≡ true
+  pub weight-beyond : (A K X : ℕ) → wild (record { weight = 65536; ratio = A; limit = K; tolerance = X }) ≡ true
+  pub ratio-beyond : (X : ℕ) → wild (record { weight = 1; ratio = 1024; limit = 1; tolerance = X }) ≡ true
+  pub limit-0 : (X : ℕ) → wild (record { weight = 1; ratio = 0; limit = 0; tolerance = X }) ≡ true
+  pub limit-beyond : (X : ℕ) → wild (record { weight = 1; ratio = 0; limit = 1001; tolerance = X }) ≡ true
+
+-- "Scale and weight are finite and above 0, the floor finite and not below 0", for every float: fin s m e is ± m × 2 ^ e
+pub record ChannelEdges : Type 0 where
+  pub kinds : (x y : Float) → (inRange (Gaussian x) ≡ scaleInRange x) × (inRange (Hard x) ≡ scaleInRange x)
+      × (inRange (Erasing (record { floor = x; weight = y })) ≡ (floorInRange x && scaleInRange y))
+  pub scale-above : (m : ℕ) (e : ℤ) → scaleInRange (fin false (suc m) e) ≡ true
+  pub scale-zero : (s : Bool) (e : ℤ) → scaleInRange (fin s 0 e) ≡ false
+  pub scale-below : (m : ℕ) (e : ℤ) → scaleInRange (fin true m e) ≡ false
+  pub scale-infinite : (s : Bool) → scaleInRange (inf s) ≡ false
+  pub scale-none : scaleInRange nan ≡ false
+  pub floor-above : (m : ℕ) (e : ℤ) → floorInRange (fin false m e) ≡ true
+  pub floor-zero : (s : Bool) (e : ℤ) → floorInRange (fin s 0 e) ≡ true
+  pub floor-below : (m : ℕ) (e : ℤ) → floorInRange (fin true (suc m) e) ≡ false
+  pub floor-infinite : (s : Bool) → floorInRange (inf s) ≡ false
+  pub floor-none : floorInRange nan ≡ false
