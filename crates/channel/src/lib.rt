@@ -4,14 +4,15 @@ ghost use mathlib.Core.Bool.{true, false, not, cond};
 ghost use mathlib.Core.List.{map};
 ghost use Prim.Native.Nat.{_≤_, _^_, min, max};
 ghost use lib.Dec.{T};
-ghost use lib.Ieee.{binary32, isNan, lt, toBits};
+ghost use lib.Ieee.{binary32, fits, isNan, lt, toBits};
 ghost use lib.IntN.{pos};
 ghost use lib.ListN.{length};
 ghost use Rattle.integers.specs.Nearest.{nearest};
 ghost use Rattle.lists.specs.Entries.{some};
 ghost use Rattle.lists.specs.Tabulated.{written};
 ghost use Rattle.model.specs.Channel.{finite, zeroFloat, scaleInRange, floorInRange, inRange, sizeOf, magnitude, costOfBits, costOf};
-ghost use Rattle.model.specs.Calls.{channelFront};
+ghost use Rattle.model.specs.ChannelClaims.{ofSingles};
+ghost use Rattle.model.specs.Promises.{FrontCall};
 use model::Channel;
 use model::Erasure;
 
@@ -70,20 +71,24 @@ fn is_finite(x: f32) -> bool
     size(x) < f32::from_bits(0x7f80_0000)
 }
 
+// The type of x says that it is an f32 value, as `FrontCall` wants it of a setting.
 fn scale_in_range(x: f32) -> bool
     ensures { λ r. ⌜ r ≡ scaleInRange x ⌝ }
+    ensures { λ _. ⌜ fits binary32 x ≡ true ⌝ }
 {
     (0.0 < x) & is_finite(x)
 }
 
 fn floor_in_range(x: f32) -> bool
     ensures { λ r. ⌜ r ≡ floorInRange x ⌝ }
+    ensures { λ _. ⌜ fits binary32 x ≡ true ⌝ }
 {
     !(x < 0.0) & is_finite(x)
 }
 
 fn in_range(setting: Channel) -> bool
     ensures { λ r. ⌜ r ≡ inRange setting ⌝ }
+    ensures { λ _. ⌜ ofSingles setting ≡ true ⌝ }
 {
     match setting {
         Channel::Gaussian(scale) => scale_in_range(scale),
@@ -166,8 +171,7 @@ fn fill(setting: Channel, samples: &[f32], costs: &mut [i16])
 
 // The costs of the samples, or the number of the cause.
 pub fn front(setting: Channel, samples: &[f32], costs: &mut [i16]) -> u32
-    ensures number { λ r. ⌜ r ≡ channelFront setting (now (samples .entry)) (now (costs .entry)) .number ⌝ }
-    ensures costs { λ r. ⌜ now (costs .exit) ≡ channelFront setting (now (samples .entry)) (now (costs .entry)) .costs ⌝ }
+    ensures { λ r. ⌜ FrontCall setting (now (samples .entry)) (now (costs .entry)) (record { number = r; costs = now (costs .exit) }) ⌝ }
 {
     if !in_range(setting) {
         return 11;

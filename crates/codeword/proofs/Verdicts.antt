@@ -1,29 +1,31 @@
 -- The answers of the codeword test and of the extension, by their causes in order. Assumes nothing.
-use mathlib.Core.Path.{_≡_, refl, _∙_}
-use mathlib.Core.Bool.{Bool, true, false}
-use mathlib.Core.List.{List, [], _∷_}
+use mathlib.Core.Path.{_≡_, refl, sym, _∙_}
+use mathlib.Core.List.{List, [], _∷_, _++_}
 use Prim.Native.Nat.{ℕ, zero, suc, _≤_, _<_}
 use native.Mathlib.Omega.{arith}
 use borrow.Author.Tests.{lt-ltb, le-ltb, eqb-true, not-false}
 use lib.ListN.{length}
 use Rattle.lists.specs.Tabulated.{written}
-use Rattle.lists.specs.Entries.{some}
 use Rattle.model.specs.declared.Verdict.{Verdict}
 use Rattle.model.specs.Causes.{_if_, firstOf, short, accepted}
 use Rattle.model.specs.Code.{variables}
 use Rattle.model.specs.Records.{codeOf, judge}
 use Rattle.model.specs.Words.{firstOdd, tested}
 use Rattle.model.specs.Points.{pointOf}
-use Rattle.model.specs.Calls.{unequal, notBinary, verdictTold, codewordTest, Extended, extension}
-use Rattle.model.proofs.Causes.{clear, unless}
+use Rattle.model.specs.Calls.{verdictTold, wordCauses, codewordTest, extension}
+use Rattle.model.specs.Told.{verdictKind}
+use Rattle.model.specs.Promises.{TestCall, ExtensionCall}
+use Rattle.model.proofs.Causes.{first-in, clear, unless}
+use Rattle.model.proofs.Order.{nil, cons}
+use Rattle.model.proofs.Promises.{word-refuses, test-call, extension-call}
 
 -- ---- the causes of both calls: the code, the word, then l
 abbrev pub word-cause : ℕ → List ℕ → ℕ
-word-cause n w = firstOf (12 if unequal w n ∷ 15 if some notBinary w ∷ [])
+word-cause n w = firstOf (wordCauses n w)
 
 pub word-long : (n : ℕ) (w : List ℕ) → word-cause n w ≡ 0 → length w ≡ n
 word-long n w h =
-    let x = clear (12 if unequal w n ∷ 15 if some notBinary w ∷ []) h in
+    let x = clear (wordCauses n w) h in
     eqb-true (length w) n (not-false _ (unless 11 _ (x .0)))
 
 -- of the extension: no room for the point
@@ -32,20 +34,15 @@ no-room b p = 10 if short (variables (codeOf b)) p ∷ []
 
 module _ (b w : List ℕ) where
   abbrev pub causes : List ℕ → ℕ
-  causes l = firstOf (judge b ∷ 12 if unequal w (codeOf b .bits) ∷ 15 if some notBinary w ∷ l)
+  causes l = firstOf (judge b ∷ (wordCauses (codeOf b .bits) w ++ l))
 
-  pub by-code : (l : List ℕ) (c : ℕ) → judge b ≡ c → 0 < c → causes l ≡ c
+  pub by-code : (l : List ℕ) (c : ℕ) → judge b ≡ c → 1 ≤ c → causes l ≡ c
   by-code l zero e h = absurd (omega arith)
   by-code l (suc c) e h = rw e
 
   module _ (l : List ℕ) (n : ℕ) (judged : judge b ≡ 0) (bits : n ≡ codeOf b .bits) where
     after : causes l ≡ firstOf (word-cause n w ∷ l)
-    after = rw (judged, bits) (by (unequal w (codeOf b .bits)) (some notBinary w))
-      where
-        by : (s t : Bool) → firstOf (12 if s ∷ 15 if t ∷ l) ≡ firstOf (firstOf (12 if s ∷ 15 if t ∷ []) ∷ l)
-        by true t = refl
-        by false true = refl
-        by false false = refl
+    after = rw (judged, bits) (sym (first-in (wordCauses (codeOf b .bits) w) l))
 
     pub by-word : (c : ℕ) → c ≡ word-cause n w → (c ≡ 0 → ⊥) → causes l ≡ c
     by-word zero e h = absurd (h refl)
@@ -64,26 +61,29 @@ module _ (b w : List ℕ) where
     unfolding tested
     even-told j e h = rw (← e, le-ltb j (length (codeOf b .checks)) (omega arith))
 
-  pub test-refused : (c : ℕ) → causes [] ≡ c → (c ≡ 0 → ⊥) → verdictTold (Verdict.Refused c) ≡ codewordTest b w
+  abbrev pub Tested : Verdict → Type 0
+  Tested v = TestCall b w (verdictTold v) × verdictKind v
+
+  pub test-refused : (c : ℕ) → causes [] ≡ c → (c ≡ 0 → ⊥) → Tested (Verdict.Refused c)
   unfolding codewordTest
   test-refused zero e h = absurd (h refl)
-  test-refused (suc c) e h = rw e
+  test-refused (suc c) e h = (test-call b w _ (rw e), word-refuses b w [] (nil _) c e)
 
-  pub test-passed : causes [] ≡ 0 → codewordTest b w ≡ tested (codeOf b) w
+  pub test-passed : (v : Verdict) → verdictKind v → causes [] ≡ 0 → verdictTold v ≡ tested (codeOf b) w → Tested v
   unfolding codewordTest
-  test-passed e = rw e
+  test-passed v k e t = (test-call b w _ (rw e t), k)
 
   -- ---- and of the point
   module _ (p : List ℕ) where
-    abbrev pub Told : Verdict → List ℕ → Type 0
-    Told v q = _≡_ {A = Extended} (record { outcome = verdictTold v; point = q }) (extension b w p)
+    abbrev pub Extends : Verdict → List ℕ → Type 0
+    Extends v q = ExtensionCall b w p (record { outcome = verdictTold v; point = q }) × verdictKind v
 
-    pub extend-refused : (c : ℕ) → causes (no-room b p) ≡ c → (c ≡ 0 → ⊥) → Told (Verdict.Refused c) p
+    pub extend-refused : (c : ℕ) → causes (no-room b p) ≡ c → (c ≡ 0 → ⊥) → Extends (Verdict.Refused c) p
     unfolding extension
     extend-refused zero e h = absurd (h refl)
-    extend-refused (suc c) e h = rw e
+    extend-refused (suc c) e h = (extension-call b w p _ (rw e), word-refuses b w (no-room b p) (cons _ 10 (short (variables (codeOf b)) p) [] refl (nil _)) c e)
 
-    pub extend-passed : (v : Verdict) (q : List ℕ) → causes (no-room b p) ≡ 0 → verdictTold v ≡ tested (codeOf b) w
-        → q ≡ accepted (verdictTold v .number) (written (pointOf (codeOf b) w) p) p → Told v q
+    pub extend-passed : (v : Verdict) (q : List ℕ) → verdictKind v → causes (no-room b p) ≡ 0 → verdictTold v ≡ tested (codeOf b) w
+        → q ≡ accepted (verdictTold v .number) (written (pointOf (codeOf b) w) p) p → Extends v q
     unfolding extension
-    extend-passed v q e t r = rw (e, ← t, r)
+    extend-passed v q k e t r = (extension-call b w p _ (rw (e, ← t, r)), k)

@@ -1,11 +1,10 @@
 // The codeword test and the extension of a codeword to its point (document 01, 'Points and reflection').
 ghost use mathlib.Core.Path.{_≡_};
-ghost use mathlib.Core.List.{[], _∷_, _++_};
+ghost use mathlib.Core.List.{_++_};
 ghost use Prim.Native.Nat.{ℕ, _+_, _*_, _%_, _≤_, _<_};
 ghost use lib.ListN.{length, getD, take, drop};
 ghost use Rattle.lists.specs.Tabulated.{written};
-ghost use Rattle.lists.specs.Entries.{some};
-ghost use Rattle.model.specs.Causes.{_if_, firstOf};
+ghost use Rattle.model.specs.Causes.{firstOf};
 ghost use Rattle.model.specs.Code.{turns, variables};
 ghost use Rattle.model.specs.Records.{degree, indices, codeOf, judge};
 ghost use Rattle.model.specs.Sound.{SoundCheck};
@@ -13,7 +12,9 @@ ghost use Rattle.model.specs.Splitting.{queue};
 ghost use Rattle.model.specs.Words.{odd, firstOdd};
 ghost use Rattle.model.specs.Points as points;
 ghost use Rattle.model.specs.Points.{pointOf};
-ghost use Rattle.model.specs.Calls.{unequal, notBinary, verdictTold, codewordTest, Extended, extension};
+ghost use Rattle.model.specs.Calls.{verdictTold, wordCauses};
+ghost use Rattle.model.specs.Told.{verdictKind};
+ghost use Rattle.model.specs.Promises.{TestCall, ExtensionCall};
 use model::Reading;
 use model::Verdict;
 
@@ -52,7 +53,7 @@ pub fn first_odd(code: &[u8], checks: usize, word: &[u8]) -> usize
 
 // The cause in the word of a code with so many bits, 0 for none.
 fn judge_word(word: &[u8], bits: usize) -> u32
-    ensures { λ r. ⌜ r ≡ firstOf (12 if unequal (now (word .entry)) bits ∷ 15 if some notBinary (now (word .entry)) ∷ []) ⌝ }
+    ensures { λ r. ⌜ r ≡ firstOf (wordCauses bits (now (word .entry))) ⌝ }
 {
     if word.len() != bits {
         return 12;
@@ -65,7 +66,8 @@ fn judge_word(word: &[u8], bits: usize) -> u32
 
 // The codeword test: whether the word is a codeword, the first check with an odd sum, or the first cause.
 pub fn test(code: &[u8], word: &[u8]) -> Verdict
-    ensures { λ r. ⌜ verdictTold r ≡ codewordTest (now (code .entry)) (now (word .entry)) ⌝ }
+    ensures call { λ r. ⌜ TestCall (now (code .entry)) (now (word .entry)) (verdictTold r) ⌝ }
+    ensures kind { λ r. ⌜ verdictKind r ⌝ }
 {
     match records::read(code) {
         Reading::Refused(cause) => Verdict::Refused(cause),
@@ -142,7 +144,9 @@ fn write_point(code: &[u8], word: &[u8], point: &mut [u8])
 
 // The extension of a codeword to its point, in a lent list; or why the list is left as it was.
 pub fn extend(code: &[u8], word: &[u8], point: &mut [u8]) -> Verdict
-    ensures { λ r. ⌜ _≡_ {A = Extended} (record { outcome = verdictTold r; point = now (point .exit) }) (extension (now (code .entry)) (now (word .entry)) (now (point .entry))) ⌝ }
+    ensures call { λ r. ⌜ ExtensionCall (now (code .entry)) (now (word .entry)) (now (point .entry))
+        (record { outcome = verdictTold r; point = now (point .exit) }) ⌝ }
+    ensures kind { λ r. ⌜ verdictKind r ⌝ }
 {
     match records::read(code) {
         Reading::Refused(cause) => Verdict::Refused(cause),

@@ -1,16 +1,19 @@
 -- The whole answer from its parts. Assumes nothing.
-use mathlib.Core.List.{List, [], _∷_}
+use mathlib.Core.List.{List}
 use mathlib.Core.Path.{_≡_, sym, ap₂, _∙_}
-use Prim.Native.Nat.{ℕ, zero, suc, _<_}
+use Prim.Native.Nat.{ℕ, zero, suc, _≤_}
 use native.Mathlib.Omega.{arith}
 use lib.IntN.{ℤ}
-use Rattle.lists.specs.Entries.{some}
 use Rattle.lists.specs.Tabulated.{written}
 use Rattle.quotient.specs.Quotient.{quotient}
 use Rattle.model.specs.Iteration.{countsOf}
-use Rattle.model.specs.Calls.{wild, unequal, forbidden, Lists, Answer, Decoded, noRoom, decoderCause, decodedBy, decoder}
-use Rattle.model.specs.Causes.{_if_, firstOf}
-use Rattle.model.specs.Causes.{accepted}
+use Rattle.model.specs.Calls.{Lists, Answer, Decoded, decoderCauses, decoderCause, decodedBy, decoder}
+use Rattle.model.specs.Causes.{firstOf, accepted}
+use Rattle.model.specs.Told.{Refuses}
+use Rattle.model.specs.Entry.{Small}
+use Rattle.model.specs.Promises.{DecoderCall}
+use Rattle.model.proofs.Entry.{input-refuses}
+use Rattle.model.proofs.Promises.{decoder-call}
 use Rattle.model.specs.Run.{Ended, run}
 use Rattle.model.specs.Words.{wordOf, outcome}
 use Rattle.model.specs.Records.{codeOf, judge}
@@ -36,17 +39,21 @@ decoded k e l m a p q r s t u v = ap₂ (λ (a : Answer) (m : Lists). record { a
 -- ---- the entry, by the causes in their order
 module _ (b : List ℕ) (o : Settings) (costs : List ℤ) (l : Lists) where
   abbrev pub after-judgement : ℕ
-  after-judgement = firstOf (11 if wild o ∷ 12 if unequal costs (codeOf b .bits) ∷ 13 if some forbidden costs ∷ 10 if noRoom (codeOf b) l ∷ [])
+  after-judgement = firstOf (decoderCauses (codeOf b) o costs l)
 
   abbrev pub refusal : ℕ → Decoded
   refusal c = record { answer = record { number = c; place = 0; k = 0; settled = 0 }; lists = l }
 
-  refused-by : (c : ℕ) → decoderCause b o costs l ≡ c → 0 < c → refusal c ≡ decoder b o costs l
+  -- what the contract says of a refusal
+  abbrev pub Refusal : ℕ → Type 0
+  Refusal c = DecoderCall b o costs l (refusal c) × Refuses c
+
+  refused-by : (c : ℕ) → decoderCause b o costs l ≡ c → 1 ≤ c → Refusal c
   unfolding decoder
   refused-by zero e h = absurd (omega arith)
-  refused-by (suc c) e h = rw e
+  refused-by (suc c) e h = (decoder-call b o costs l (refusal (suc c)) (λ z. absurd (omega arith)) (rw e), input-refuses b o costs l c e)
 
-  pub unsound : (c : ℕ) → judge b ≡ c → 0 < c → refusal c ≡ decoder b o costs l
+  pub unsound : (c : ℕ) → judge b ≡ c → 1 ≤ c → Refusal c
   unfolding decoderCause
   unsound zero e h = absurd (omega arith)
   unsound (suc c) e h = refused-by (suc c) (rw e) h
@@ -56,9 +63,10 @@ module _ (b : List ℕ) (o : Settings) (costs : List ℤ) (l : Lists) where
     unfolding decoderCause
     cause-is = rw sound
 
-    pub refused : (c : ℕ) → c ≡ after-judgement → (c ≡ 0 → ⊥) → refusal c ≡ decoder b o costs l
+    pub refused : (c : ℕ) → c ≡ after-judgement → (c ≡ 0 → ⊥) → Refusal c
     refused c e h = refused-by c (cause-is ∙ sym e) (omega arith)
 
-    pub accepted-is : 0 ≡ after-judgement → decodedBy (codeOf b) (run quotient (systemOf (codeOf b)) o costs) l ≡ decoder b o costs l
+    pub accepted-is : (d : Decoded) → 0 ≡ after-judgement → Small costs → d ≡ decodedBy (codeOf b) (run quotient (systemOf (codeOf b)) o costs) l
+        → DecoderCall b o costs l d
     unfolding decoder
-    accepted-is e = rw (cause-is ∙ sym e)
+    accepted-is d e small is = decoder-call b o costs l d (λ _. small) (rw (cause-is ∙ sym e) is)

@@ -2,9 +2,8 @@
 ghost use mathlib.Core.Path.{_≡_};
 ghost use mathlib.Core.Bool.{false, _||_};
 ghost use mathlib.Core.List.{[], _∷_};
-ghost use Prim.Native.Nat.{ℕ, _*_, _≤_};
+ghost use Prim.Native.Nat.{_*_, _≤_};
 ghost use lib.Dec.{ltb};
-ghost use lib.IntN.{natAbs};
 ghost use lib.ListN.{length};
 ghost use Rattle.lists.specs.Tabulated.{written};
 ghost use Rattle.lists.specs.Entries.{some};
@@ -13,10 +12,13 @@ ghost use Rattle.model.specs.Causes.{_if_, firstOf};
 ghost use Rattle.model.specs.Code as Code;
 ghost use Rattle.model.specs.Records.{codeOf, judge};
 ghost use Rattle.model.specs.Splitting.{systemOf};
-ghost use Rattle.model.specs.Iteration.{at, countsOf};
+ghost use Rattle.model.specs.Iteration.{countsOf};
 ghost use Rattle.model.specs.Run as Run;
 ghost use Rattle.model.specs.Calls as Calls;
-ghost use Rattle.model.specs.Calls.{unequal, forbidden, Lists, decodingTold, decodedBy, decoder};
+ghost use Rattle.model.specs.Calls.{unequal, forbidden, Lists, decodingTold, decodedBy};
+ghost use Rattle.model.specs.Told.{decodingKind};
+ghost use Rattle.model.specs.Entry.{Small};
+ghost use Rattle.model.specs.Promises.{DecoderCall};
 use model::Decoding;
 use model::Ending;
 use model::Reading;
@@ -56,8 +58,10 @@ fn no_room(bits: usize, total: usize, variables: usize, room: Room) -> bool
 
 // The first of 11, 12, 13 and 10, or 0.
 fn cause(settings: Settings, costs: &[i16], bits: usize, short: bool) -> u32
-    ensures { λ r. ⌜ r ≡ firstOf (11 if Calls.wild settings ∷ 12 if unequal (now (costs .entry)) bits ∷ 13 if some forbidden (now (costs .entry)) ∷ 10 if short ∷ []) ⌝ }
-    ensures { λ r. ⌜ (r ≡ 0 → (v : ℕ) → natAbs (at (now (costs .entry)) v) ≤ 32767) ⌝ }
+    ensures { λ r. ⌜ r ≡ firstOf (
+        11 if Calls.wild settings ∷ 12 if unequal (now (costs .entry)) bits ∷
+        13 if some forbidden (now (costs .entry)) ∷ 10 if short ∷ []) ⌝ }
+    ensures { λ r. ⌜ (r ≡ 0 → Small (now (costs .entry))) ⌝ }
 {
     if wild(settings) {
         return 11;
@@ -87,7 +91,7 @@ fn run_system(
     rows: &mut [i32],
 ) -> Ending
     requires { ⌜ (judge (now code) ≡ 0) × (total ≡ Code.triples (codeOf (now code))) × (variables ≡ Code.variables (codeOf (now code))) ⌝ }
-    requires { ⌜ (Calls.wild settings ≡ false) × (length (now costs) ≡ codeOf (now code) .bits) × ((v : ℕ) → natAbs (at (now costs) v) ≤ 32767) ⌝ }
+    requires { ⌜ (Calls.wild settings ≡ false) × (length (now costs) ≡ codeOf (now code) .bits) × Small (now costs) ⌝ }
     requires { ⌜ (3 * total ≤ length (now triples)) × (variables ≤ length (now counts)) ⌝ }
     requires { ⌜ (variables ≤ length (now sums)) × (variables ≤ length (now values)) × (4 * total ≤ length (now rows)) ⌝ }
     ensures { λ _. ⌜ (let g = systemOf (codeOf (now (code .entry))) in
@@ -126,14 +130,20 @@ fn decode_accepted(
     rows: &mut [i32],
     word: &mut [u8],
 ) -> Decoding
-    requires { ⌜ (judge (now code) ≡ 0) × (bits ≡ codeOf (now code) .bits) × (checks ≡ length (codeOf (now code) .checks)) × (total ≡ Code.triples (codeOf (now code))) × (variables ≡ Code.variables (codeOf (now code))) ⌝ }
-    requires { ⌜ (Calls.wild settings ≡ false) × (length (now costs) ≡ codeOf (now code) .bits) × ((v : ℕ) → natAbs (at (now costs) v) ≤ 32767) ⌝ }
+    requires { ⌜ (judge (now code) ≡ 0) × (bits ≡ codeOf (now code) .bits) × (checks ≡ length (codeOf (now code) .checks))
+        × (total ≡ Code.triples (codeOf (now code))) × (variables ≡ Code.variables (codeOf (now code))) ⌝ }
+    requires { ⌜ (Calls.wild settings ≡ false) × (length (now costs) ≡ codeOf (now code) .bits) × Small (now costs) ⌝ }
     requires { ⌜ (3 * total ≤ length (now triples)) × (variables ≤ length (now counts)) ⌝ }
     requires { ⌜ (variables ≤ length (now sums)) × (variables ≤ length (now values)) × (4 * total ≤ length (now rows)) × (bits ≤ length (now word)) ⌝ }
     ensures { λ d. ⌜ (let k = codeOf (now (code .entry)) in
-        let before : Lists = record { triples = now (triples .entry); counts = now (counts .entry); sums = now (sums .entry); values = now (values .entry); rows = now (rows .entry); word = now (word .entry) } in
-        let after : Lists = record { triples = now (triples .exit); counts = now (counts .exit); sums = now (sums .exit); values = now (values .exit); rows = now (rows .exit); word = now (word .exit) } in
+        let before : Lists = record {
+            triples = now (triples .entry); counts = now (counts .entry); sums = now (sums .entry);
+            values = now (values .entry); rows = now (rows .entry); word = now (word .entry) } in
+        let after : Lists = record {
+            triples = now (triples .exit); counts = now (counts .exit); sums = now (sums .exit);
+            values = now (values .exit); rows = now (rows .exit); word = now (word .exit) } in
         record { answer = decodingTold d; lists = after } ≡ decodedBy k (Run.run quotient (systemOf k) settings (now (costs .entry))) before) ⌝ }
+    ensures { λ d. ⌜ decodingKind d ⌝ }
 {
     let ending = run_system(
         code,
@@ -164,10 +174,15 @@ pub fn decode(
     rows: &mut [i32],
     word: &mut [u8],
 ) -> Decoding
-    ensures { λ d. ⌜ (
-        let before : Lists = record { triples = now (triples .entry); counts = now (counts .entry); sums = now (sums .entry); values = now (values .entry); rows = now (rows .entry); word = now (word .entry) } in
-        let after : Lists = record { triples = now (triples .exit); counts = now (counts .exit); sums = now (sums .exit); values = now (values .exit); rows = now (rows .exit); word = now (word .exit) } in
-        record { answer = decodingTold d; lists = after } ≡ decoder (now (code .entry)) settings (now (costs .entry)) before) ⌝ }
+    ensures call { λ d. ⌜ (
+        let before : Lists = record {
+            triples = now (triples .entry); counts = now (counts .entry); sums = now (sums .entry);
+            values = now (values .entry); rows = now (rows .entry); word = now (word .entry) } in
+        let after : Lists = record {
+            triples = now (triples .exit); counts = now (counts .exit); sums = now (sums .exit);
+            values = now (values .exit); rows = now (rows .exit); word = now (word .exit) } in
+        DecoderCall (now (code .entry)) settings (now (costs .entry)) before (record { answer = decodingTold d; lists = after })) ⌝ }
+    ensures kind { λ d. ⌜ decodingKind d ⌝ }
 {
     let reading = records::read(code);
     match reading {

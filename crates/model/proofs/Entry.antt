@@ -55,6 +55,12 @@ module _ (b : List ℕ) (o : Settings) (costs : List ℤ) (l : Lists) where
       (cons T 10 (noRoom (codeOf b) l) _ refl (nil T)))))
       causes-are
 
+  -- a refusal's number
+  pub input-refuses : (c : ℕ) → decoderCause b o costs l ≡ suc c → Refuses (suc c)
+  input-refuses c e =
+      let T = oneToNine ++ (10 ∷ 11 ∷ 12 ∷ 13 ∷ []) in
+      refuses (inputCauses b o costs l) T c refl (subst (Ordered (inputCauses b o costs l) T) e input-ordered)
+
   refusal : (c : ℕ) → decoderCause b o costs l ≡ suc c
       → decoder b o costs l ≡ record { answer = record { number = suc c; place = 0; k = 0; settled = 0 }; lists = l }
   unfolding decoder
@@ -79,10 +85,7 @@ module _ (b : List ℕ) (o : Settings) (costs : List ℤ) (l : Lists) where
 
       by : (c : ℕ) → decoderCause b o costs l ≡ c → decoderCause b o costs l ≡ 0
       by zero f = f
-      by (suc c) f =
-          let T = oneToNine ++ (10 ∷ 11 ∷ 12 ∷ 13 ∷ []) in
-          let r : Refuses (suc c) = refuses (inputCauses b o costs l) T c refl (subst (Ordered (inputCauses b o costs l) T) f input-ordered) in
-          absurd (none c (e ∙ ap (λ (d : Decoded). d .answer .number) (refusal c f)) r h)
+      by (suc c) f = absurd (none c (e ∙ ap (λ (d : Decoded). d .answer .number) (refusal c f)) (input-refuses c f) h)
 
   module _ (h : decoderCause b o costs l ≡ 0) where
     pub clear-causes : Clear (judge b ∷ decoderCauses (codeOf b) o costs l)

@@ -11,6 +11,7 @@ ghost use Rattle.model.specs.Records.{codeOf, judge};
 ghost use Rattle.model.specs.Iteration.{at};
 ghost use Rattle.model.specs.Words.{bitOf, wordOf, firstOdd, outcome};
 ghost use Rattle.model.specs.Calls.{decodingTold};
+ghost use Rattle.model.specs.Told.{decodingKind};
 use model::Decoding;
 use model::Ending;
 
@@ -84,9 +85,11 @@ pub fn conclude(
 ) -> Decoding
     requires { ⌜ (judge (now code) ≡ 0) × (bits ≡ codeOf (now code) .bits) × (checks ≡ length (codeOf (now code) .checks)) ⌝ }
     requires { ⌜ (bits ≤ 4096) × (bits ≤ length (now values)) × (bits ≤ length (now word)) ⌝ }
-    ensures { λ d. ⌜ (let out = outcome (codeOf (now (code .entry))) (now (values .entry)) in
+    ensures told { λ d. ⌜ (let out = outcome (codeOf (now (code .entry))) (now (values .entry)) in
         (decodingTold d ≡ record { number = out .number; place = out .place; k = ending .k; settled = ending .settled })
-        × (now (word .exit) ≡ accepted (out .number) (written (wordOf (codeOf (now (code .entry))) (now (values .entry))) (now (word .entry))) (now (word .entry)))) ⌝ }
+        × (now (word .exit)
+        ≡ accepted (out .number) (written (wordOf (codeOf (now (code .entry))) (now (values .entry))) (now (word .entry))) (now (word .entry)))) ⌝ }
+    ensures kind { λ d. ⌜ decodingKind d ⌝ }
 {
     let v = first_undecided(values, bits);
     if v < bits {

@@ -1,25 +1,33 @@
 -- The reader's answer: from the judgement to the answer, and back for whoever calls the reader. Assumes nothing.
-use mathlib.Core.Path.{_≡_, refl, sym, ap, _∙_}
+use mathlib.Core.Path.{_≡_, refl, sym, ap, _∙_, subst}
 use mathlib.Core.List.{List}
-use Prim.Native.Nat.{ℕ, zero, suc, _+_, _-_, _≤_, _<_}
+use Prim.Native.Nat.{ℕ, zero, suc, _+_, _-_, _≤_}
 use native.Mathlib.Omega.{arith}
 use lib.ListN.{length, drop}
 use Rattle.model.specs.declared.Reading.{Reading}
 use Rattle.model.specs.Code.{triples, variables}
 use Rattle.model.specs.Records.{bitCount, checkCount, codeOf, judge}
+use Rattle.model.specs.RecordClaims.{Bytes}
 use Rattle.model.specs.Calls.{ReaderAnswer, readingTold, reader}
-use Rattle.model.proofs.Accepted.{length-checks, bytes-sound, accepted}
+use Rattle.model.specs.Told.{Refuses, readingKind}
+use Rattle.model.specs.Promises.{ReaderCall}
+use Rattle.model.proofs.Accepted.{length-checks, accepted}
 use Rattle.model.proofs.Sound.{turns-triples}
+use Rattle.model.proofs.Promises.{reader-call, code-refuses}
 
 -- ---- the answer
-pub refused-told : (b : List ℕ) (c : ℕ) → (c ≡ 0 → ⊥) → judge b ≡ c → readingTold (Reading.Refused c) ≡ reader b
-unfolding reader
-refused-told b zero h e = absurd (h refl)
-refused-told b (suc c) h e = rw e
+abbrev pub Answered : List ℕ → Reading → Type 0
+Answered b r = ReaderCall b (readingTold r) × readingKind r
 
-pub code-told : (b : List ℕ) → judge b ≡ 0 → readingTold (Reading.Code (bitCount b) (checkCount b) (triples (codeOf b))) ≡ reader b
-unfolding reader codeOf
-code-told b e = rw (e, length-checks (checkCount b) (drop 6 b))
+module _ (b : List ℕ) (bytes : Bytes b) where
+  pub refused-told : (c : ℕ) → (c ≡ 0 → ⊥) → judge b ≡ c → Answered b (Reading.Refused c)
+  unfolding reader
+  refused-told zero h e = absurd (h refl)
+  refused-told (suc c) h e = (reader-call b _ bytes (rw e), code-refuses b (suc c) e h)
+
+  pub code-told : judge b ≡ 0 → Answered b (Reading.Code (bitCount b) (checkCount b) (triples (codeOf b)))
+  unfolding reader codeOf
+  code-told e = (reader-call b _ bytes (rw (e, length-checks (checkCount b) (drop 6 b))), tt)
 
 -- ---- what a caller learns
 pub record Read (b : List ℕ) (n m t : ℕ) : Type 0 where
@@ -33,9 +41,14 @@ pub record Read (b : List ℕ) (n m t : ℕ) : Type 0 where
   pub checks-most : m ≤ t
   pub variables : n + t - m ≡ variables (codeOf b)
 
-pub told-code : (b : List ℕ) (n m t : ℕ) → readingTold (Reading.Code n m t) ≡ reader b → Read b n m t
+-- a reading r whose case is known
+told : (b : List ℕ) (r x : Reading) → r ≡ x → Answered b r → readingTold x ≡ reader b
+told b r x e a = ap readingTold (sym e) ∙ a .0 .equation
+
+pub told-code : (b : List ℕ) (n m t : ℕ) (r : Reading) → r ≡ Reading.Code n m t → Answered b r → Read b n m t
 unfolding reader
-told-code b n m t e =
+told-code b n m t r case a =
+    let e = told b r (Reading.Code n m t) case a in
     let j : judge b ≡ 0 = sym (ap (λ (r : ReaderAnswer). r .number) e) in
     let n-is : n ≡ codeOf b .bits = rw j at (ap (λ (r : ReaderAnswer). r .bits) e) in
     let m-is : m ≡ length (codeOf b .checks) = rw j at (ap (λ (r : ReaderAnswer). r .checks) e) in
@@ -52,15 +65,7 @@ told-code b n m t e =
       variables = omega (arith, turns-triples (codeOf b .checks));
     }
 
-pub told-refused : (b : List ℕ) (c : ℕ) → readingTold (Reading.Refused c) ≡ reader b → (judge b ≡ c) × (0 < c)
-unfolding reader codeOf
-told-refused b c e =
-    let j : c ≡ judge b = ap (λ (r : ReaderAnswer). r .number) e in
-    (sym j, by c refl)
-  where
-    by : (k : ℕ) → c ≡ k → 0 < k
-    by zero z =
-        let j : judge b ≡ 0 = sym (ap (λ (r : ReaderAnswer). r .number) e) ∙ z in
-        let n : 0 ≡ bitCount b = rw j at (ap (λ (r : ReaderAnswer). r .bits) e) in
-        absurd (omega (arith, bytes-sound b j .header .bits-least))
-    by (suc k) z = omega arith
+pub told-refused : (b : List ℕ) (c : ℕ) (r : Reading) → r ≡ Reading.Refused c → Answered b r → (judge b ≡ c) × Refuses c
+unfolding reader
+told-refused b c r case a =
+    (sym (ap (λ (x : ReaderAnswer). x .number) (told b r (Reading.Refused c) case a)), subst readingKind case (a .1))

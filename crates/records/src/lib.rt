@@ -4,7 +4,9 @@ ghost use Prim.Native.Nat.{_+_, _-_, _≤_, _<_};
 ghost use lib.ListN.{length, drop};
 ghost use Rattle.model.specs.Causes.{outside};
 ghost use Rattle.model.specs.Records.{twoBytes, degree, indices, checksIn, covered, judgeHeader, judgeIndices, judgeCheck, judgeChecks};
-ghost use Rattle.model.specs.Calls.{readingTold, reader};
+ghost use Rattle.model.specs.Calls.{readingTold};
+ghost use Rattle.model.specs.Told.{readingKind};
+ghost use Rattle.model.specs.Promises.{ReaderCall};
 ghost use Rattle.records.specs.Judged.{Judged};
 ghost use Rattle.records.specs.Marks.{allMarked, Marks};
 use model::Reading;
@@ -191,7 +193,8 @@ fn covers(s: &[u8], bits: usize, checks: usize) -> bool
 
 // The reader: n, m and the number of triples of a sound code, or the first cause.
 pub fn read(code: &[u8]) -> Reading
-    ensures { λ r. ⌜ readingTold r ≡ reader (now (code .entry)) ⌝ }
+    ensures call { λ r. ⌜ ReaderCall (now (code .entry)) (readingTold r) ⌝ }
+    ensures kind { λ r. ⌜ readingKind r ⌝ }
 {
     let cause = judge_header(code);
     if cause != 0 {

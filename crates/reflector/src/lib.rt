@@ -7,9 +7,9 @@ ghost use lib.ListN.{length};
 ghost use Rattle.lists.specs.Entries.{some};
 ghost use Rattle.lists.specs.Tabulated.{written};
 ghost use Rattle.model.specs.Iteration.{at};
-ghost use Rattle.model.specs.Calls as calls;
 ghost use Rattle.model.specs.Calls.{forbidden, notBinary};
 ghost use Rattle.model.specs.Reflection as reflection;
+ghost use Rattle.model.specs.Promises.{ReflectorCall};
 
 fn is_forbidden(cost: i16) -> bool
     ensures { λ r. ⌜ r ≡ forbidden cost ⌝ }
@@ -68,8 +68,7 @@ fn fill(costs: &[i16], word: &[u8], result: &mut [i16])
 
 // The costs negated where the word has 1, or the number of the cause.
 pub fn reflect(costs: &[i16], word: &[u8], result: &mut [i16]) -> u32
-    ensures number { λ r. ⌜ r ≡ calls.reflector (now (costs .entry)) (now (word .entry)) (now (result .entry)) .number ⌝ }
-    ensures costs { λ r. ⌜ now (result .exit) ≡ calls.reflector (now (costs .entry)) (now (word .entry)) (now (result .entry)) .costs ⌝ }
+    ensures { λ r. ⌜ ReflectorCall (now (costs .entry)) (now (word .entry)) (now (result .entry)) (record { number = r; costs = now (result .exit) }) ⌝ }
 {
     if word.len() != costs.len() {
         return 12;

@@ -9,7 +9,7 @@ ghost use Rattle.model.specs.Sound.{SoundCheck};
 ghost use Rattle.model.specs.Splitting.{queue, systemOf};
 ghost use Rattle.model.specs.TripleRule.{items};
 ghost use Rattle.model.specs.Iteration.{occurrences, countsOf};
-ghost use Rattle.model.specs.Calls.{splitter};
+ghost use Rattle.model.specs.Promises.{SplitterCall};
 ghost use Rattle.triples.specs.Counting.{counted};
 use model::Reading;
 
@@ -137,7 +137,8 @@ pub fn write_system(
 
 // The splitting of any code into lent lists: 0, or the first cause.
 pub fn split(code: &[u8], triples: &mut [u16], counts: &mut [u16]) -> u32
-    ensures { λ r. ⌜ record { number = r; triples = now (triples .exit); counts = now (counts .exit) } ≡ splitter (now (code .entry)) (now (triples .entry)) (now (counts .entry)) ⌝ }
+    ensures { λ r. ⌜ SplitterCall (now (code .entry)) (now (triples .entry)) (now (counts .entry))
+        (record { number = r; triples = now (triples .exit); counts = now (counts .exit) }) ⌝ }
 {
     let reading = records::read(code);
     match reading {

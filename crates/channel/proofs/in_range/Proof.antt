@@ -27,15 +27,18 @@ scale-in-range-requires-3 c κs = search needs
 
 returns : tie.Need-returns
 unfolding inRange
-returns c = rw (c .before .before .setting .given .1) (c .scale-in-range .ensures)
+returns c = rw (c .before .before .setting .given .1) (c .scale-in-range .ensures .0, c .scale-in-range .ensures .1)
 
 returns-2 : tie.Need-returns-2
 unfolding inRange
-returns-2 c = rw (c .before .before .setting2 .given .1) (c .scale-in-range2 .ensures)
+returns-2 c = rw (c .before .before .setting2 .given .1) (c .scale-in-range2 .ensures .0, c .scale-in-range2 .ensures .1)
 
 returns-3 : tie.Need-returns-3
 unfolding inRange
-returns-3 c = rw (c .before .before .before .setting3 .given .1, c .before .floor-in-range .ensures, c .scale-in-range3 .ensures)
+returns-3 c =
+    let f = c .before .floor-in-range .ensures in
+    let s = c .scale-in-range3 .ensures in
+    rw (c .before .before .before .setting3 .given .1) (rw (f .0, s .0), rw (f .1, s .1))
 
 pub in-range-spec : {M : Type 1} → statement M
 in-range-spec =

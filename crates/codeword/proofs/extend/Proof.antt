@@ -1,5 +1,5 @@
 -- `codeword::extend` meets its contract: the causes in their order, then the first odd check, then the point. Assumes nothing.
-use mathlib.Core.Path.{_≡_, refl, sym, ap, _∙_}
+use mathlib.Core.Path.{_≡_, refl, sym, _∙_}
 use Prim.Native.Nat.{_≤_}
 use native.Mathlib.Omega.{arith}
 use borrow.Author.Needs.{needs}
@@ -8,7 +8,6 @@ use lib.ListN.{length}
 use Rattle.model.specs.declared.Verdict.{Verdict}
 use Rattle.model.specs.Code.{variables}
 use Rattle.model.specs.Records.{codeOf}
-use Rattle.model.specs.Calls.{readingTold}
 use Rattle.records.proofs.Answers.{Read, told-code, told-refused}
 use Rattle.codeword.proofs.Verdicts.{word-cause, word-long, no-room, causes, by-code, by-word, by-rest, odd-told, even-told, extend-refused, extend-passed}
 use Rattle.codeword.proofs.extend.Statement.{statement}
@@ -32,7 +31,7 @@ read : (c : tie.After-bits)
     Read (c .before .before .before .before .before .before .args .code .now) (g .0) (g .1 .0) (g .1 .1 .0)
 read c =
     let g = c .bits .given in
-    told-code _ (g .0 .0) (g .0 .1 .0) (g .0 .1 .1 .0) (ap readingTold (sym (g .1)) ∙ c .before .before .read .ensures)
+    told-code _ (g .0 .0) (g .0 .1 .0) (g .0 .1 .1 .0) _ (g .1) (c .before .before .read .ensures)
 
 clear : (c : tie.Else1) → word-cause (c .before .before .before .bits .given .0 .0) (c .before .before .before .before .before .before .before .before .before .args .word .now) ≡ 0
 clear c = sym (c .before .judge-word .ensures) ∙ c .if1 .left
@@ -89,14 +88,15 @@ returns-3 : tie.Need-returns-3
 returns-3 c =
     let e = c .before .before in
     let a = e .before .before .before .before .before .before .before .before .before .before .args in
-    extend-passed _ (a .word .now) (a .point .now) (Verdict.Odd (c .before .first-odd .result)) _ (passed e) (odd-told _ _ _ (read (e .before .before .before .before) .checks) _ (c .before .first-odd .ensures) (c .if3 .taken)) refl
+    extend-passed _ (a .word .now) (a .point .now) (Verdict.Odd (c .before .first-odd .result)) _ tt (passed e)
+    (odd-told _ _ _ (read (e .before .before .before .before) .checks) _ (c .before .first-odd .ensures) (c .if3 .taken)) refl
 
 returns-4 : tie.Need-returns-4
 returns-4 c =
     let g = c .before .cause .given in
-    let e = told-refused _ (g .0 .0) (ap readingTold (sym (g .1)) ∙ c .before .before .before .read .ensures) in
+    let e = told-refused _ (g .0 .0) _ (g .1) (c .before .before .before .read .ensures) in
     let a = c .before .before .before .before .before .before .before .args in
-    extend-refused _ (a .word .now) (a .point .now) _ (by-code _ (a .word .now) (no-room (a .code .now) (a .point .now)) _ (e .0) (e .1)) (λ z. omega (arith, e .1))
+    extend-refused _ (a .word .now) (a .point .now) _ (by-code _ (a .word .now) (no-room (a .code .now) (a .point .now)) _ (e .0) (e .1 .0)) (λ z. omega (arith, e .1 .0))
 
 same-length : tie.Need-same-length
 same-length c = search needs
@@ -107,7 +107,8 @@ returns-5 c =
     let f = w .before .before in
     let e = f .before .before in
     let a = e .before .before .before .before .before .before .before .before .before .before .args in
-    extend-passed _ (a .word .now) (a .point .now) Verdict.Codeword _ (passed e) (even-told _ _ _ (read (e .before .before .before .before) .checks) _ (f .before .first-odd .ensures) (f .if3 .left)) (w .write-point .ensures)
+    extend-passed _ (a .word .now) (a .point .now) Verdict.Codeword _ tt (passed e)
+    (even-told _ _ _ (read (e .before .before .before .before) .checks) _ (f .before .first-odd .ensures) (f .if3 .left)) (w .write-point .ensures)
 
 pub extend-spec : {M : Type 1} → statement M
 extend-spec =

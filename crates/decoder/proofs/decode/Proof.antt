@@ -9,7 +9,7 @@ use borrow.Author.Tests.{ltb-false, eqb-true, not-false}
 use lib.Dec.{eqb}
 use lib.ListN.{length}
 use Rattle.lists.specs.Entries.{some}
-use Rattle.model.specs.Calls.{wild, unequal, forbidden, readingTold, Lists, noRoom}
+use Rattle.model.specs.Calls.{wild, unequal, forbidden, Lists, noRoom}
 use Rattle.model.specs.Causes.{_if_, firstOf, short}
 use Rattle.model.specs.Records.{codeOf}
 use Rattle.model.specs.Code.{Code, triples}
@@ -43,7 +43,7 @@ module _ (c : tie.After-reading2) where
   t = c .reading2 .given .0 .1 .1 .0
 
   read : Read (first .args .code .now) n m t
-  read = told-code (first .args .code .now) n m t (ap readingTold (sym (c .reading2 .given .1)) ∙ c .before .before .read .ensures)
+  read = told-code (first .args .code .now) n m t _ (c .reading2 .given .1) (c .before .before .read .ensures)
 
   abbrev lists : Lists
   lists = record {
@@ -146,10 +146,10 @@ returns-2 c =
     let r = c .before in
     let g = r .reading .given in
     let a = c .before .before .before .before .before .before .before .before .args in
-    let e = told-refused (a .code .now) (g .0 .0) (ap readingTold (sym (g .1)) ∙ r .before .before .read .ensures) in
+    let e = told-refused (a .code .now) (g .0 .0) _ (g .1) (r .before .before .read .ensures) in
     unsound (a .code .now) (a .settings) (a .costs .now)
     (record { triples = a .triples .now; counts = a .counts .now; sums = a .sums .now; values = a .values .now; rows = a .rows .now; word = a .word .now })
-    (g .0 .0) (e .0) (e .1)
+    (g .0 .0) (e .0) (e .1 .0)
 
 same-length : tie.Need-same-length
 same-length c = search needs
@@ -174,8 +174,9 @@ returns-3 c =
     let d = c .before .before .before .before .before .before .before .before .before in
     let e = d .before .before .before .before .before .before .before in
     let q = e .before in
-    d .decode-accepted .ensures
-    ∙ accepted-is (s q .args .code .now) (s q .args .settings) (s q .args .costs .now) (l q) (read (found q) .judged) (sym (e .if1 .left) ∙ cause-is q)
+    (accepted-is (s q .args .code .now) (s q .args .settings) (s q .args .costs .now) (l q) (read (found q) .judged) _ (sym (e .if1 .left) ∙ cause-is q)
+    (q .cause .ensures .1 (e .if1 .left)) (d .decode-accepted .ensures .0),
+    d .decode-accepted .ensures .1)
 
 pub decode-spec : {M : Type 1} → statement M
 decode-spec =

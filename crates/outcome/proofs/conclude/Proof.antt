@@ -51,7 +51,7 @@ returns : tie.Need-returns
 returns c =
     let f = c .before in
     let e = undecided (k f) (values f) (f .first-undecided .result) (v-is f) (omega (arith, c .if1 .taken, s f .pre .0 .1)) in
-    by-outcome f _ (s f .args .word .now) e refl
+    (by-outcome f _ (s f .args .word .now) e refl, tt)
 
 first-odd-requires : tie.Need-first-odd-requires
 first-odd-requires c κs = search needs
@@ -61,7 +61,7 @@ returns-2 c =
     let j = c .before in
     let f = j .before .before in
     let e = odd-check (k f) (values f) (f .first-undecided .result) (j .first-odd .result) (v-is f) (omega (arith, j .before .if1 .left, s f .pre .0 .1)) (j .first-odd .ensures) (omega (arith, c .if2 .taken, s f .pre .0 .2)) in
-    by-outcome f _ (s f .args .word .now) e refl
+    (by-outcome f _ (s f .args .word .now) e refl, tt)
 
 write-word-requires : tie.Need-write-word-requires
 write-word-requires c κs = search needs
@@ -75,7 +75,7 @@ returns-3 c =
     let j = w .before .before .before in
     let f = j .before .before in
     let e = codeword (k f) (values f) (f .first-undecided .result) (j .first-odd .result) (v-is f) (omega (arith, j .before .if1 .left, s f .pre .0 .1)) (j .first-odd .ensures) (omega (arith, w .before .before .if2 .left, s f .pre .0 .2)) in
-    by-outcome f _ (w .write-word .last .1 .1 .0) e (whole f (w .write-word .last .1 .1 .0) (w .write-word .ensures))
+    (by-outcome f _ (w .write-word .last .1 .1 .0) e (whole f (w .write-word .last .1 .1 .0) (w .write-word .ensures)), tt)
 
 pub conclude-spec : {M : Type 1} → statement M
 conclude-spec =

@@ -11,6 +11,7 @@ use lib.ListN.{drop}
 use Rattle.lists.proofs.Parts.{part-from}
 use Rattle.model.specs.Causes.{_if_, firstOf}
 use Rattle.model.specs.Code.{triples}
+use Rattle.model.specs.RecordClaims.{Bytes}
 use Rattle.model.specs.Records.{bitCount, checkCount, codeOf, judgeHeader, judgeChecks, covered, judge}
 use Rattle.model.proofs.Accepted.{SoundHeader, header-sound}
 use Rattle.records.specs.Judged.{Judged}
@@ -34,11 +35,14 @@ module _ (b : List ℕ) where
     whole-decides z = rw (header, ← found .first, z, found .left z, found .counted z)
 
 -- ---- the header
+bytes-known : (c : tie.After-shared-slice-known) → Bytes (c .before .args .code .now)
+bytes-known c i = omega (arith, c .shared-slice-known .given i)
+
 judge-header-requires : tie.Need-judge-header-requires
 judge-header-requires c κs = search needs
 
 returns : tie.Need-returns
-returns c = refused-told _ _ (c .if1 .taken) (header-decides _ _ (c .before .judge-header .ensures) (c .if1 .taken))
+returns c = refused-told _ (bytes-known (c .before .before)) _ (c .if1 .taken) (header-decides _ _ (c .before .judge-header .ensures) (c .if1 .taken))
 
 header : (c : tie.Else1) → judgeHeader (c .before .before .before .args .code .now) ≡ 0
 header c = sym (c .before .judge-header .ensures) ∙ c .if1 .left
@@ -68,13 +72,16 @@ judge-checks-requires c κs = omega (arith, sound (c .before .before .before) .c
 abbrev bytes : tie.After-judge-checks → List ℕ
 bytes c = c .before .before .before .before .before .before .before .args .code .now
 
+known : (c : tie.After-judge-checks) → Bytes (bytes c)
+known c = bytes-known (c .before .before .before .before .before .before)
+
 found : (c : tie.After-judge-checks) → let r = c .judge-checks .result in Judged (bitCount (bytes c)) (checkCount (bytes c)) (drop 6 (bytes c)) (r .cause) (r .triples) (r .after)
 found c = rw (← part-from 6 (bytes c), ← c .before .before .before .two-bytes .ensures .0, ← c .before .before .two-bytes2 .ensures .0) (c .judge-checks .ensures)
 
 returns-2 : tie.Need-returns-2
 returns-2 c =
     let k = c .before in
-    refused-told _ _ (c .if2 .taken) (checks-decide _ (header (k .before .before .before .before)) _ _ _ (found k) (c .if2 .taken))
+    refused-told _ (known k) _ (c .if2 .taken) (checks-decide _ (header (k .before .before .before .before)) _ _ _ (found k) (c .if2 .taken))
 
 whole : (c : tie.Else2)
     → let r = c .before .judge-checks .result in
@@ -84,12 +91,12 @@ whole c = whole-decides _ (header (c .before .before .before .before .before)) _
 returns-3 : tie.Need-returns-3
 returns-3 c =
     let r = c .before .before .judge-checks .result in
-    refused-told _ _ (λ z. omega arith) (rw (whole (c .before), lt-ltb 0 (r .after) (omega arith)))
+    refused-told _ (known (c .before .before)) _ (λ z. omega arith) (rw (whole (c .before), lt-ltb 0 (r .after) (omega arith)))
 
 returns-4 : tie.Need-returns-4
 returns-4 c =
     let r = c .before .before .before .judge-checks .result in
-    refused-told _ _ (λ z. omega arith) (rw (whole (c .before .before), le-ltb 0 (r .after) (omega arith), lt-ltb 8192 (r .triples) (omega arith)))
+    refused-told _ (known (c .before .before .before)) _ (λ z. omega arith) (rw (whole (c .before .before), le-ltb 0 (r .after) (omega arith), lt-ltb 8192 (r .triples) (omega arith)))
 
 -- ---- the coverage
 sub-covers : tie.Need-sub-covers
@@ -118,7 +125,7 @@ returns-5 : tie.Need-returns-5
 returns-5 c =
     let v = c .before in
     let e = v .before .before in
-    refused-told _ 8 (λ z. omega arith)
+    refused-told _ (known (e .before .before .before)) 8 (λ z. omega arith)
     (rw (whole (e .before .before), le-ltb 0 _ (e .before .if3 .left), le-ltb 8192 _ (e .if4 .left), ← covered-is v, c .if5 .taken))
 
 returns-6 : tie.Need-returns-6
@@ -128,7 +135,7 @@ returns-6 c =
     let e = v .before .before in
     let k = e .before .before .before in
     let j : judge (bytes k) ≡ 0 = rw (whole (e .before .before), le-ltb 0 _ (e .before .if3 .left), le-ltb 8192 _ (e .if4 .left), ← covered-is v, c .if5 .left) in
-    rw (k .before .before .before .two-bytes .ensures .0, k .before .before .two-bytes2 .ensures .0, found k .counted (e .before .before .if2 .left)) (code-told _ j)
+    rw (k .before .before .before .two-bytes .ensures .0, k .before .before .two-bytes2 .ensures .0, found k .counted (e .before .before .if2 .left)) (code-told _ (known k) j)
 
 pub read-spec : {M : Type 1} → statement M
 read-spec =

@@ -7,6 +7,7 @@ use lib.Dec.{eqb}
 use lib.ListN.{length}
 use Rattle.lists.specs.Entries.{some}
 use Rattle.model.specs.Calls.{forbidden, notBinary, reflector}
+use Rattle.model.proofs.Promises.{reflector-call}
 use Rattle.reflector.proofs.reflect.Statement.{statement}
 use Rattle.reflector.proofs.reflect.Tie as tie
 
@@ -22,25 +23,28 @@ binary c = sym (c .before .some-not-binary .ensures) ∙ c .if3 .left
 
 returns : tie.Need-returns
 unfolding reflector
-returns c = rw (ne-eqb _ _ (c .if1 .taken)) (refl, refl)
+returns c = reflector-call _ _ _ _ (rw (ne-eqb _ _ (c .if1 .taken)))
 
 some-forbidden-requires : tie.Need-some-forbidden-requires
 some-forbidden-requires c κs = search needs
 
 returns-2 : tie.Need-returns-2
 unfolding reflector
-returns-2 c = rw (equal (c .before .before), sym (c .before .some-forbidden .ensures .0) ∙ c .if2 .taken) (refl, refl)
+returns-2 c = reflector-call _ _ _ _ (rw (equal (c .before .before), sym (c .before .some-forbidden .ensures .0) ∙ c .if2 .taken))
 
 some-not-binary-requires : tie.Need-some-not-binary-requires
 some-not-binary-requires c κs = search needs
 
 returns-3 : tie.Need-returns-3
 unfolding reflector
-returns-3 c = rw (equal (c .before .before .before .before), allowed (c .before .before), sym (c .before .some-not-binary .ensures) ∙ c .if3 .taken) (refl, refl)
+returns-3 c =
+    reflector-call _ _ _ _ (rw (equal (c .before .before .before .before), allowed (c .before .before), sym (c .before .some-not-binary .ensures) ∙ c .if3 .taken))
 
 returns-4 : tie.Need-returns-4
 unfolding reflector
-returns-4 c = let e = c .before in rw (equal (e .before .before .before .before), allowed (e .before .before), binary e, lt-ltb _ _ (c .if4 .taken)) (refl, refl)
+returns-4 c =
+    let e = c .before in
+    reflector-call _ _ _ _ (rw (equal (e .before .before .before .before), allowed (e .before .before), binary e, lt-ltb _ _ (c .if4 .taken)))
 
 fill-requires : tie.Need-fill-requires
 fill-requires c κs = search needs
@@ -52,7 +56,8 @@ returns-5 : tie.Need-returns-5
 unfolding reflector
 returns-5 c =
     let e = c .before .before .before .before in
-    rw (equal (e .before .before .before .before), allowed (e .before .before), binary e, le-ltb _ _ (c .before .before .before .if4 .left)) (refl, c .before .fill .ensures)
+    reflector-call _ _ _ _
+    (rw (equal (e .before .before .before .before), allowed (e .before .before), binary e, le-ltb _ _ (c .before .before .before .if4 .left), c .before .fill .ensures))
 
 pub reflect-spec : {M : Type 1} → statement M
 reflect-spec =

@@ -1,8 +1,8 @@
 -- `triples::split` meets its contract: the causes in their order, and the lists of an accepted code. Assumes nothing.
-use mathlib.Core.Path.{_≡_, sym, ap, ap₂, _∙_}
+use mathlib.Core.Path.{_≡_, ap₂}
 use mathlib.Core.Bool.{true, false, _||_}
 use mathlib.Core.List.{List}
-use Prim.Native.Nat.{ℕ, zero, suc, _*_, _<_}
+use Prim.Native.Nat.{ℕ, zero, suc, _*_, _≤_}
 use native.Mathlib.Omega.{arith}
 use borrow.Author.Needs.{needs}
 use borrow.Author.Tests.{lt-ltb, le-ltb}
@@ -13,7 +13,9 @@ use Rattle.model.specs.Records.{codeOf, judge}
 use Rattle.model.specs.Splitting.{systemOf}
 use Rattle.lists.specs.Tabulated.{written}
 use Rattle.model.specs.Iteration.{countsOf}
-use Rattle.model.specs.Calls.{readingTold, Split, splitter}
+use Rattle.model.specs.Calls.{Split, splitter}
+use Rattle.model.specs.Promises.{SplitterCall}
+use Rattle.model.proofs.Promises.{splitter-call}
 use Rattle.records.proofs.Answers.{Read, told-code, told-refused}
 use Rattle.triples.proofs.split.Statement.{statement}
 use Rattle.triples.proofs.split.Tie as tie
@@ -23,20 +25,20 @@ abbrev split : ℕ → List ℕ → List ℕ → Split
 split number ts cs = record { number = number; triples = ts; counts = cs }
 
 module _ (b ts cs : List ℕ) where
-  refused : (c : ℕ) → judge b ≡ c → 0 < c → split c ts cs ≡ splitter b ts cs
+  refused : (c : ℕ) → judge b ≡ c → 1 ≤ c → SplitterCall b ts cs (split c ts cs)
   unfolding splitter
   refused zero e h = absurd (omega arith)
-  refused (suc c) e h = rw e
+  refused (suc c) e h = splitter-call b ts cs (split (suc c) ts cs) (rw e)
 
   module _ (judged : judge b ≡ 0) where
-    no-room : (short (3 * triples (codeOf b)) ts || short (variables (codeOf b)) cs) ≡ true → split 10 ts cs ≡ splitter b ts cs
+    no-room : (short (3 * triples (codeOf b)) ts || short (variables (codeOf b)) cs) ≡ true → SplitterCall b ts cs (split 10 ts cs)
     unfolding splitter
-    no-room e = rw (judged, e)
+    no-room e = splitter-call b ts cs (split 10 ts cs) (rw (judged, e))
 
     room : (l k : List ℕ) → (short (3 * triples (codeOf b)) ts || short (variables (codeOf b)) cs) ≡ false → l ≡ written (systemOf (codeOf b) .members) ts
-        → k ≡ written (countsOf (systemOf (codeOf b))) cs → split 0 l k ≡ splitter b ts cs
+        → k ≡ written (countsOf (systemOf (codeOf b))) cs → SplitterCall b ts cs (split 0 l k)
     unfolding splitter
-    room l k e p q = rw (judged, e) (ap₂ (split 0) p q)
+    room l k e p q = splitter-call b ts cs (split 0 l k) (rw (judged, e) (ap₂ (split 0) p q))
 
 read-requires : tie.Need-read-requires
 read-requires c κs = search needs
@@ -53,7 +55,7 @@ read : (c : tie.After-reading2)
     Read (c .before .before .before .before .before .before .args .code .now) (g .0) (g .1 .0) (g .1 .1 .0)
 read c =
     let g = c .reading2 .given in
-    told-code _ (g .0 .0) (g .0 .1 .0) (g .0 .1 .1 .0) (ap readingTold (sym (g .1)) ∙ c .before .before .read .ensures)
+    told-code _ (g .0 .0) (g .0 .1 .0) (g .0 .1 .1 .0) _ (g .1) (c .before .before .read .ensures)
 
 add-variables : tie.Need-add-variables
 add-variables c = omega (arith, read (c .before))
@@ -93,8 +95,8 @@ returns-3 : tie.Need-returns-3
 returns-3 c =
     let r = c .before in
     let g = r .reading .given in
-    let e = told-refused _ (g .0 .0) (ap readingTold (sym (g .1)) ∙ r .before .before .read .ensures) in
-    refused _ _ _ _ (e .0) (e .1)
+    let e = told-refused _ (g .0 .0) _ (g .1) (r .before .before .read .ensures) in
+    refused _ _ _ _ (e .0) (e .1 .0)
 
 same-length : tie.Need-same-length
 same-length c = search needs
