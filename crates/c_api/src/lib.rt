@@ -1,7 +1,9 @@
-// The library for C. A slice is a pointer and a length; include/widagbe.h says what the caller owes.
+// The library for C. A slice is a pointer and a length; include/widagbe.h says what the caller owes. What each function promises is the record of the model
+// that its contract names, the same as that of the entry it calls.
 ghost use mathlib.Core.Path.{_≡_};
 ghost use Rattle.model.specs.declared.Settings.{Settings};
-ghost use Rattle.model.specs.Calls.{readingTold, reader, splitter, verdictTold, codewordTest, Extended, extension, Lists, decodingTold, decoder, channelFront, reflector};
+ghost use Rattle.model.specs.Calls.{readingTold, verdictTold, Lists, decodingTold};
+ghost use Rattle.model.specs.Promises.{ReaderCall, SplitterCall, FrontCall, ReflectorCall, TestCall, ExtensionCall, DecoderCall};
 ghost use Rattle.c_api.specs.Answers.{codeAnswer, wordAnswer, decodeAnswer};
 use model::Channel;
 use model::Decoding;
@@ -108,14 +110,15 @@ fn decode_answer(decoding: Decoding) -> DecodeAnswer
 
 #[no_mangle]
 pub extern "C" fn widagbe_read(code: &[u8]) -> CodeAnswer
-    ensures { λ r. ⌜ codeAnswer r ≡ reader (now (code .entry)) ⌝ }
+    ensures { λ r. ⌜ ReaderCall (now (code .entry)) (codeAnswer r) ⌝ }
 {
     code_answer(records::read(code))
 }
 
 #[no_mangle]
 pub extern "C" fn widagbe_split(code: &[u8], triples: &mut [u16], counts: &mut [u16]) -> u32
-    ensures { λ r. ⌜ record { number = r; triples = now (triples .exit); counts = now (counts .exit) } ≡ splitter (now (code .entry)) (now (triples .entry)) (now (counts .entry)) ⌝ }
+    ensures { λ r. ⌜ SplitterCall (now (code .entry)) (now (triples .entry)) (now (counts .entry))
+        (record { number = r; triples = now (triples .exit); counts = now (counts .exit) }) ⌝ }
 {
     triples::split(code, triples, counts)
 }
@@ -124,16 +127,16 @@ pub extern "C" fn widagbe_split(code: &[u8], triples: &mut [u16], counts: &mut [
 
 #[no_mangle]
 pub extern "C" fn widagbe_channel_gaussian(scale: f32, samples: &[f32], costs: &mut [i16]) -> u32
-    ensures number { λ r. ⌜ r ≡ channelFront (Channel.Gaussian scale) (now (samples .entry)) (now (costs .entry)) .number ⌝ }
-    ensures costs { λ r. ⌜ now (costs .exit) ≡ channelFront (Channel.Gaussian scale) (now (samples .entry)) (now (costs .entry)) .costs ⌝ }
+    ensures { λ r. ⌜ FrontCall (Channel.Gaussian scale) (now (samples .entry)) (now (costs .entry))
+        (record { number = r; costs = now (costs .exit) }) ⌝ }
 {
     channel::front(Channel::Gaussian(scale), samples, costs)
 }
 
 #[no_mangle]
 pub extern "C" fn widagbe_channel_hard(weight: f32, samples: &[f32], costs: &mut [i16]) -> u32
-    ensures number { λ r. ⌜ r ≡ channelFront (Channel.Hard weight) (now (samples .entry)) (now (costs .entry)) .number ⌝ }
-    ensures costs { λ r. ⌜ now (costs .exit) ≡ channelFront (Channel.Hard weight) (now (samples .entry)) (now (costs .entry)) .costs ⌝ }
+    ensures { λ r. ⌜ FrontCall (Channel.Hard weight) (now (samples .entry)) (now (costs .entry))
+        (record { number = r; costs = now (costs .exit) }) ⌝ }
 {
     channel::front(Channel::Hard(weight), samples, costs)
 }
@@ -145,16 +148,15 @@ pub extern "C" fn widagbe_channel_erasing(
     samples: &[f32],
     costs: &mut [i16],
 ) -> u32
-    ensures number { λ r. ⌜ r ≡ channelFront (Channel.Erasing (record { floor = floor; weight = weight })) (now (samples .entry)) (now (costs .entry)) .number ⌝ }
-    ensures costs { λ r. ⌜ now (costs .exit) ≡ channelFront (Channel.Erasing (record { floor = floor; weight = weight })) (now (samples .entry)) (now (costs .entry)) .costs ⌝ }
+    ensures { λ r. ⌜ FrontCall (Channel.Erasing (record { floor = floor; weight = weight })) (now (samples .entry)) (now (costs .entry))
+        (record { number = r; costs = now (costs .exit) }) ⌝ }
 {
     channel::front(Channel::Erasing(Erasure { floor, weight }), samples, costs)
 }
 
 #[no_mangle]
 pub extern "C" fn widagbe_reflect(costs: &[i16], word: &[u8], result: &mut [i16]) -> u32
-    ensures number { λ r. ⌜ r ≡ reflector (now (costs .entry)) (now (word .entry)) (now (result .entry)) .number ⌝ }
-    ensures costs { λ r. ⌜ now (result .exit) ≡ reflector (now (costs .entry)) (now (word .entry)) (now (result .entry)) .costs ⌝ }
+    ensures { λ r. ⌜ ReflectorCall (now (costs .entry)) (now (word .entry)) (now (result .entry)) (record { number = r; costs = now (result .exit) }) ⌝ }
 {
     reflector::reflect(costs, word, result)
 }
@@ -163,14 +165,15 @@ pub extern "C" fn widagbe_reflect(costs: &[i16], word: &[u8], result: &mut [i16]
 
 #[no_mangle]
 pub extern "C" fn widagbe_test(code: &[u8], word: &[u8]) -> WordAnswer
-    ensures { λ r. ⌜ wordAnswer r ≡ codewordTest (now (code .entry)) (now (word .entry)) ⌝ }
+    ensures { λ r. ⌜ TestCall (now (code .entry)) (now (word .entry)) (wordAnswer r) ⌝ }
 {
     word_answer(codeword::test(code, word))
 }
 
 #[no_mangle]
 pub extern "C" fn widagbe_extend(code: &[u8], word: &[u8], point: &mut [u8]) -> WordAnswer
-    ensures { λ r. ⌜ _≡_ {A = Extended} (record { outcome = wordAnswer r; point = now (point .exit) }) (extension (now (code .entry)) (now (word .entry)) (now (point .entry))) ⌝ }
+    ensures { λ r. ⌜ ExtensionCall (now (code .entry)) (now (word .entry)) (now (point .entry))
+        (record { outcome = wordAnswer r; point = now (point .exit) }) ⌝ }
 {
     word_answer(codeword::extend(code, word, point))
 }
@@ -194,9 +197,13 @@ pub extern "C" fn widagbe_decode(
 ) -> DecodeAnswer
     ensures { λ r. ⌜ (
         let settings : Settings = record { weight = weight; ratio = ratio; limit = limit; tolerance = tolerance } in
-        let before : Lists = record { triples = now (triples .entry); counts = now (counts .entry); sums = now (sums .entry); values = now (values .entry); rows = now (rows .entry); word = now (word .entry) } in
-        let after : Lists = record { triples = now (triples .exit); counts = now (counts .exit); sums = now (sums .exit); values = now (values .exit); rows = now (rows .exit); word = now (word .exit) } in
-        record { answer = decodeAnswer r; lists = after } ≡ decoder (now (code .entry)) settings (now (costs .entry)) before) ⌝ }
+        let before : Lists = record {
+            triples = now (triples .entry); counts = now (counts .entry); sums = now (sums .entry);
+            values = now (values .entry); rows = now (rows .entry); word = now (word .entry) } in
+        let after : Lists = record {
+            triples = now (triples .exit); counts = now (counts .exit); sums = now (sums .exit);
+            values = now (values .exit); rows = now (rows .exit); word = now (word .exit) } in
+        DecoderCall (now (code .entry)) settings (now (costs .entry)) before (record { answer = decodeAnswer r; lists = after })) ⌝ }
 {
     decode_answer(decoder::decode(
         code,

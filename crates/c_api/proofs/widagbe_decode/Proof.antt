@@ -28,7 +28,7 @@ same-length-6 : tie.Need-same-length-6
 same-length-6 c = search needs
 
 returns : tie.Need-returns
-returns c = rw (c .decode-answer .ensures) (c .before .before .before .before .before .before .before .before .before .before .decode .ensures)
+returns c = rw (c .decode-answer .ensures) (c .before .before .before .before .before .before .before .before .before .before .decode .ensures .0)
 
 pub widagbe-decode-spec : {M : Type 1} → statement M
 widagbe-decode-spec =

@@ -13,7 +13,7 @@ same-length : tie.Need-same-length
 same-length c = search needs
 
 returns : tie.Need-returns
-returns c = rw (c .word-answer .ensures) (c .before .before .before .extend .ensures)
+returns c = rw (c .word-answer .ensures) (c .before .before .before .extend .ensures .0)
 
 pub widagbe-extend-spec : {M : Type 1} → statement M
 widagbe-extend-spec = tie.close (tie.spec extend-requires word-answer-requires same-length returns)

@@ -1,5 +1,4 @@
 -- `c_api::widagbe_read` meets its contract: what the reader found, told. Assumes nothing.
-use mathlib.Core.Path.{_∙_}
 use borrow.Author.Needs.{needs}
 use Rattle.c_api.proofs.widagbe_read.Statement.{statement}
 use Rattle.c_api.proofs.widagbe_read.Tie as tie
@@ -11,7 +10,7 @@ code-answer-requires : tie.Need-code-answer-requires
 code-answer-requires c κs = search needs
 
 returns : tie.Need-returns
-returns c = c .code-answer .ensures ∙ c .before .read .ensures
+returns c = rw (c .code-answer .ensures) (c .before .read .ensures .0)
 
 pub widagbe-read-spec : {M : Type 1} → statement M
 widagbe-read-spec = tie.close (tie.spec read-requires code-answer-requires returns)

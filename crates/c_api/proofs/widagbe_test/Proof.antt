@@ -1,5 +1,4 @@
 -- `c_api::widagbe_test` meets its contract: what the test found, told. Assumes nothing.
-use mathlib.Core.Path.{_∙_}
 use borrow.Author.Needs.{needs}
 use Rattle.c_api.proofs.widagbe_test.Statement.{statement}
 use Rattle.c_api.proofs.widagbe_test.Tie as tie
@@ -11,7 +10,7 @@ word-answer-requires : tie.Need-word-answer-requires
 word-answer-requires c κs = search needs
 
 returns : tie.Need-returns
-returns c = c .word-answer .ensures ∙ c .before .test .ensures
+returns c = rw (c .word-answer .ensures) (c .before .test .ensures .0)
 
 pub widagbe-test-spec : {M : Type 1} → statement M
 widagbe-test-spec = tie.close (tie.spec test-requires word-answer-requires returns)
