@@ -18,7 +18,7 @@ use Rattle.quotient.specs.Quotient.{unit, quotient}
 use Rattle.model.specs.declared.Settings.{Settings}
 use Rattle.model.specs.Causes.{_if_, firstOf, outside, accepted}
 use Rattle.model.specs.Code.{Code, triples, variables}
-use Rattle.model.specs.Records.{codeOf, judge, recordCauses}
+use Rattle.model.specs.Records.{codeOf, judge, wholeCauses, recordCauses}
 use Rattle.model.specs.Splitting.{System, systemOf}
 use Rattle.model.specs.Iteration.{at, slack, multiplier, sumOf, renewedAt, State, sumsOf, rowsOf, valueOf, valuesOf, iterate}
 use Rattle.model.specs.Run.{mostIterations, changes, settledBy, start, Ended, after, runFrom, run}
@@ -28,11 +28,11 @@ use Rattle.model.specs.Reflection.{turned, reflect, sumOfWords}
 use Rattle.model.specs.Calls.{wild, unequal, forbidden, Lists, Decoded, noRoom, decoderCauses, decoderCause, decodedBy, decoder}
 use Rattle.model.specs.Bounds.{RowsWithin}
 use Rattle.model.specs.Claims.{ReflectedRun}
-use Rattle.model.specs.Order.{runCauses, Refusal, Ordered, oneToNine}
+use Rattle.model.specs.Order.{runCauses, Follows, Refusal, Ordered, oneToNine}
 use Rattle.model.specs.Told.{Refuses}
 use Rattle.model.specs.Entry.{inputCauses, runOf, iterateOf, Refused, Ran, Course, Iterated, Small, ReflectedCalls}
 use Rattle.model.proofs.Causes.{Clear, clear, unless, or-false, within}
-use Rattle.model.proofs.Order.{nil, cons, refuses, after-records, then-more, outcome-order}
+use Rattle.model.proofs.Order.{nil, cons, next, no-more, whole-follows, refuses, after-records, then-more, outcome-order}
 use Rattle.model.proofs.Runs.{stops, goes-on}
 use Rattle.model.proofs.Bounds.{rows-after, values-after}
 use Rattle.model.proofs.Demand3.{demand-3}
@@ -149,6 +149,18 @@ module _ (b : List ℕ) (o : Settings) (costs : List ℤ) (l : Lists) where
       (cons T 16 (ltb (firstUndecided k c) (k .bits)) _ refl
       (cons T 17 (ltb (firstOdd k (wordOf k c)) (length (k .checks))) [] refl (nil T)))))))
       (number-is (decoderCause b o costs l) ∙ rw (causes-are, outcome-order k c) (then-more input (runCauses k c)))
+
+  pub call-follows : Follows 0 (wholeCauses b ++ (decoderCauses (codeOf b) o costs l ++ runCauses (codeOf b) (runOf b o costs .last .values)))
+  call-follows =
+      let k = codeOf b in
+      let c = runOf b o costs .last .values in
+      whole-follows b _
+      (next 3 10 (wild o) _ refl
+      (next 4 11 (unequal costs (k .bits)) _ refl
+      (next 5 12 (some forbidden costs) _ refl
+      (next 6 9 (noRoom k l) _ refl
+      (next 9 15 (ltb (firstUndecided k c) (k .bits)) _ refl
+      (next 10 16 (ltb (firstOdd k (wordOf k c)) (length (k .checks))) [] refl (no-more 11)))))))
 
 -- ---- the iterates
 module _ (g : System) (o : Settings) (costs : List ℤ) where

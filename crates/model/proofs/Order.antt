@@ -2,9 +2,9 @@
 use mathlib.Core.Path.{_≡_, refl, sym, ap, _∙_, subst}
 use mathlib.Core.Bool.{Bool, true, false, not, cond}
 use mathlib.Core.List.{List, [], _∷_, _++_}
-use Prim.Native.Nat.{ℕ, zero, suc, _<_}
+use Prim.Native.Nat.{ℕ, zero, suc, _≤_, _<_}
 use native.Mathlib.Omega.{arith}
-use borrow.Author.Tests.{eqb-true, leb-true}
+use borrow.Author.Tests.{eqb-true, leb-true, le-leb}
 use lib.Dec.{leb, ltb, eqb}
 use lib.IntN.{ℤ}
 use lib.ListN.{length, getD, drop}
@@ -17,7 +17,7 @@ use Rattle.model.specs.Records.{twoBytes, bitCount, checkCount, degree, 
 use Rattle.model.specs.Records.{headerCauses, indexCauses, degreeCauses, wholeCauses, indicesCauses, checkCauses, checksCauses, recordCauses}
 use Rattle.model.specs.Records.{judgeHeader, judgeIndices, judgeCheck, judgeChecks, judge}
 use Rattle.model.specs.Words.{wordOf, firstUndecided, firstOdd, Outcome, tested, outcome}
-use Rattle.model.specs.Order.{oddCauses, runCauses, Refusal, Ordered, oneToNine}
+use Rattle.model.specs.Order.{oddCauses, runCauses, rank, follows, Follows, Ordered, oneToNine}
 use Rattle.model.specs.Told.{Refuses}
 use Rattle.model.proofs.Causes.{first-in, first-end}
 
@@ -90,6 +90,30 @@ pub refuses : (l table : List ℕ) (c : ℕ) → every (λ y. leb y 15) table �
 refuses l table c small o =
     let x = some-every (eqb (suc c)) (λ y. leb y 15) table (o .refused c refl .listed) small in
     (omega arith, omega (arith, eqb-true (suc c) (x .0) (x .1), leb-true (x .0) 15 (x .2)))
+
+-- ---- the document's order
+raised : (low high : ℕ) (l : List ℕ) → low ≤ high → follows high l ≡ true → follows low l ≡ true
+raised low high [] h k = refl
+raised low high (zero ∷ l) h k = raised low high l h k
+raised low high (suc c ∷ l) h k =
+    let r = rank (suc c) in
+    let more = follows (suc r) l in
+    rw (le-leb low r (omega (arith, leb-true high r (and-left (leb high r) more k)))) (and-right (leb high r) more k)
+
+-- one cause more in front
+pub next : (low n : ℕ) (t : Bool) (l : List ℕ) → leb low (rank (suc n)) ≡ true → Follows (suc (rank (suc n))) l → Follows low (suc n if t ∷ l)
+next low n true l h k = record { places = rw h (k .places) }
+next low n false l h k = record { places = raised low (suc (rank (suc n))) l (omega (arith, leb-true low (rank (suc n)) h)) (k .places) }
+
+pub no-more : (low : ℕ) → Follows low []
+no-more low = record { places = refl }
+
+-- the causes of all records together, and l, which is judged later
+pub whole-follows : (b l : List ℕ) → Follows 3 l → Follows 0 (wholeCauses b ++ l)
+whole-follows b l k =
+    next 0 8 (ltb 0 (length (afterChecks (checkCount b) (drop 6 b)))) _ refl
+    (next 1 6 (ltb 8192 (triples (codeOf b))) _ refl
+    (next 2 7 (not (covered (codeOf b))) l refl k))
 
 -- ---- code records
 indices-order : (n d low : ℕ) (s : List ℕ) → judgeIndices n d low s ≡ firstOf (indicesCauses n d low s)

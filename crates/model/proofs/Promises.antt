@@ -38,7 +38,7 @@ use Rattle.model.specs.Entry.{Refused, Ran, Iterated, Small, ReflectedCa
 use Rattle.model.specs.Promises.{ReaderCall, SplitterCall, FrontCall, ReflectorCall, TestCall, ExtensionCall, DecoderCall}
 use Rattle.model.proofs.Causes.{clear, unless, first-in}
 use Rattle.model.proofs.Accepted as Accepted
-use Rattle.model.proofs.Order.{Listed, nil, cons, both, ordered, refuses, after-records, records-ordered, word-order}
+use Rattle.model.proofs.Order.{Listed, nil, cons, next, no-more, whole-follows, ordered, refuses, after-records, records-ordered, word-order}
 use Rattle.model.proofs.RecordClaims.{record-claims}
 use Rattle.model.proofs.WordClaims.{tested-is, test-claims, point-claims, word-bits, bits-pass}
 use Rattle.model.proofs.Points.{point, points}
@@ -52,6 +52,7 @@ unfolding reader
 reader-call b a bytes meets = subst (ReaderCall b) (sym meets) (record {
   equation = refl;
   order = records-ordered b;
+  follows = whole-follows b [] (no-more 3);
   exactly = (
     λ h. (codeOf b, record-claims .sound b h, sym (record-claims .records-back b bytes h)),
     λ k. subst (λ (s : List ℕ). judge s ≡ 0) (sym (k .2)) (record-claims .accepted (k .0) .1 (k .1)),
@@ -74,6 +75,7 @@ splitter-call b ts cs a meets =
     subst (SplitterCall b ts cs) (sym meets) (record {
       equation = refl;
       order = after-records (10 ∷ []) b _ _ (cons T 10 none [] refl (nil T)) refl;
+      follows = whole-follows b _ (next 3 9 none [] refl (no-more 9));
       refused = λ c h. rw h (refl, refl);
       split = λ h. rw h (refl, refl);
     })
@@ -106,6 +108,8 @@ module _ (setting : Channel) (samples : List Float) (old : List ℤ) (singles : 
             (cons T 14 (some (λ x. not (finite x)) samples) _ refl
             (cons T 10 (short (length samples) old) [] refl (nil T))))
             refl;
+        follows = next 0 10 (not (inRange setting)) _ refl
+            (next 4 13 (some (λ x. not (finite x)) samples) _ refl (next 7 9 (short (length samples) old) [] refl (no-more 9)));
         refused = λ c h. rw h;
         filled = filled;
         costed = λ h i l. rw (filled h) (costed h i l);
@@ -125,6 +129,8 @@ reflector-call costs w old a meets =
           (cons T 15 (some notBinary w) _ refl
           (cons T 10 (short (length costs) old) [] refl (nil T)))))
           refl;
+      follows = next 0 11 (unequal w (length costs)) _ refl
+          (next 5 12 (some forbidden costs) _ refl (next 6 14 (some notBinary w) _ refl (next 8 9 (short (length costs) old) [] refl (no-more 9))));
       refused = λ c h. rw h;
       reflected = λ h. rw h;
     })
@@ -214,6 +220,7 @@ module _ (b w : List ℕ) where
         order = after-records (12 ∷ 15 ∷ 17 ∷ []) b (wordCauses (k .bits) w ++ oddCauses k w) _
             (cons T 12 (unequal w (k .bits)) _ refl (cons T 15 (some notBinary w) _ refl (cons T 17 odd-there [] refl (nil T))))
             (word-order k w (judge b ∷ wordCauses (k .bits) w));
+        follows = whole-follows b _ (next 3 11 (unequal w (k .bits)) _ refl (next 5 14 (some notBinary w) _ refl (next 8 16 odd-there [] refl (no-more 11))));
         codeword = (
           λ h. (let x = answer-codeword b w [] none h in (x .0, x .2)),
           λ c. codeword-answer b w [] none (c .0) refl (c .1),
@@ -264,6 +271,9 @@ module _ (b w : List ℕ) where
               (cons T 10 (short (variables k) p) _ refl
               (cons T 17 odd-there [] refl (nil T)))))
               (word-order k w (judge b ∷ extensionCauses k w p));
+          follows = whole-follows b _
+              (next 3 11 (unequal w (k .bits)) _ refl
+              (next 5 14 (some notBinary w) _ refl (next 8 9 (short (variables k) p) _ refl (next 9 16 odd-there [] refl (no-more 11)))));
           codeword = (
             λ h. (code h .0, room (code h .1), code h .2),
             λ c. codeword-answer b w no-room room-listed (c .0) (no-cause (c .1)) (c .2),
@@ -293,6 +303,7 @@ module _ (b : List ℕ) (o : Settings) (costs : List ℤ) (l : Lists) (d : Decod
   decoder-call = record {
     equation = meets;
     order = rw meets (Entry.call-ordered b o costs l);
+    follows = Entry.call-follows b o costs l;
     refused = λ c h. subst (Refused b o costs l) (sym meets) (Entry.refused b o costs l c h);
     ran = λ h. subst (Ran b o costs l) (sym meets) (Entry.ran b o costs l h);
     iterated = λ h. subst (Iterated b o costs l) (sym meets) (Entry.iterated b o costs l h);

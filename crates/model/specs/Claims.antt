@@ -10,7 +10,7 @@ use Rattle.model.specs.declared.Settings.{Settings}
 use Rattle.model.specs.Code.{Code}
 use Rattle.model.specs.Splitting.{systemOf}
 use Rattle.model.specs.Iteration.{State}
-use Rattle.model.specs.Run.{start, after, runFrom}
+use Rattle.model.specs.Run.{start, Ended, after, runFrom}
 use Rattle.model.specs.Words.{wordOf, outcome}
 use Rattle.model.specs.Points.{Bits, Codeword, Point, pointOf}
 use Rattle.model.specs.Reflection.{reflect, sumOfWords, Opposite, Reflected}
@@ -21,26 +21,35 @@ pub record Points (k : Code) : Type 0 where
   pub exactly : (w : List ℕ) → Bits (k .bits) w → Codeword k w ↔ ((p : List ℕ) × Point (systemOf k) p × (take (k .bits) p ≡ w))
   pub only : (w p : List ℕ) → Point (systemOf k) p → take (k .bits) p ≡ w → p ≡ pointOf k w
 
--- two runs from the states a and b, `done` iterations being done and at most `more` to come, with costs and with the costs that the codeword
--- w reflects
+-- the run of a code from the state a, `done` iterations being done and at most `more` to come
+abbrev pub runIn : Code → Settings → List ℤ → ℕ → ℕ → State → Ended
+runIn k o costs more done a = runFrom quotient (systemOf k) o costs more done a
+
+-- two such runs, from the states a and b, with costs and with the costs that the codeword w reflects
 pub record ReflectedRun (k : Code) (o : Settings) (costs : List ℤ) (w : List ℕ) (more done : ℕ) (a b : State) : Type 0 where
-  -- "After every iteration c and S are those of the first run, negated where the point has a 1 and the same elsewhere", and the rows change places
-  pub each : (i : ℕ) → Reflected (systemOf k) (pointOf k w) (after quotient (systemOf k) o costs i a) (after quotient (systemOf k) o (reflect w costs) i b)
+  -- "After every iteration of the reflected run c and S are those of the first run, negated where the point has a 1 and the same elsewhere", and the rows
+  -- change places
+  pub each : (i : ℕ)
+      → Reflected (systemOf k) (pointOf k w) (after quotient (systemOf k) o costs i a) (after quotient (systemOf k) o (reflect w costs) i b)
   -- "Both runs end after the same iteration; the kind of answer, count, settled and place stay"
-  pub count : runFrom quotient (systemOf k) o (reflect w costs) more done b .k ≡ runFrom quotient (systemOf k) o costs more done a .k
-  pub settled : runFrom quotient (systemOf k) o (reflect w costs) more done b .settled ≡ runFrom quotient (systemOf k) o costs more done a .settled
-  pub last : Reflected (systemOf k) (pointOf k w) (runFrom quotient (systemOf k) o costs more done a .last) (runFrom quotient (systemOf k) o (reflect w costs) more done b .last)
-  pub answer : outcome k (runFrom quotient (systemOf k) o (reflect w costs) more done b .last .values) ≡ outcome k (runFrom quotient (systemOf k) o costs more done a .last .values)
+  pub count : runIn k o (reflect w costs) more done b .k ≡ runIn k o costs more done a .k
+  pub settled : runIn k o (reflect w costs) more done b .settled ≡ runIn k o costs more done a .settled
+  pub last : Reflected (systemOf k) (pointOf k w) (runIn k o costs more done a .last) (runIn k o (reflect w costs) more done b .last)
+  pub answer : outcome k (runIn k o (reflect w costs) more done b .last .values) ≡ outcome k (runIn k o costs more done a .last .values)
   -- "and a written word changes by that codeword, bit by bit modulo 2"
-  pub word : outcome k (runFrom quotient (systemOf k) o costs more done a .last .values) .number ≡ 0
-      → wordOf k (runFrom quotient (systemOf k) o (reflect w costs) more done b .last .values) ≡ sumOfWords w (wordOf k (runFrom quotient (systemOf k) o costs more done a .last .values))
+  pub word : outcome k (runIn k o costs more done a .last .values) .number ≡ 0
+      → wordOf k (runIn k o (reflect w costs) more done b .last .values) ≡ sumOfWords w (wordOf k (runIn k o costs more done a .last .values))
+
+-- row r of triple t goes to row q: of the two rows' signs
+abbrev pub Goes : Code → List ℕ → ℕ → ℕ → ℕ → Type 0
+Goes k w t r q = Opposite (pointOf k w) (systemOf k .members) t r q
 
 pub record Reflection (k : Code) (w : List ℕ) : Type 0 where
   -- each row has a row "of the same triple whose signs differ from its own exactly at the variables where the point has a 1"
-  pub opposite : (t r : ℕ) → t < systemOf k .triples → r < 4 → (q : ℕ) × (q < 4) × Opposite (pointOf k w) (systemOf k .members) t r q
+  pub opposite : (t r : ℕ) → t < systemOf k .triples → r < 4 → (q : ℕ) × (q < 4) × Goes k w t r q
   -- "only change places": the row it goes to is the only such row, and no two rows go to one
-  pub unique : (t r q q′ : ℕ) → q < 4 → q′ < 4 → Opposite (pointOf k w) (systemOf k .members) t r q → Opposite (pointOf k w) (systemOf k .members) t r q′ → q ≡ q′
-  pub injective : (t r r′ q : ℕ) → r < 4 → r′ < 4 → Opposite (pointOf k w) (systemOf k .members) t r q → Opposite (pointOf k w) (systemOf k .members) t r′ q → r ≡ r′
+  pub unique : (t r q q′ : ℕ) → q < 4 → q′ < 4 → Goes k w t r q → Goes k w t r q′ → q ≡ q′
+  pub injective : (t r r′ q : ℕ) → r < 4 → r′ < 4 → Goes k w t r q → Goes k w t r′ q → r ≡ r′
   -- the start of a run is its own reflection
   pub begun : Reflected (systemOf k) (pointOf k w) (start (systemOf k)) (start (systemOf k))
   -- "whatever the accepted settings and costs", and from whatever states that are reflected

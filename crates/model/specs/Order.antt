@@ -1,12 +1,12 @@
 -- Document 01, 'Causes and codes', the order: what it says of a number that it is that of the first cause. Definitions and statements only.
 use mathlib.Core.Path.{_≡_}
-use mathlib.Core.Bool.{true}
+use mathlib.Core.Bool.{Bool, true, _&&_}
 use mathlib.Core.List.{List, [], _∷_}
-use Prim.Native.Nat.{ℕ, suc, _<_}
-use lib.Dec.{ltb, eqb}
+use Prim.Native.Nat.{ℕ, zero, suc, _<_}
+use lib.Dec.{leb, ltb, eqb}
 use lib.IntN.{ℤ}
 use lib.ListN.{length, getD}
-use Rattle.lists.specs.Entries.{some}
+use Rattle.lists.specs.Entries.{some, first}
 use Rattle.model.specs.Causes.{_if_}
 use Rattle.model.specs.Code.{Code}
 use Rattle.model.specs.Words.{wordOf, firstUndecided, firstOdd}
@@ -18,6 +18,24 @@ oddCauses k w = 17 if ltb (firstOdd k w) (length (k .checks)) ∷ []
 -- "16 and, from the decoder, 17 are outcomes of a run": of its last values c
 abbrev pub runCauses : Code → List ℤ → List ℕ
 runCauses k c = 16 if ltb (firstUndecided k c) (k .bits) ∷ oddCauses k (wordOf k c)
+
+-- ---- the order of the causes that are judged after all reading
+-- "Then 9, 7, 8, 11, 12, 13, 14, 15, 10, then the run or, in test and extension, 17.", the run with 16 before 17
+abbrev pub documentOrder : List ℕ
+documentOrder = 9 ∷ 7 ∷ 8 ∷ 11 ∷ 12 ∷ 13 ∷ 14 ∷ 15 ∷ 10 ∷ 16 ∷ 17 ∷ []
+
+-- the place of x in it
+abbrev pub rank : ℕ → ℕ
+rank x = first (length documentOrder) (λ i. eqb (getD documentOrder i 0) x)
+
+-- the numbers of the causes that hold stand there one behind the other, none before the place `low`
+abbrev pub follows : ℕ → List ℕ → Bool
+follows low [] = true
+follows low (zero ∷ l) = follows low l
+follows low (suc c ∷ l) = leb low (rank (suc c)) && follows (suc (rank (suc c))) l
+
+pub record Follows (low : ℕ) (l : List ℕ) : Type 0 where
+  pub places : follows low l ≡ true
 
 -- ---- "A number comes only when its cause holds and no earlier one does."
 -- the number, which is not 0, by the causes in their order; the table has the entry's own numbers

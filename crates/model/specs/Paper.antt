@@ -29,7 +29,8 @@ module _ (g : System) (o : Settings) (costs : List ℤ) (a : State) where
   -- 512 × U times "â (b − z − y/mu) − phi", with phi = q/mu + (alpha/mu)/2
   unfoldable pub dividend15 : ℕ → ℤ
   dividend15 v =
-      column g v (λ t p r. pos (512 * unit) *ℤ right r -ℤ (pos 256 *ℤ pos (slack (row (a .rows) t r)) +ℤ pos 256 *ℤ pos (multiplier (row (a .rows) t r))))
+      column g v (λ t p r.
+      pos (512 * unit) *ℤ right r -ℤ (pos 256 *ℤ pos (slack (row (a .rows) t r)) +ℤ pos 256 *ℤ pos (multiplier (row (a .rows) t r))))
       -ℤ (pos (o .weight) *ℤ at costs v +ℤ pos (unit * o .ratio))
 
   -- 512 × U times theta = e − alpha/mu
@@ -41,17 +42,28 @@ module _ (g : System) (o : Settings) (costs : List ℤ) (a : State) where
   residual17 c t r =
       pos (2 * unit) *ℤ right r -ℤ sumℤ 3 (λ p. sign r p *ℤ (pos unit +ℤ at c (member (g .members) t p))) -ℤ pos (multiplier (row (a .rows) t r))
 
+  -- the numerator and the divisor of variable v in document 01, the new values, and row r of triple t afterwards
+  abbrev pub num : ℕ → ℤ
+  num v = numerator (o .weight) (sumOf (g .members) (g .triples) (a .rows) v) (at costs v)
+
+  abbrev pub den : ℕ → ℤ
+  den v = divisor (4 * occurrences (g .members) (g .triples) v) (o .ratio)
+
+  abbrev pub newValues : List ℤ
+  newValues = iterate quotient g o costs a .values
+
+  abbrev pub newRow : ℕ → ℕ → ℤ
+  newRow t r = row (iterate quotient g o costs a .rows) t r
+
   pub record Paper : Type 0 where
     -- "e = diag(AᵀA)": 4 for each triple of the variable
     pub norms : (v : ℕ) → norm v ≡ pos (4 * occurrences (g .members) (g .triples) v)
     -- equation 15 is v = dividend15 / divisor15, and that is 1/2 + c/(2U) with c = numerator / divisor, before rounding and limit:
     -- over the common divisor 2U × divisor, the dividends agree
-    pub divisors : (v : ℕ) → divisor15 v ≡ pos (2 * unit) *ℤ divisor (4 * occurrences (g .members) (g .triples) v) (o .ratio)
-    pub dividends : (v : ℕ) → dividend15 v
-        ≡ pos unit *ℤ divisor (4 * occurrences (g .members) (g .triples) v) (o .ratio) +ℤ numerator (o .weight) (sumOf (g .members) (g .triples) (a .rows) v) (at costs v)
+    pub divisors : (v : ℕ) → divisor15 v ≡ pos (2 * unit) *ℤ den v
+    pub dividends : (v : ℕ) → dividend15 v ≡ pos unit *ℤ den v +ℤ num v
     -- c is that quotient, rounded and limited
-    pub values : (v : ℕ) → v < g .variables → at (iterate quotient g o costs a .values) v
-        ≡ quotient (numerator (o .weight) (sumOf (g .members) (g .triples) (a .rows) v) (at costs v)) (divisor (4 * occurrences (g .members) (g .triples) v) (o .ratio))
+    pub values : (v : ℕ) → v < g .variables → at newValues v ≡ quotient (num v) (den v)
     -- equation 17: the new z is the residual where it is above 0, otherwise 0; equation 18: the new y/mu is 0 there, otherwise the residual's negative
-    pub slacks : (t r : ℕ) → t < g .triples → r < 4 → slack (row (iterate quotient g o costs a .rows) t r) ≡ up (residual17 (iterate quotient g o costs a .values) t r)
-    pub multipliers : (t r : ℕ) → t < g .triples → r < 4 → multiplier (row (iterate quotient g o costs a .rows) t r) ≡ dn (residual17 (iterate quotient g o costs a .values) t r)
+    pub slacks : (t r : ℕ) → t < g .triples → r < 4 → slack (newRow t r) ≡ up (residual17 newValues t r)
+    pub multipliers : (t r : ℕ) → t < g .triples → r < 4 → multiplier (newRow t r) ≡ dn (residual17 newValues t r)

@@ -11,11 +11,11 @@ use Rattle.integers.specs.Sum.{sumℕ, sumℤ}
 use Rattle.quotient.specs.Quotient.{unit, quotient}
 use Rattle.model.specs.declared.Settings.{Settings}
 use Rattle.model.specs.Splitting.{System, member}
-use Rattle.model.specs.Iteration.{at, sign, sumAt, row, slack, multiplier, _when_, sumOf, occurrences, numerator, divisor, State, iterate}
+use Rattle.model.specs.Iteration.{at, sign, sumAt, row, slack, multiplier, _when_, State, iterate}
 use Rattle.model.specs.Run.{settledBy, start}
 use Rattle.model.specs.Words.{entry}
 use Rattle.model.specs.Points.{Bits, Point}
-use Rattle.model.specs.Paper.{right, dividend15, divisor15}
+use Rattle.model.specs.Paper.{right, dividend15, divisor15, num, den, newValues, newRow}
 
 -- the entry of A in row r of triple t and the column of variable v: the sign of v there, if the triple has it (equations 5 to 8)
 unfoldable pub matrix : System → ℕ → ℕ → ℕ → ℤ
@@ -40,35 +40,33 @@ pub record PaperSystem (g : System) : Type 0 where
       → (sumAt (g .members) c t r ≤ℤ pos unit) ↔ (times g (λ v. pos unit +ℤ at c v) t r ≤ℤ (pos (2 * unit) *ℤ right r))
 
 module _ (g : System) (o : Settings) (costs : List ℤ) (a : State) where
-  -- v of equation 15 before its projection to [0, 1], as a fraction, and its c
+  -- the limit of c is the projection of equation 15's v, which is dividend15 / divisor15, to [0, 1]
   pub record Projection (v : ℕ) : Type 0 where
     -- where it is 1 or more, the new v is 1; where it is 0 or less, 0
-    pub above : divisor15 g o costs a v ≤ℤ dividend15 g o costs a v → at (iterate quotient g o costs a .values) v ≡ pos unit
-    pub below : dividend15 g o costs a v ≤ℤ pos 0 → at (iterate quotient g o costs a .values) v ≡ negℤ (pos unit)
+    pub above : divisor15 g o costs a v ≤ℤ dividend15 g o costs a v → at (newValues g o costs a) v ≡ pos unit
+    pub below : dividend15 g o costs a v ≤ℤ pos 0 → at (newValues g o costs a) v ≡ negℤ (pos unit)
     -- between, c is nearest: at most half from the quotient
     pub between : pos 0 ≤ℤ dividend15 g o costs a v → dividend15 g o costs a v ≤ℤ divisor15 g o costs a v
-        → 2 * natAbs (numerator (o .weight) (sumOf (g .members) (g .triples) (a .rows) v) (at costs v)
-        -ℤ divisor (4 * occurrences (g .members) (g .triples) v) (o .ratio) *ℤ at (iterate quotient g o costs a .values) v)
-        ≤ natAbs (divisor (4 * occurrences (g .members) (g .triples) v) (o .ratio))
+        → 2 * natAbs (num g o costs a v -ℤ den g o costs a v *ℤ at (newValues g o costs a) v) ≤ natAbs (den g o costs a v)
 
   -- 2U times A v + z − b in row r of triple t, of the new v and z
   abbrev pub residual12 : ℕ → ℕ → ℤ
   residual12 t r =
-      times g (λ v. pos unit +ℤ at (iterate quotient g o costs a .values) v) t r +ℤ pos (slack (row (iterate quotient g o costs a .rows) t r)) -ℤ pos (2 * unit) *ℤ right r
+      times g (λ v. pos unit +ℤ at (newValues g o costs a) v) t r +ℤ pos (slack (newRow g o costs a t r)) -ℤ pos (2 * unit) *ℤ right r
 
   -- the change of z in row r of triple t
   abbrev pub change12 : ℕ → ℕ → ℤ
-  change12 t r = pos (slack (row (iterate quotient g o costs a .rows) t r)) -ℤ pos (slack (row (a .rows) t r))
+  change12 t r = pos (slack (newRow g o costs a t r)) -ℤ pos (slack (row (a .rows) t r))
 
   -- the square of the norm of an x with an entry for each row
   abbrev pub normSquare : (ℕ → ℕ → ℤ) → ℕ
   normSquare x = sumℕ (g .triples) (λ t. sumℕ 4 (λ r. natAbs (x t r) * natAbs (x t r)))
 
-  -- 003, algorithm 1 (its w is z, its lambda y/mu): "Set w and lambda to the length-M all-zero vector"; step 10; "until ‖A v + w − b‖² ≤ xi and
-  -- ‖the change of w‖² ≤ xi"
+  -- 003, algorithm 1, whose w is z and whose lambda is y/mu: the start with all of both 0, step 10, and the stop once neither ‖A v + w − b‖² nor the
+  -- squared norm of w's change exceeds the tolerance
   pub record StartStop : Type 0 where
     pub begins : (i : ℕ) → (slack (at (start g .rows) i) ≡ 0) × (multiplier (at (start g .rows) i) ≡ 0)
     pub steps : (t r : ℕ) → t < g .triples → r < 4
-        → pos (multiplier (row (iterate quotient g o costs a .rows) t r)) ≡ pos (multiplier (row (a .rows) t r)) +ℤ residual12 t r
+        → pos (multiplier (newRow g o costs a t r)) ≡ pos (multiplier (row (a .rows) t r)) +ℤ residual12 t r
     pub stops : (settledBy (o .tolerance) (g .triples) (a .rows) (iterate quotient g o costs a .rows) ≡ 1)
         ↔ ((normSquare residual12 ≤ o .tolerance) × (normSquare change12 ≤ o .tolerance))

@@ -29,11 +29,15 @@ abbrev pub centred : ℕ → ℤ
 centred zero = negℤ (pos unit)
 centred (suc b) = pos unit
 
+-- of the variable at position i of triple t
+abbrev pub centredAt : System → List ℕ → ℕ → ℕ → ℤ
+centredAt g p t i = centred (entry p (member (g .members) t i))
+
 -- "it meets the system when, at its centred values, all four sums of each triple are at most U" (000, equations 4 to 6)
 pub record Point (g : System) (p : List ℕ) : Type 0 where
   pub point : Bits (g .variables) p
   pub meets : (t r : ℕ) → t < g .triples → r < 4
-      → rowSum r (centred (entry p (member (g .members) t 0))) (centred (entry p (member (g .members) t 1))) (centred (entry p (member (g .members) t 2))) ≤ℤ pos unit
+      → rowSum r (centredAt g p t 0) (centredAt g p t 1) (centredAt g p t 2) ≤ℤ pos unit
 
 -- Along the recorded triples: where a triple's third is the next auxiliary, it was recorded when that was made, and "each auxiliary's entry
 -- is the sum modulo 2 of the entries of the first two items of the triple recorded when it was made"

@@ -1,5 +1,6 @@
 -- What each entry promises of every call: the equation with its definition in Calls, and what follows from it in the words of the demands. An entry's
--- contract cites its record, and so does the C function over it. Statements only; the proofs are in proofs/Promises.antt.
+-- contract cites its record, and so does the C function over it. In each, `order` says that the number is one of the entry's own and that of the first cause
+-- that holds, and `follows` that the causes stand in document 01's order. Statements only; the proofs are in proofs/Promises.antt.
 use mathlib.Core.Path.{_≡_}
 use mathlib.Core.Bool.{false}
 use mathlib.Core.Logic.{_↔_, _⊎_}
@@ -13,7 +14,7 @@ use Rattle.model.specs.declared.Settings.{Settings}
 use Rattle.model.specs.declared.Channel as declared
 use Rattle.model.specs.Causes.{accepted}
 use Rattle.model.specs.Code.{Code, triples, variables}
-use Rattle.model.specs.Records.{codeOf, judge, recordCauses, recordsOf}
+use Rattle.model.specs.Records.{codeOf, judge, wholeCauses, recordCauses, recordsOf}
 use Rattle.model.specs.Sound.{Sound}
 use Rattle.model.specs.Splitting.{systemOf}
 use Rattle.model.specs.Iteration.{at, countsOf}
@@ -23,7 +24,7 @@ use Rattle.model.specs.Reflection.{reflect}
 use Rattle.model.specs.Channel.{product, costOf}
 use Rattle.model.specs.Calls.{ReaderAnswer, reader, Split, splitterCauses, splitter, wordCauses, codewordTest, Extended, extensionCauses, extension}
 use Rattle.model.specs.Calls.{Lists, Decoded, noRoom, decoderCauses, decoderCause, decoder, Costs, frontCauses, channelFront, reflectorCauses, reflector}
-use Rattle.model.specs.Order.{oddCauses, runCauses, Ordered, oneToNine}
+use Rattle.model.specs.Order.{oddCauses, runCauses, Follows, Ordered, oneToNine}
 use Rattle.model.specs.WordClaims.{Tested, PointOf}
 use Rattle.model.specs.ChannelClaims.{Costed}
 use Rattle.model.specs.Claims.{Demand3}
@@ -33,6 +34,7 @@ use Rattle.model.specs.Entry.{runOf, Refused, Ran, Iterated, ReflectedCa
 pub record ReaderCall (b : List ℕ) (a : ReaderAnswer) : Type 0 where
   pub equation : a ≡ reader b
   pub order : Ordered (recordCauses b) oneToNine (a .number)
+  pub follows : Follows 0 (wholeCauses b)
   -- the accepted bytes are the records of the codes that 'Code records' describes
   pub exactly : (a .number ≡ 0) ↔ ((k : Code) × Sound k × (b ≡ recordsOf k))
   pub refused : (c : ℕ) → a .number ≡ suc c → a ≡ record { number = suc c; bits = 0; checks = 0; triples = 0 }
@@ -43,6 +45,7 @@ pub record ReaderCall (b : List ℕ) (a : ReaderAnswer) : Type 0 where
 pub record SplitterCall (b ts cs : List ℕ) (a : Split) : Type 0 where
   pub equation : a ≡ splitter b ts cs
   pub order : Ordered (recordCauses b ++ splitterCauses (codeOf b) ts cs) (oneToNine ++ (10 ∷ [])) (a .number)
+  pub follows : Follows 0 (wholeCauses b ++ splitterCauses (codeOf b) ts cs)
   pub refused : (c : ℕ) → a .number ≡ suc c → (a .triples ≡ ts) × (a .counts ≡ cs)
   pub split : a .number ≡ 0 → (a .triples ≡ written (systemOf (codeOf b) .members) ts) × (a .counts ≡ written (countsOf (systemOf (codeOf b))) cs)
 
@@ -50,6 +53,7 @@ pub record SplitterCall (b ts cs : List ℕ) (a : Split) : Type 0 where
 pub record FrontCall (setting : declared.Channel) (samples : List Float) (old : List ℤ) (a : Costs) : Type 0 where
   pub equation : a ≡ channelFront setting samples old
   pub order : Ordered (frontCauses setting samples old) (10 ∷ 11 ∷ 14 ∷ []) (a .number)
+  pub follows : Follows 0 (frontCauses setting samples old)
   pub refused : (c : ℕ) → a .number ≡ suc c → a .costs ≡ old
   pub filled : a .number ≡ 0 → a .costs ≡ written (map (costOf setting) samples) old
   -- "The cost is the nearest whole number, halves away from zero, limited to −32,767..32,767; an infinite product goes to the limit."
@@ -64,6 +68,7 @@ pub record FrontCall (setting : declared.Channel) (samples : List Float) (old : 
 pub record ReflectorCall (costs : List ℤ) (w : List ℕ) (old : List ℤ) (a : Costs) : Type 0 where
   pub equation : a ≡ reflector costs w old
   pub order : Ordered (reflectorCauses costs w old) (10 ∷ 12 ∷ 13 ∷ 15 ∷ []) (a .number)
+  pub follows : Follows 0 (reflectorCauses costs w old)
   pub refused : (c : ℕ) → a .number ≡ suc c → a .costs ≡ old
   pub reflected : a .number ≡ 0 → a .costs ≡ written (reflect w costs) old
 
@@ -71,6 +76,7 @@ pub record ReflectorCall (costs : List ℤ) (w : List ℕ) (old : List ℤ) (a :
 pub record TestCall (b w : List ℕ) (a : Outcome) : Type 0 where
   pub equation : a ≡ codewordTest b w
   pub order : Ordered (recordCauses b ++ (wordCauses (codeOf b .bits) w ++ oddCauses (codeOf b) w)) (oneToNine ++ (12 ∷ 15 ∷ 17 ∷ [])) (a .number)
+  pub follows : Follows 0 (wholeCauses b ++ (wordCauses (codeOf b .bits) w ++ oddCauses (codeOf b) w))
   -- the number 0 is for the codewords of accepted codes
   pub codeword : (a .number ≡ 0) ↔ ((judge b ≡ 0) × Codeword (codeOf b) w)
   -- 17: "not a codeword, with the first such check"; no other number has a place
@@ -82,6 +88,7 @@ pub record ExtensionCall (b w p : List ℕ) (a : Extended) : Type 0 where
   pub equation : a ≡ extension b w p
   pub order : Ordered (recordCauses b ++ (extensionCauses (codeOf b) w p ++ oddCauses (codeOf b) w)) (oneToNine ++ (10 ∷ 12 ∷ 15 ∷ 17 ∷ []))
       (a .outcome .number)
+  pub follows : Follows 0 (wholeCauses b ++ (extensionCauses (codeOf b) w p ++ oddCauses (codeOf b) w))
   -- the number 0 is for the codewords of accepted codes, where there is room
   pub codeword : (a .outcome .number ≡ 0) ↔ ((judge b ≡ 0) × (variables (codeOf b) ≤ length p) × Codeword (codeOf b) w)
   -- with it the codeword's point is written, which is the only point over the codeword
@@ -99,6 +106,7 @@ pub record DecoderCall (b : List ℕ) (o : Settings) (costs : List ℤ) (l : Lis
   -- demand 1
   pub order : Ordered (recordCauses b ++ (decoderCauses (codeOf b) o costs l ++ runCauses (codeOf b) (runOf b o costs .last .values)))
       (oneToNine ++ (10 ∷ 11 ∷ 12 ∷ 13 ∷ 16 ∷ 17 ∷ [])) (d .answer .number)
+  pub follows : Follows 0 (wholeCauses b ++ (decoderCauses (codeOf b) o costs l ++ runCauses (codeOf b) (runOf b o costs .last .values)))
   pub refused : (c : ℕ) → decoderCause b o costs l ≡ suc c → Refused b o costs l d
   -- demand 2
   pub ran : decoderCause b o costs l ≡ 0 → Ran b o costs l d

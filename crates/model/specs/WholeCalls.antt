@@ -44,16 +44,18 @@ pub record WholeCalls : Type 0 where
   -- "frames (0,0,0), (20000,20000,−8000), (20000,20000,20000) print" U 2 1 0, N 2 0 0, W 2 0 000
   pub undecided : (l : Lists) → Room l → decoder listed (settings 256 0) (pos 0 ∷ pos 0 ∷ pos 0 ∷ []) l ≡ record {
     answer = record { number = 16; place = 0; k = 2; settled = 1 };
-    lists = leaves l (pos 0 ∷ pos 0 ∷ pos 0 ∷ []) (pos 0 ∷ pos 0 ∷ pos 0 ∷ []) ((− 16384) ∷ (− 16384) ∷ (− 16384) ∷ (− 16384) ∷ []) (l .word);
+    lists = leaves l (pos 0 ∷ pos 0 ∷ pos 0 ∷ []) (pos 0 ∷ pos 0 ∷ pos 0 ∷ [])
+        ((− 16384) ∷ (− 16384) ∷ (− 16384) ∷ (− 16384) ∷ []) (l .word);
   }
   pub odd : (l : Lists) → Room l → decoder listed (settings 256 0) by-hand l ≡ record {
     answer = record { number = 17; place = 0; k = 2; settled = 0 };
-    lists = leaves l (pos 20000 ∷ pos 20000 ∷ (− 8000) ∷ []) ((− 10000) ∷ (− 10000) ∷ pos 4000 ∷ []) ((− 20384) ∷ (− 20384) ∷ pos 7616 ∷ (− 32384) ∷ []) (l .word);
+    lists = leaves l (pos 20000 ∷ pos 20000 ∷ (− 8000) ∷ []) ((− 10000) ∷ (− 10000) ∷ pos 4000 ∷ [])
+        ((− 20384) ∷ (− 20384) ∷ pos 7616 ∷ (− 32384) ∷ []) (l .word);
   }
   pub word : (l : Lists) → Room l → decoder listed (settings 256 0) (pos 20000 ∷ pos 20000 ∷ pos 20000 ∷ []) l ≡ record {
     answer = record { number = 0; place = 0; k = 2; settled = 0 };
-    lists = leaves l (pos 20000 ∷ pos 20000 ∷ pos 20000 ∷ []) ((− 10000) ∷ (− 10000) ∷ (− 10000) ∷ []) ((− 6384) ∷ (− 6384) ∷ (− 6384) ∷ (− 46384) ∷ [])
-        (written (0 ∷ 0 ∷ 0 ∷ []) (l .word));
+    lists = leaves l (pos 20000 ∷ pos 20000 ∷ pos 20000 ∷ []) ((− 10000) ∷ (− 10000) ∷ (− 10000) ∷ [])
+        ((− 6384) ∷ (− 6384) ∷ (− 6384) ∷ (− 46384) ∷ []) (written (0 ∷ 0 ∷ 0 ∷ []) (l .word));
   }
 
 -- "cost weight W (1 to 65,535), ratio A (0 to 1,023 …), iterations K (1 to 1,000), tolerance X (any 32-bit unsigned)"
