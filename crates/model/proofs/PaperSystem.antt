@@ -19,6 +19,7 @@ use Rattle.quotient.specs.Quotient.{unit, quotient, Rounded}
 use Rattle.quotient.specs.Quotient.Laws.{quotient-odd, quotient-is, rounded-by}
 use Rattle.model.specs.declared.Settings.{Settings}
 use Rattle.model.specs.Causes.{_if_, outside}
+use Rattle.model.specs.Code.{variables}
 use Rattle.model.specs.Records.{codeOf, judge}
 use Rattle.model.specs.Splitting.{System, systemOf, member}
 use Rattle.model.specs.Iteration.{at, sign, rowSum, row, slack, multiplier, _when_, sumOf, occurrences, numerator, divisor, State, iterate}
@@ -27,6 +28,7 @@ use Rattle.model.specs.Words.{entry}
 use Rattle.model.specs.Points.{centred}
 use Rattle.model.specs.Paper.{right, residual17}
 use Rattle.model.specs.PaperSystem.{matrix, times, Within, PaperSystem, Projection, residual12, normSquare, StartStop}
+use Rattle.model.specs.Entry.{iterateOf, Published}
 use Rattle.model.proofs.Accepted.{accepted}
 use Rattle.model.proofs.TripleRule.{member-below, occurs-some}
 use Rattle.model.proofs.Bounds.{divisor-above}
@@ -267,16 +269,24 @@ module _ (g : System) (o : Settings) (costs : List ℤ) (a : State) where
       stops = rw (← residuals) (both (changes multiplier (g .triples) (a .rows) (b .rows)) (changes slack (g .triples) (a .rows) (b .rows)) (o .tolerance));
     }
 
--- ---- of every accepted code
-pub accepted-system : (c : List ℕ) → judge c ≡ 0 → PaperSystem (systemOf (codeOf c))
-accepted-system c h = paper-system (systemOf (codeOf c)) (member-below (codeOf c) (accepted c h))
+-- ---- of every accepted code and settings
+module _ (b : List ℕ) (judged : judge b ≡ 0) (o : Settings) (costs : List ℤ) where
+  within : Within (systemOf (codeOf b))
+  within = member-below (codeOf b) (accepted b judged)
 
--- and of every accepted call: the divisors are above 0
-pub accepted-projection : (c : List ℕ) → judge c ≡ 0 → (o : Settings) → wild o ≡ false → (costs : List ℤ) (a : State) (v : ℕ) → v < systemOf (codeOf c) .variables
-    → Projection (systemOf (codeOf c)) o costs a v
-unfolding systemOf
-accepted-projection c h o w costs a v l =
-    let t = or-false (outside 1 65535 (o .weight)) _ w in
-    projection (systemOf (codeOf c)) o costs a v l
-    (divisor-above (occurrences (systemOf (codeOf c) .members) (systemOf (codeOf c) .triples) v) (o .ratio) (occurs-some (codeOf c) (accepted c h) v l)
-    (ltb-false 1023 (o .ratio) (or-false (ltb 1023 (o .ratio)) _ (t .1) .0)))
+  -- the divisors are above 0
+  accepted-projection : wild o ≡ false → (a : State) (v : ℕ) → v < variables (codeOf b) → Projection (systemOf (codeOf b)) o costs a v
+  unfolding systemOf
+  accepted-projection w a v l =
+      let t = or-false (outside 1 65535 (o .weight)) _ w in
+      projection (systemOf (codeOf b)) o costs a v l
+      (divisor-above (occurrences (systemOf (codeOf b) .members) (systemOf (codeOf b) .triples) v) (o .ratio) (occurs-some (codeOf b) (accepted b judged) v l)
+      (ltb-false 1023 (o .ratio) (or-false (ltb 1023 (o .ratio)) _ (t .1) .0)))
+
+  pub published : wild o ≡ false → Published b o costs
+  published w = record {
+    system = paper-system (systemOf (codeOf b)) within;
+    updates = λ i. paper (systemOf (codeOf b)) o costs (iterateOf b o costs i);
+    projections = λ i. accepted-projection w (iterateOf b o costs i);
+    stops = λ i. start-stop (systemOf (codeOf b)) o costs (iterateOf b o costs i) within;
+  }

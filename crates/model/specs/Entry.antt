@@ -19,6 +19,8 @@ use Rattle.model.specs.Reflection.{turned, reflect, sumOfWords, Opposite
 use Rattle.model.specs.Calls.{Lists, Decoded, decoderCauses, decoderCause}
 use Rattle.model.specs.Order.{Refusal, oneToNine}
 use Rattle.model.specs.WordClaims.{Decided}
+use Rattle.model.specs.Paper.{Paper}
+use Rattle.model.specs.PaperSystem.{PaperSystem, Projection, StartStop}
 
 -- the causes before a run, one by one
 abbrev pub inputCauses : List ℕ → Settings → List ℤ → Lists → List ℕ
@@ -84,6 +86,13 @@ pub record Iterated (b : List ℕ) (o : Settings) (costs : List ℤ) (l : Lists)
   pub multipliers : (i : ℕ) → i < 4 * triples (codeOf b) → multiplier (at (d .lists .rows) i) ≤ 32768 * o .limit
   pub slacks : (i : ℕ) → i < 4 * triples (codeOf b) → slack (at (d .lists .rows) i) ≤ 65536
 
+-- "equal the published QP-ADMM decoder": the system, and the step to every iterate, with its start and its stop
+pub record Published (b : List ℕ) (o : Settings) (costs : List ℤ) : Type 0 where
+  pub system : PaperSystem (systemOf (codeOf b))
+  pub updates : (i : ℕ) → Paper (systemOf (codeOf b)) o costs (iterateOf b o costs i)
+  pub projections : (i v : ℕ) → v < variables (codeOf b) → Projection (systemOf (codeOf b)) o costs (iterateOf b o costs i) v
+  pub stops : (i : ℕ) → StartStop (systemOf (codeOf b)) o costs (iterateOf b o costs i)
+
 -- costs that are 16-bit numbers and not −32,768, as those of every accepted call are
 abbrev pub Small : List ℤ → Type 0
 Small costs = (v : ℕ) → natAbs (at costs v) ≤ 32767
@@ -92,7 +101,8 @@ Small costs = (v : ℕ) → natAbs (at costs v) ≤ 32767
 pub record ReflectedCalls (b : List ℕ) (o : Settings) (costs : List ℤ) (w : List ℕ) (m : Lists) (d e : Decoded) : Type 0 where
   -- the second call is accepted as the first is
   pub accepted : decoderCause b o (reflect w costs) m ≡ 0
-  -- "After every iteration c and S are those of the first run, negated where the point has a 1 and the same elsewhere", and rows change places
+  -- "After every iteration of the reflected run c and S are those of the first run, negated where the point has a 1 and the same elsewhere", and rows change
+  -- places
   pub each : (i : ℕ) → Reflected (systemOf (codeOf b)) (pointOf (codeOf b) w) (iterateOf b o costs i) (iterateOf b o (reflect w costs) i)
   -- "Both runs end after the same iteration; the kind of answer, count, settled and place stay"
   pub answer : e .answer ≡ d .answer

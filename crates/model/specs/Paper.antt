@@ -26,7 +26,7 @@ module _ (g : System) (o : Settings) (costs : List ℤ) (a : State) where
   unfoldable pub norm : ℕ → ℤ
   norm v = column g v (λ t p r. sign r p)
 
-  -- 512 × U times "â (b − z − y/mu) − phi", with phi = q/mu + (alpha/mu)/2
+  -- 512 × U times â (b − z − y/mu) − phi, with phi = q/mu + (alpha/mu)/2
   unfoldable pub dividend15 : ℕ → ℤ
   dividend15 v =
       column g v (λ t p r.
@@ -37,7 +37,7 @@ module _ (g : System) (o : Settings) (costs : List ℤ) (a : State) where
   unfoldable pub divisor15 : ℕ → ℤ
   divisor15 v = pos (512 * unit) *ℤ norm v -ℤ pos (2 * unit * o .ratio)
 
-  -- 2U times "b − a v − y/mu", with the values c and the old multiplier: z before its projection (equation 17)
+  -- 2U times b − a v − y/mu, with the values c and the old multiplier: z before its projection (equation 17)
   unfoldable pub residual17 : List ℤ → ℕ → ℕ → ℤ
   residual17 c t r =
       pos (2 * unit) *ℤ right r -ℤ sumℤ 3 (λ p. sign r p *ℤ (pos unit +ℤ at c (member (g .members) t p))) -ℤ pos (multiplier (row (a .rows) t r))
@@ -56,7 +56,7 @@ module _ (g : System) (o : Settings) (costs : List ℤ) (a : State) where
   newRow t r = row (iterate quotient g o costs a .rows) t r
 
   pub record Paper : Type 0 where
-    -- "e = diag(AᵀA)": 4 for each triple of the variable
+    -- e = diag(AᵀA): 4 for each triple of the variable
     pub norms : (v : ℕ) → norm v ≡ pos (4 * occurrences (g .members) (g .triples) v)
     -- equation 15 is v = dividend15 / divisor15, and that is 1/2 + c/(2U) with c = numerator / divisor, before rounding and limit:
     -- over the common divisor 2U × divisor, the dividends agree

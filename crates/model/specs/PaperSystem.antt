@@ -32,7 +32,7 @@ Within g = (t p : ℕ) → t < g .triples → p < 3 → member (g .members) t p 
 pub record PaperSystem (g : System) : Type 0 where
   -- a row of A has its three signs, at the three variables of its triple
   pub rows : (x : ℕ → ℤ) (t r : ℕ) → t < g .triples → times g x t r ≡ sumℤ 3 (λ p. sign r p *ℤ x (member (g .members) t p))
-  -- "A v ≤ b" with b = 0, 0, 0, 2 (equations 8b and 8c): a 0/1 point meets the system exactly when it holds of its entries
+  -- A v ≤ b with b = 0, 0, 0, 2 (equations 8b and 8c): a 0/1 point meets the system exactly when it holds of its entries
   pub points : (p : List ℕ) → Bits (g .variables) p
       → Point g p ↔ ((t r : ℕ) → t < g .triples → r < 4 → times g (λ v. pos (entry p v)) t r ≤ℤ right r)
   -- and at all centred values, multiplied by 2U: the sums are at most U exactly when A v ≤ b

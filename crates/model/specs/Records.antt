@@ -22,14 +22,14 @@ unfoldable pub numbers : ℕ → List ℕ → List ℕ
 numbers zero s = []
 numbers (suc d) s = twoBytes s ∷ numbers d (drop 2 s)
 
--- "Header: mark 0x4C48, bits n, checks m": n and m
+-- "Header: mark 0x4C48, bits n …, checks m …, two bytes each.": n and m
 abbrev pub bitCount : List ℕ → ℕ
 bitCount s = twoBytes (drop 2 s)
 
 abbrev pub checkCount : List ℕ → ℕ
 checkCount s = twoBytes (drop 4 s)
 
--- "check records: mark 0x4C43, a one-byte degree d, then d bit indices of two bytes": of the record that s begins with
+-- "check records: mark 0x4C43, a one-byte degree d …, then d bit indices of two bytes": of the record that s begins with
 abbrev pub degree : List ℕ → ℕ
 degree s = getD s 2 0
 

@@ -9,7 +9,7 @@ pub struct Settings {
     pub tolerance: u32,
 }
 
-// "Erasing with a floor and a weight that belong together."
+// "erasing with a floor and a weight that belong together"
 pub struct Erasure {
     pub floor: f32,
     pub weight: f32,
