@@ -1,7 +1,6 @@
 -- What each entry promises of a call follows from the equation with its definition. Assumes nothing.
 use mathlib.Core.Path.{_≡_, refl, sym, ap, _∙_, subst}
 use mathlib.Core.Bool.{Bool, true, false, not, _||_}
-use mathlib.Core.Logic.{_⊎_, inl, inr}
 use mathlib.Core.List.{List, [], _∷_, _++_, map}
 use Prim.Native.Nat.{ℕ, zero, suc, _*_, _≤_, _<_}
 use native.Mathlib.Omega.{arith}
@@ -11,7 +10,7 @@ use lib.Ieee.{Float, nan}
 use lib.IntN.{ℤ, pos}
 use lib.ListN.{length, getD, take, drop}
 use lib.Seq.{take-at}
-use Rattle.lists.specs.Entries.{every, some}
+use Rattle.lists.specs.Entries.{some}
 use Rattle.lists.specs.Tabulated.{written}
 use Rattle.lists.proofs.Tabulated.{over-in, over-map}
 use Rattle.lists.proofs.Entries.{some-at}
@@ -19,13 +18,12 @@ use Rattle.model.specs.declared.Settings.{Settings}
 use Rattle.model.specs.declared.Channel.{Channel}
 use Rattle.model.specs.Causes.{_if_, firstOf, short, accepted}
 use Rattle.model.specs.Code.{Code, triples, variables}
-use Rattle.model.specs.Records.{codeOf, judge, recordCauses, recordsOf}
-use Rattle.model.specs.Sound.{Sound}
+use Rattle.model.specs.Records.{codeOf, judge, recordCauses}
 use Rattle.model.specs.RecordClaims.{Bytes}
 use Rattle.model.specs.Splitting.{systemOf}
 use Rattle.model.specs.Iteration.{at}
 use Rattle.model.specs.Words.{firstOdd, Outcome, tested}
-use Rattle.model.specs.Points.{Codeword, Point, pointOf}
+use Rattle.model.specs.Points.{Codeword, pointOf}
 use Rattle.model.specs.Reflection.{reflect}
 use Rattle.model.specs.Channel.{finite, inRange, product, costOf}
 use Rattle.model.specs.Calls.{wild, unequal, forbidden, notBinary, ReaderAnswer, reader, Split, splitter, wordCauses, codewordTest}

@@ -1,6 +1,6 @@
 -- The accepted bytes are the records of the sound codes: reading what was written, writing what was read, and the judgement. Assumes nothing.
 use mathlib.Core.Path.{_≡_, refl, sym, ap, ap₂, _∙_}
-use mathlib.Core.Bool.{Bool, true, false, not}
+use mathlib.Core.Bool.{true, false, not}
 use mathlib.Core.List.{List, [], _∷_, _++_, append-assoc, append-nil}
 use mathlib.Core.Logic.{_↔_}
 use Prim.Native.Nat.{ℕ, zero, suc, _+_, _*_, _/_, _%_, _≤_, _<_}
@@ -9,8 +9,7 @@ use lib.Dec.{leb, ltb, eqb}
 use lib.ListN.{length, drop, length-append, length-drop}
 use lib.Seq.{getD-drop, drop-cons, drop-drop, drop-at}
 use borrow.Author.Tests.{ltb-false, leb-false, le-ltb, lt-leb, not-false}
-use Rattle.lists.specs.Tabulated.{tab}
-use Rattle.lists.specs.Entries.{every, some, total}
+use Rattle.lists.specs.Entries.{some, total}
 use Rattle.model.specs.Causes.{_if_, firstOf, short, outside}
 use Rattle.model.specs.Code.{Code, triples}
 use Rattle.model.specs.Records.{twoBytes, numbers, bitCount, checkCount, degree, indices, afterCheck, checksIn, afterChecks, codeOf, covered}
