@@ -2,7 +2,7 @@
 // that its contract names, the same as that of the entry it calls.
 ghost use mathlib.Core.Path.{_≡_};
 ghost use Rattle.model.specs.declared.Settings.{Settings};
-ghost use Rattle.model.specs.Calls.{readingTold, verdictTold, Lists, decodingTold};
+ghost use Rattle.model.specs.Calls.{readingTold, verdictTold, listsOf, decodingTold};
 ghost use Rattle.model.specs.Promises.{ReaderCall, SplitterCall, FrontCall, ReflectorCall, TestCall, ExtensionCall, DecoderCall};
 ghost use Rattle.c_api.specs.Answers.{codeAnswer, wordAnswer, decodeAnswer};
 use model::Channel;
@@ -197,12 +197,8 @@ pub extern "C" fn widagbe_decode(
 ) -> DecodeAnswer
     ensures { λ r. ⌜ (
         let settings : Settings = record { weight = weight; ratio = ratio; limit = limit; tolerance = tolerance } in
-        let before : Lists = record {
-            triples = now (triples .entry); counts = now (counts .entry); sums = now (sums .entry);
-            values = now (values .entry); rows = now (rows .entry); word = now (word .entry) } in
-        let after : Lists = record {
-            triples = now (triples .exit); counts = now (counts .exit); sums = now (sums .exit);
-            values = now (values .exit); rows = now (rows .exit); word = now (word .exit) } in
+        let before = listsOf (now (triples .entry)) (now (counts .entry)) (now (sums .entry)) (now (values .entry)) (now (rows .entry)) (now (word .entry)) in
+        let after = listsOf (now (triples .exit)) (now (counts .exit)) (now (sums .exit)) (now (values .exit)) (now (rows .exit)) (now (word .exit)) in
         DecoderCall (now (code .entry)) settings (now (costs .entry)) before (record { answer = decodeAnswer r; lists = after })) ⌝ }
 {
     decode_answer(decoder::decode(

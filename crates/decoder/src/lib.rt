@@ -15,7 +15,7 @@ ghost use Rattle.model.specs.Splitting.{systemOf};
 ghost use Rattle.model.specs.Iteration.{countsOf};
 ghost use Rattle.model.specs.Run as Run;
 ghost use Rattle.model.specs.Calls as Calls;
-ghost use Rattle.model.specs.Calls.{unequal, forbidden, Lists, decodingTold, decodedBy};
+ghost use Rattle.model.specs.Calls.{unequal, forbidden, listsOf, decodingTold, decodedBy};
 ghost use Rattle.model.specs.Told.{decodingKind};
 ghost use Rattle.model.specs.Entry.{Small};
 ghost use Rattle.model.specs.Promises.{DecoderCall};
@@ -136,12 +136,8 @@ fn decode_accepted(
     requires { ⌜ (3 * total ≤ length (now triples)) × (variables ≤ length (now counts)) ⌝ }
     requires { ⌜ (variables ≤ length (now sums)) × (variables ≤ length (now values)) × (4 * total ≤ length (now rows)) × (bits ≤ length (now word)) ⌝ }
     ensures { λ d. ⌜ (let k = codeOf (now (code .entry)) in
-        let before : Lists = record {
-            triples = now (triples .entry); counts = now (counts .entry); sums = now (sums .entry);
-            values = now (values .entry); rows = now (rows .entry); word = now (word .entry) } in
-        let after : Lists = record {
-            triples = now (triples .exit); counts = now (counts .exit); sums = now (sums .exit);
-            values = now (values .exit); rows = now (rows .exit); word = now (word .exit) } in
+        let before = listsOf (now (triples .entry)) (now (counts .entry)) (now (sums .entry)) (now (values .entry)) (now (rows .entry)) (now (word .entry)) in
+        let after = listsOf (now (triples .exit)) (now (counts .exit)) (now (sums .exit)) (now (values .exit)) (now (rows .exit)) (now (word .exit)) in
         record { answer = decodingTold d; lists = after } ≡ decodedBy k (Run.run quotient (systemOf k) settings (now (costs .entry))) before) ⌝ }
     ensures { λ d. ⌜ decodingKind d ⌝ }
 {
@@ -175,12 +171,8 @@ pub fn decode(
     word: &mut [u8],
 ) -> Decoding
     ensures call { λ d. ⌜ (
-        let before : Lists = record {
-            triples = now (triples .entry); counts = now (counts .entry); sums = now (sums .entry);
-            values = now (values .entry); rows = now (rows .entry); word = now (word .entry) } in
-        let after : Lists = record {
-            triples = now (triples .exit); counts = now (counts .exit); sums = now (sums .exit);
-            values = now (values .exit); rows = now (rows .exit); word = now (word .exit) } in
+        let before = listsOf (now (triples .entry)) (now (counts .entry)) (now (sums .entry)) (now (values .entry)) (now (rows .entry)) (now (word .entry)) in
+        let after = listsOf (now (triples .exit)) (now (counts .exit)) (now (sums .exit)) (now (values .exit)) (now (rows .exit)) (now (word .exit)) in
         DecoderCall (now (code .entry)) settings (now (costs .entry)) before (record { answer = decodingTold d; lists = after })) ⌝ }
     ensures kind { λ d. ⌜ decodingKind d ⌝ }
 {

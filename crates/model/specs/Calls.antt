@@ -123,6 +123,9 @@ pub record Lists : Type 0 where
   pub rows : List ℤ
   pub word : List ℕ
 
+abbrev pub listsOf : List ℕ → List ℕ → List ℤ → List ℤ → List ℤ → List ℕ → Lists
+listsOf ts cs S c s w = record { triples = ts; counts = cs; sums = S; values = c; rows = s; word = w }
+
 pub record Answer : Type 0 where
   pub number : ℕ
   pub place : ℕ

@@ -173,10 +173,11 @@ returns-3 : tie.Need-returns-3
 returns-3 c =
     let d = c .before .before .before .before .before .before .before .before .before in
     let e = d .before .before .before .before .before .before .before in
-    let q = e .before in
-    (accepted-is (s q .args .code .now) (s q .args .settings) (s q .args .costs .now) (l q) (read (found q) .judged) _ (sym (e .if1 .left) ∙ cause-is q)
-    (q .cause .ensures .1 (e .if1 .left)) (d .decode-accepted .ensures .0),
-    d .decode-accepted .ensures .1)
+    let q = e .before in (
+      accepted-is (s q .args .code .now) (s q .args .settings) (s q .args .costs .now) (l q) (read (found q) .judged) _ (sym (e .if1 .left) ∙ cause-is q)
+          (q .cause .ensures .1 (e .if1 .left)) (d .decode-accepted .ensures .0),
+      d .decode-accepted .ensures .1,
+    )
 
 pub decode-spec : {M : Type 1} → statement M
 decode-spec =

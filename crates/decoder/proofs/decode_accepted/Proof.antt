@@ -85,13 +85,14 @@ returns c =
     let a = s r .args in
     let after = r .run-system in
     let before : Lists = record { triples = a .triples .now; counts = a .counts .now; sums = a .sums .now; values = a .values .now; rows = a .rows .now; word = a .word .now } in
-    let told = c .before .before .conclude .ensures .0 in
-    (decoded (k r) (e r) before _ _ (after .ensures .0 .0) (after .ensures .0 .1) (after .ensures .1 .2) (after .ensures .1 .3) (after .ensures .1 .4)
-    (told .0
-    ∙ ap (λ (l : List ℤ). answered (outcome (k r) l) (after .result .k) (after .result .settled)) (part-is r)
-    ∙ ap₂ (λ (m n : ℕ). answered (outcome (k r) (e r .last .values)) m n) (after .ensures .1 .0) (after .ensures .1 .1))
-    (told .1 ∙ ap (λ (l : List ℤ). Causes.accepted (outcome (k r) l .number) (written (wordOf (k r) l) (a .word .now)) (a .word .now)) (part-is r)),
-    c .before .before .conclude .ensures .1)
+    let told = c .before .before .conclude .ensures .0 in (
+      decoded (k r) (e r) before _ _ (after .ensures .0 .0) (after .ensures .0 .1) (after .ensures .1 .2) (after .ensures .1 .3) (after .ensures .1 .4)
+          (told .0
+          ∙ ap (λ (l : List ℤ). answered (outcome (k r) l) (after .result .k) (after .result .settled)) (part-is r)
+          ∙ ap₂ (λ (m n : ℕ). answered (outcome (k r) (e r .last .values)) m n) (after .ensures .1 .0) (after .ensures .1 .1))
+          (told .1 ∙ ap (λ (l : List ℤ). Causes.accepted (outcome (k r) l .number) (written (wordOf (k r) l) (a .word .now)) (a .word .now)) (part-is r)),
+      c .before .before .conclude .ensures .1,
+    )
 
 pub decode-accepted-spec : {M : Type 1} → statement M
 decode-accepted-spec =
