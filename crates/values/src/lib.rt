@@ -7,7 +7,7 @@ ghost use Rattle.lists.specs.Tabulated.{tab};
 ghost use Rattle.quotient.specs.Quotient.{quotient};
 ghost use Rattle.model.specs.Iteration.{at, numerator};
 ghost use Rattle.model.specs.Iteration as Iteration;
-ghost use Rattle.values.specs.Divisors.{mostsOf, inversesOf, Tables};
+ghost use Rattle.values.specs.Divisors.{Tables};
 
 fn index(x: u16) -> usize
     ensures { λ r. ⌜ r ≡ x ⌝ }
@@ -31,44 +31,34 @@ fn divisor(count: usize, ratio: u32) -> i64
     1024 * (count as i64) - (ratio as i64)
 }
 
-// The inverses of the divisors of the counts 1, 2, on.
-pub fn write_inverses(ratio: u32, inverses: &mut [i64])
-    requires { ⌜ (ratio ≤ 1023) × (length (now inverses) ≤ 63) ⌝ }
-    ensures { λ _. ⌜ now (inverses .exit) ≡ inversesOf ratio (length (now (inverses .entry))) ⌝ }
+// The divisors of the counts 1, 2, on, made ready to be divided by.
+pub fn prepare(ratio: u32, mosts: &mut [i64], inverses: &mut [i64])
+    requires { ⌜ (ratio ≤ 1023) × (length (now mosts) ≡ length (now inverses)) × (length (now inverses) ≤ 63) ⌝ }
+    ensures { λ _. ⌜ Tables ratio (now (mosts .exit)) (now (inverses .exit)) ⌝ }
 {
     let n = inverses.len();
     let mut i = 0;
     while i < n {
-        inverses[i] = quotient::inverse(divisor(i + 1, ratio));
+        let prepared = quotient::prepare(divisor(i + 1, ratio));
+        let most = prepared.most;
+        mosts[i] = most;
+        let inverse = prepared.inverse;
+        inverses[i] = inverse;
         i += 1;
     }
 }
 
-// The most that is divided by each of them: what is larger is limited to it.
-pub fn write_mosts(ratio: u32, mosts: &mut [i64])
-    requires { ⌜ (ratio ≤ 1023) × (length (now mosts) ≤ 63) ⌝ }
-    ensures { λ _. ⌜ now (mosts .exit) ≡ mostsOf ratio (length (now (mosts .entry))) ⌝ }
-{
-    let n = mosts.len();
-    let mut i = 0;
-    while i < n {
-        mosts[i] = 16384 * divisor(i + 1, ratio);
-        i += 1;
-    }
-}
-
-// "-(256 × S + W × L) divided by 256 × e - A, rounded to nearest, halves away from zero, then limited", x being what is negated: by an inverse where
-// the list has one.
+// "-(256 × S + W × L) divided by 256 × e - A, rounded to nearest, halves away from zero, then limited", x being what is negated: by a product where
+// the lists have numbers for the divisor.
 fn divide(x: i64, count: usize, ratio: u32, mosts: &[i64], inverses: &[i64]) -> i16
     requires { ⌜ (natAbs x ≤ 2 ^ 48) × (1 ≤ count) × (count ≤ 2048) × (ratio ≤ 1023) ⌝ }
     requires { ⌜ Tables ratio (now mosts) (now inverses) ⌝ }
     ensures { λ c. ⌜ c ≡ quotient (negℤ x) (Iteration.divisor (4 * count) ratio) ⌝ }
 {
-    let den = divisor(count, ratio);
     if count <= inverses.len() {
-        quotient::divide_opposite(x, den, mosts[count - 1], inverses[count - 1])
+        quotient::divide_opposite(x, mosts[count - 1], inverses[count - 1])
     } else {
-        quotient::divide(-x, den)
+        quotient::divide(-x, divisor(count, ratio))
     }
 }
 
