@@ -1,5 +1,5 @@
 -- `values::prepare` meets its contract: the first i entries stand for their divisors. Assumes nothing.
-use mathlib.Core.Path.{_≡_, ap, _∙_}
+use mathlib.Core.Path.{_≡_, _∙_}
 use Prim.Native.Nat.{ℕ, suc, _-_, _*_, _≤_, _<_}
 use native.Mathlib.Omega.{arith}
 use borrow.Author.Needs.{needs}
@@ -28,7 +28,7 @@ add-divisor : tie.Need-add-divisor Inv-loop μ-loop
 add-divisor c = omega arith
 
 divisor-requires : tie.Need-divisor-requires Inv-loop μ-loop
-divisor-requires c κs = let s = c .before .before in (omega (arith, s .pre .2), s .pre .0)
+divisor-requires c κs = let s = c .before .before in (omega (arith, s .pre .2), omega (arith, s .pre .0))
 
 den-is : (c : tie.After-divisor Inv-loop μ-loop) → toZ w64 (ofZ w64 (c .divisor .result)) ≡ divisor (4 * suc (c .before .before .loop .i)) (c .before .before .before .args .ratio)
 den-is c = let l = c .before .before in next-is (l .before .args .ratio) (l .loop .i) (c .divisor .ok) (c .divisor .ensures)
