@@ -65,15 +65,17 @@ loop-again c =
     let p = c .before .before in
     let l = turn (c .before) in
     let i = l .loop .i in
-    let s = l .before in
-    let most-is : toZ w64 (ofZ w64 (p .prepare .result .most)) ≡ p .prepare .result .most = search needs in
-    let inverse-is : toZ w64 (ofZ w64 (p .prepare .result .inverse)) ≡ p .prepare .result .inverse = search needs in
-    rw (most-is, inverse-is) (
+    let ratio = l .before .args .ratio in
+    let most = toZ w64 (ofZ w64 (p .prepare .result .most)) in
+    let inverse = toZ w64 (ofZ w64 (p .prepare .result .inverse)) in
+    let most-is : most ≡ p .prepare .result .most = search needs in
+    let inverse-is : inverse ≡ p .prepare .result .inverse = search needs in
+    let here : Prepared (divisor (4 * suc i) ratio) most inverse = rw (most-is, inverse-is) (rw (den-is (p .before)) at (p .prepare .ensures)) in (
       omega arith,
-      length-set (l .loop .mosts) i (p .prepare .result .most) ∙ l .loop .inv .1,
-      length-set (l .loop .inverses) i (p .prepare .result .inverse) ∙ l .loop .inv .2,
-      next-entries (λ k. Prepared (divisor (4 * suc k) (s .args .ratio))) (l .loop .mosts) (l .loop .inverses) i (p .prepare .result .most) (p .prepare .result .inverse)
-          (omega (arith, l .loop .inv .1)) (omega (arith, l .loop .inv .2)) (l .loop .inv .3) (rw (den-is (p .before)) at (p .prepare .ensures)),
+      length-set (l .loop .mosts) i most ∙ l .loop .inv .1,
+      length-set (l .loop .inverses) i inverse ∙ l .loop .inv .2,
+      next-entries (λ k. Prepared (divisor (4 * suc k) ratio)) (l .loop .mosts) (l .loop .inverses) i most inverse
+          (omega (arith, l .loop .inv .1)) (omega (arith, l .loop .inv .2)) (l .loop .inv .3) here,
     )
 
 same-length : tie.Need-same-length Inv-loop μ-loop
