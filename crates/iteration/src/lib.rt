@@ -29,7 +29,8 @@ pub fn iterate(
     requires { ⌜ (RowsWithin 3999 (straight count (now rows))) × (Tables (settings .ratio) (now mosts) (now inverses)) ⌝ }
     ensures { λ _. ⌜ (let g = held (now (triples .entry)) count (now (values .entry)) in
         let a : State = record { sums = now (sums .entry); values = now (values .entry); rows = straight count (now (rows .entry)) } in
-        record { sums = now (sums .exit); values = now (values .exit); rows = straight count (now (rows .exit)) } ≡ Iteration.iterate quotient g settings (now (costs .entry)) a) ⌝ }
+        let b : State = record { sums = now (sums .exit); values = now (values .exit); rows = straight count (now (rows .exit)) } in
+        b ≡ Iteration.iterate quotient g settings (now (costs .entry)) a) ⌝ }
     ensures { λ _. ⌜ length (now (rows .exit)) ≡ 4 * count ⌝ }
     ensures { λ settled. ⌜ settled ≡ settledBy (settings .tolerance) count (straight count (now (rows .entry))) (straight count (now (rows .exit))) ⌝ }
 {

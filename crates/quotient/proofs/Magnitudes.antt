@@ -1,28 +1,21 @@
--- Magnitudes: the limited quotient, and its sign. Assumes nothing.
+-- Magnitudes: the limited quotient, and its sign; the division that gives it. Assumes nothing.
 use mathlib.Core.Path.{_≡_, refl, sym, ap, _∙_}
-use Prim.Native.Nat.{ℕ, suc, _*_, _≤_, _<_, min}
+use Prim.Native.Nat.{ℕ, zero, suc, _+_, _*_, _/_, _≤_, _<_, min}
 use native.Mathlib.Omega.{arith, by-contra}
-use native.Mathlib.Nat.{mul-le-mul-left}
-use lib.IntN.{ℤ, pos, negsuc, negℤ, natAbs}
-use lib.Signed.{_≤ℤ_, _<ℤ_}
+use native.Mathlib.Nat.{mul-le-mul-left, zero-div}
+use lib.IntN.{ℤ, pos, negsuc, negℤ, natAbs, _+ℤ_, _*ℤ_, negℤ-+ℤ}
+use lib.Signed.{quotZ, _≤ℤ_, _<ℤ_}
 use Rattle.integers.specs.Parts.{up, dn}
 use Rattle.integers.specs.Nearest.{nearest}
 use Rattle.integers.proofs.Nearest.{nearest-is}
 use Rattle.integers.proofs.Linear.{readℤ, make-≡, about, about-neg, abs-neg, above-abs, false-ltZ}
 use Rattle.quotient.specs.Quotient.{unit, quotient, Rounded, signed}
-use Rattle.quotient.specs.Quotient.Laws.{quotient-odd, quotient-is, quotient-signed}
+use Rattle.quotient.specs.Quotient.Laws.{quotient-odd, quotient-is}
 
 -- a divisor from 1 to n
 pub positive : (z : ℤ) (n : ℕ) → pos 0 <ℤ z → z ≤ℤ pos n → (0 < natAbs z) × (natAbs z ≤ n) × (z ≡ pos (natAbs z))
 positive z n h k =
     (omega (arith, readℤ, about z), omega (arith, readℤ, about z), above-abs z (false-ltZ z (pos 0) (omega (arith, readℤ))))
-
--- the quotient of num and den, whose magnitudes n and d give q
-pub divided : (num den : ℤ) (b n d q : ℕ) → pos 0 <ℤ den → den ≤ℤ pos b → n ≡ natAbs num → d ≡ natAbs den → Rounded n d q
-    → signed num q ≡ quotient num den
-divided num den b n d q h k e f r =
-    let p = positive den b h k in
-    quotient-signed num (natAbs den) q (p .0) (rw (e, f) at r) ∙ ap (quotient num) (sym (p .2))
 
 pub nearest-range : (n d : ℕ) → 0 < d → n ≤ unit * d → nearest n d ≤ unit
 nearest-range n d h k =
@@ -55,6 +48,18 @@ pub quotient-limited : (x : ℤ) (d : ℕ) → 0 < d → quotient (signed x (min
 quotient-limited (pos n) d h = rw (false-ltZ (pos n) (pos 0) (omega arith)) (quotient-cut n d h)
 quotient-limited (negsuc n) d h =
     quotient-odd (pos (min (suc n) (unit * d))) (pos d) ∙ ap negℤ (quotient-cut (suc n) d h) ∙ sym (quotient-odd (pos (suc n)) (pos d))
+
+-- ---- a division that cuts toward zero
+cut-negative : (n b : ℕ) → quotZ (negℤ (pos n)) (pos b) ≡ negℤ (pos (n / b))
+cut-negative zero b = rw (zero-div b)
+cut-negative (suc n) b = refl
+
+-- half of d is added with the sign of x, both doubled
+pub cut-quotient : (x : ℤ) (d : ℕ) → 0 < d → natAbs x ≤ unit * d → quotZ (pos 2 *ℤ x +ℤ signed x d) (pos (2 * d)) ≡ quotient x (pos d)
+cut-quotient (pos n) d h k = rw (false-ltZ (pos n) (pos 0) (omega arith)) (sym (quotient-within n d h k))
+cut-quotient (negsuc n) d h k =
+    ap (λ (z : ℤ). quotZ z (pos (2 * d))) (sym (negℤ-+ℤ (pos (2 * suc n)) (pos d)))
+    ∙ cut-negative (2 * suc n + d) (2 * d) ∙ ap negℤ (sym (quotient-within (suc n) d h k)) ∙ sym (quotient-odd (pos (suc n)) (pos d))
 
 -- ---- the sign
 pub abs-signed : (x : ℤ) (q : ℕ) → natAbs (signed x q) ≡ q

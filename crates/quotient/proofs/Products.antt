@@ -7,7 +7,8 @@ use lib.IntN.{ℤ, pos, negsuc, negℤ, natAbs, _+ℤ_, _-ℤ_, _*ℤ_, negℤ-n
 use Rattle.integers.specs.Nearest.{nearest}
 use Rattle.integers.proofs.Nearest.{nearest-is}
 use Rattle.integers.proofs.Linear.{toℕ}
-use Rattle.quotient.specs.Quotient.{unit, quotient, inverse}
+use Rattle.quotient.specs.Quotient.{unit, quotient}
+use Rattle.quotient.specs.Prepared.{inverseOf}
 use Rattle.quotient.specs.Quotient.Laws.{quotient-odd}
 use Rattle.quotient.proofs.Magnitudes.{nearest-range, quotient-within}
 
@@ -16,9 +17,9 @@ abbrev pub raise : ℕ
 raise = 2 ^ 61 + 2 ^ 46
 
 -- what is divided by 2 ^ 47 for the quotient of −x by d
-abbrev pub scaled : ℕ → ℤ → ℕ
-scaled d (pos m) = raise - m * inverse d
-scaled d (negsuc m) = raise + suc m * inverse d
+abbrev scaled : ℕ → ℤ → ℕ
+scaled d (pos m) = raise - m * inverseOf d
+scaled d (negsuc m) = raise + suc m * inverseOf d
 
 pos-minus : (a b : ℕ) → b ≤ a → pos a -ℤ pos b ≡ pos (a - b)
 pos-minus a b h = simp toℕ (omega arith)
@@ -28,49 +29,53 @@ module _ (d : ℕ) (least : 0 < d) (most : d ≤ 64512) where
   abbrev excess : ℕ
   excess = d - 2 ^ 47 % d
 
-  whole : d * inverse d ≡ 2 ^ 47 + excess
-  unfolding inverse
+  whole : d * inverseOf d ≡ 2 ^ 47 + excess
+  unfolding inverseOf
   whole = omega (arith, div-add-mod' (2 ^ 47) d, mod-lt (2 ^ 47) least)
 
   -- ---- magnitudes: the product lies less than 2 ^ 46 from 2 ^ 47 times the nearest number
   module _ (m : ℕ) (within : m ≤ unit * d) where
-    product : d * (m * inverse d) ≡ 2 ^ 47 * m + m * excess
+    product : d * (m * inverseOf d) ≡ 2 ^ 47 * m + m * excess
     product = omega (arith, ap (λ (x : ℕ). m * x) whole)
 
-    pub product-most : m * inverse d ≤ 2 ^ 61 + 2 ^ 30
-    product-most = let t : m * inverse d ≤ unit * d * inverse d = mul-le-mul-right (inverse d) within in omega (arith, whole)
+    pub product-most : m * inverseOf d ≤ 2 ^ 61 + 2 ^ 30
+    product-most = let t : m * inverseOf d ≤ unit * d * inverseOf d = mul-le-mul-right (inverseOf d) within in omega (arith, whole)
 
     -- also where m / d lies halfway and the nearest is the upper one, since the inverse has an excess
-    above : 2 ^ 47 * nearest m d < m * inverse d + 2 ^ 46
+    above : 2 ^ 47 * nearest m d < m * inverseOf d + 2 ^ 46
     above =
-        by-contra (suc (2 ^ 47 * nearest m d)) (m * inverse d + 2 ^ 46) (λ k.
-        let t : d * (m * inverse d + 2 ^ 46) ≤ d * (2 ^ 47 * nearest m d) = mul-le-mul-left d (omega arith) in
+        by-contra (suc (2 ^ 47 * nearest m d)) (m * inverseOf d + 2 ^ 46) (λ k.
+        let t : d * (m * inverseOf d + 2 ^ 46) ≤ d * (2 ^ 47 * nearest m d) = mul-le-mul-left d (omega arith) in
         let r : d * 1 ≤ d * nearest m d = mul-le-mul-left d (omega arith) in
         let n = nearest-is m d least .above in
         let e : 1 * excess ≤ m * excess = mul-le-mul-right excess (omega arith) in
         omega (arith, product, mod-lt (2 ^ 47) least))
 
-    below : m * inverse d < 2 ^ 47 * nearest m d + 2 ^ 46
+    below : m * inverseOf d < 2 ^ 47 * nearest m d + 2 ^ 46
     below =
         let a : m * excess ≤ unit * d * d = mul-le-mul within (omega arith) in
         let b : d * d ≤ 64512 * 64512 = mul-le-mul most most in
-        by-contra (suc (m * inverse d)) (2 ^ 47 * nearest m d + 2 ^ 46) (λ k.
-        let t : d * (2 ^ 47 * nearest m d + 2 ^ 46) ≤ d * (m * inverse d) = mul-le-mul-left d (omega arith) in
+        by-contra (suc (m * inverseOf d)) (2 ^ 47 * nearest m d + 2 ^ 46) (λ k.
+        let t : d * (2 ^ 47 * nearest m d + 2 ^ 46) ≤ d * (m * inverseOf d) = mul-le-mul-left d (omega arith) in
         omega (arith, product, nearest-is m d least .below))
 
-    minus-divided : (raise - m * inverse d) / 2 ^ 47 ≡ unit - nearest m d
+    minus-divided : (raise - m * inverseOf d) / 2 ^ 47 ≡ unit - nearest m d
     minus-divided = omega (arith, above, below, nearest-range m d least within)
 
-    plus-divided : (raise + m * inverse d) / 2 ^ 47 ≡ unit + nearest m d
+    plus-divided : (raise + m * inverseOf d) / 2 ^ 47 ≡ unit + nearest m d
     plus-divided = omega (arith, above, below)
 
   -- ---- with a sign
-  pub scaled-is : (x : ℤ) → natAbs x ≤ unit * d → pos raise -ℤ x *ℤ pos (inverse d) ≡ pos (scaled d x)
-  scaled-is (pos m) h = pos-minus raise (m * inverse d) (omega (arith, product-most m h))
-  scaled-is (negsuc m) h = ap (λ (z : ℤ). pos raise +ℤ z) (negℤ-negℤ (pos (suc m * inverse d)))
+  scaled-is : (x : ℤ) → natAbs x ≤ unit * d → natAbs (pos raise -ℤ x *ℤ pos (inverseOf d)) ≡ scaled d x
+  scaled-is (pos m) h = ap natAbs (pos-minus raise (m * inverseOf d) (omega (arith, product-most m h)))
+  scaled-is (negsuc m) h = ap (λ (z : ℤ). natAbs (pos raise +ℤ z)) (negℤ-negℤ (pos (suc m * inverseOf d)))
 
-  pub scaled-quotient : (x : ℤ) → natAbs x ≤ unit * d → pos (scaled d x / 2 ^ 47) ≡ pos unit +ℤ quotient (negℤ x) (pos d)
+  scaled-quotient : (x : ℤ) → natAbs x ≤ unit * d → pos (scaled d x / 2 ^ 47) ≡ pos unit +ℤ quotient (negℤ x) (pos d)
   scaled-quotient (pos m) h =
       ap pos (minus-divided m h) ∙ sym (pos-minus unit (nearest m d) (nearest-range m d least h))
       ∙ ap (λ (z : ℤ). pos unit -ℤ z) (sym (quotient-within m d least h)) ∙ ap (λ (z : ℤ). pos unit +ℤ z) (sym (quotient-odd (pos m) (pos d)))
   scaled-quotient (negsuc m) h = ap pos (plus-divided (suc m) h) ∙ ap (λ (z : ℤ). pos unit +ℤ z) (sym (quotient-within (suc m) d least h))
+
+  -- the product with the inverse, raised and divided, is the quotient
+  pub raised-quotient : (x : ℤ) → natAbs x ≤ unit * d → pos (natAbs (pos raise -ℤ x *ℤ pos (inverseOf d)) / 2 ^ 47) ≡ pos unit +ℤ quotient (negℤ x) (pos d)
+  raised-quotient x h = ap (λ (n : ℕ). pos (n / 2 ^ 47)) (scaled-is x h) ∙ scaled-quotient x h

@@ -1,7 +1,7 @@
 -- Document 01, 'One iteration': "rounded to nearest, halves away from zero, then limited to −U..U".
 -- `quotient` is shut: no crate above can open it. What they have of it are the laws below, in `Laws`.
 use mathlib.Core.Bool.{cond}
-use Prim.Native.Nat.{ℕ, suc, _+_, _*_, _/_, _^_, _≤_, _<_, min}
+use Prim.Native.Nat.{ℕ, suc, _+_, _*_, _≤_, _<_, min}
 use lib.IntN.{ℤ, pos, negsuc, negℤ, natAbs}
 use lib.Signed.{ltZ}
 use Rattle.integers.specs.Nearest.{nearest}
@@ -29,7 +29,3 @@ pub record Rounded (n d q : ℕ) : Type 0 where
 -- q with the sign of z
 abbrev pub signed : ℤ → ℕ → ℤ
 signed z q = cond (ltZ z (pos 0)) (negℤ (pos q)) (pos q)
-
--- the next whole number above 2 ^ 47 / d: a product with it, divided by 2 ^ 47, takes the place of a division by d
-unfoldable pub inverse : ℕ → ℕ
-inverse d = 2 ^ 47 / d + 1

@@ -67,7 +67,7 @@ fn iterations(
     Ending { k, settled }
 }
 
-// The run of the system that the lists hold. Variables in up to 31 triples are divided by inverses.
+// The run of the system that the lists hold. The divisors of variables in up to 31 triples are prepared.
 pub fn run(
     settings: Settings,
     triples: &[u16],
@@ -85,9 +85,8 @@ pub fn run(
         record { k = e .k; settled = e .settled; last = last } ≡ Run.run quotient g settings (now (costs .entry))) ⌝ }
 {
     let mut mosts = [0i64; 31];
-    values::write_mosts(settings.ratio, &mut mosts);
     let mut inverses = [0i64; 31];
-    values::write_inverses(settings.ratio, &mut inverses);
+    values::prepare(settings.ratio, &mut mosts, &mut inverses);
     let ending = iterations(
         settings,
         triples,

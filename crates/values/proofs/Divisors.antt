@@ -1,39 +1,37 @@
--- The divisors of counts, and the lists that stand in for them. Assumes nothing.
+-- The divisors of counts, and the lists that stand for them. Assumes nothing.
 use mathlib.Core.List.{List}
+use mathlib.Core.Logic.{_≢_}
 use mathlib.Core.Path.{_≡_, ap, _∙_}
 use Prim.Native.Nat.{ℕ, suc, _+_, _-_, _*_, _^_, _≤_, _<_}
 use native.Mathlib.Numerals.{add-one}
 use native.Mathlib.Omega.{arith}
-use lib.IntN.{ℤ, pos, natAbs, _*ℤ_}
-use lib.ListN.{length}
+use borrow.Author.Count.{below-more}
+use lib.IntN.{ℤ, pos}
+use lib.ListN.{length, set}
+use lib.Seq.{getD-set-same, getD-set-other}
 use lib.Signed.{mag}
 use mir.Syntax.{w64}
 use mir.Val.{toZ, ofZ, hbits}
 use Rattle.integers.proofs.Machine.{read-back}
-use Rattle.lists.specs.Tabulated.{tab}
-use Rattle.lists.proofs.Tabulated.{length-tab, getD-tab}
-use Rattle.quotient.specs.Quotient.{unit, inverse}
+use Rattle.quotient.specs.Prepared.{Prepared}
 use Rattle.model.specs.Iteration.{at, divisor}
-use Rattle.values.specs.Divisors.{mostsOf, inversesOf, Tables}
+use Rattle.values.specs.Divisors.{Tables}
 
 -- the divisor of the next count, as a call gives it
 pub next-is : (A i : ℕ) {r : ℤ} → mag r < 2 ^ hbits w64 → r ≡ divisor (4 * (i + 1)) A → toZ w64 (ofZ w64 r) ≡ divisor (4 * suc i) A
 next-is A i f e = read-back w64 f (e ∙ ap (λ (n : ℕ). divisor (4 * n) A) (add-one i))
 
--- ---- the entries for the count e
-module _ {A : ℕ} {mosts inverses : List ℤ} (t : Tables A mosts inverses) where
-  pub as-long : length mosts ≡ length inverses
-  unfolding mostsOf
-  as-long = ap length (t .mosts-are) ∙ length-tab (length inverses) (λ i. pos unit *ℤ divisor (4 * suc i) A)
+-- one store more in each of two lists, of entries that are related
+pub next-entries : (P : ℕ → ℤ → ℤ → Type 0) (k l : List ℤ) (i : ℕ) (x y : ℤ) → i < length k → i < length l
+    → ((j : ℕ) → j < i → P j (at k j) (at l j)) → P i x y → (j : ℕ) → j < i + 1 → P j (at (set k i x) j) (at (set l i y) j)
+next-entries P k l i x y h m all here =
+    below-more (λ j. P j (at (set k i x) j) (at (set l i y) j)) i
+    (λ j n. let p : j ≢ i = λ e. omega arith in rw (getD-set-other k i j x (pos 0) p, getD-set-other l i j y (pos 0) p) (all j n))
+    (rw (getD-set-same k i x (pos 0) h, getD-set-same l i y (pos 0) m) here)
 
-  module _ (e : ℕ) (h : 1 ≤ e) (k : e ≤ length inverses) where
-    entry : (f : ℕ → ℤ) → at (tab (length inverses) (λ i. f (suc i))) (e - 1) ≡ f e
-    entry f = getD-tab (length inverses) (λ i. f (suc i)) (e - 1) (pos 0) (omega arith) ∙ ap f (omega arith)
-
-    pub most-is : at mosts (e - 1) ≡ pos unit *ℤ divisor (4 * e) A
-    unfolding mostsOf
-    most-is = ap (λ (l : List ℤ). at l (e - 1)) (t .mosts-are) ∙ entry (λ n. pos unit *ℤ divisor (4 * n) A)
-
-    pub inverse-is : at inverses (e - 1) ≡ pos (inverse (natAbs (divisor (4 * e) A)))
-    unfolding inversesOf
-    inverse-is = ap (λ (l : List ℤ). at l (e - 1)) (t .inverses-are) ∙ entry (λ n. pos (inverse (natAbs (divisor (4 * n) A))))
+-- the entries for the count e
+pub entry : {A : ℕ} {mosts inverses : List ℤ} → Tables A mosts inverses → (e : ℕ) → 1 ≤ e → e ≤ length inverses
+    → Prepared (divisor (4 * e) A) (at mosts (e - 1)) (at inverses (e - 1))
+entry {A} {mosts} {inverses} t e h k =
+    let n : suc (e - 1) ≡ e = omega arith in
+    rw n at (t .prepared (e - 1) (omega arith))

@@ -1,16 +1,15 @@
 -- c of each variable, and a list that is written in two parts. Assumes nothing.
 use mathlib.Core.List.{List, [], _∷_, _++_, append-nil}
 use mathlib.Core.Path.{_≡_, ap, sym, _∙_}
-use Prim.Native.Nat.{ℕ, zero, suc, _+_, _-_, _*_, _≤_, _<_}
+use Prim.Native.Nat.{ℕ, zero, suc, _+_, _-_, _≤_, _<_}
 use native.Mathlib.Omega.{arith}
 use lib.IntN.{ℤ, pos}
 use lib.ListN.{length, getD, take, drop, length-append, length-drop, drop-of-length-le}
-use lib.Seq.{getD-take, getD-drop, take-at, drop-at}
+use lib.Seq.{length-take-le, getD-take, getD-drop, take-at, drop-at}
 use Rattle.lists.specs.Tabulated.{tab}
 use Rattle.lists.proofs.Parts.{part-from}
 use Rattle.lists.proofs.Tabulated.{length-tab, tab-same}
-use Rattle.quotient.specs.Quotient.{quotient}
-use Rattle.model.specs.Iteration.{at, numerator, divisor}
+use Rattle.values.specs.Values.{Given, valueAt}
 
 -- ---- two parts of a list: `[..n]` and `[n..]`
 module _ {A : Type 0} (n : ℕ) where
@@ -50,9 +49,29 @@ both-parts n f old p q h d e =
     rw (whole, take-at p (drop n old) n long, drop-at p (drop n old) n long, none, append-nil q, d, e)
     (tab-append n (length old - n) f ∙ ap (λ (m : ℕ). tab m f) all)
 
--- ---- c of variable v
-abbrev pub valueAt : List ℤ → List ℕ → List ℤ → ℕ → ℕ → ℕ → ℤ
-valueAt sums counts costs weight ratio v = quotient (numerator weight (at sums v) (at costs v)) (divisor (4 * getD counts v 0) ratio)
+-- ---- what c of the first n variables, and of those behind them, is worked out from
+module _ (n : ℕ) (sums : List ℤ) (counts : List ℕ) (costs : List ℤ) where
+  pub given-first : (m : ℕ) → Given sums counts costs m → n ≤ m → Given (take n sums) (take n counts) costs n
+  given-first m g h =
+      record {
+        sums-long = length-take-le n sums (omega (arith, g .sums-long));
+        counts-long = length-take-le n counts (omega (arith, g .counts-long));
+        sum = λ v l. rw (getD-take n sums v (pos 0) l) (g .sum v (omega arith));
+        cost = λ v l. g .cost v (omega arith);
+        some = λ v l. rw (getD-take n counts v 0 l) (g .some v (omega arith));
+        few = λ v l. rw (getD-take n counts v 0 l) (g .few v (omega arith));
+      }
+
+  pub given-behind : (m : ℕ) → Given sums counts costs m → n ≤ m → Given (behind n sums) (behind n counts) (behind n costs) (m - n)
+  given-behind m g h =
+      record {
+        sums-long = length-behind n sums ∙ ap (λ (k : ℕ). k - n) (g .sums-long);
+        counts-long = length-behind n counts ∙ ap (λ (k : ℕ). k - n) (g .counts-long);
+        sum = λ v l. rw (getD-behind n sums v (pos 0)) (g .sum (n + v) (omega arith));
+        cost = λ v l. rw (getD-behind n costs v (pos 0)) (g .cost (n + v) (omega arith));
+        some = λ v l. rw (getD-behind n counts v 0) (g .some (n + v) (omega arith));
+        few = λ v l. rw (getD-behind n counts v 0) (g .few (n + v) (omega arith));
+      }
 
 module _ (n : ℕ) (sums : List ℤ) (counts : List ℕ) (costs : List ℤ) (weight ratio : ℕ) where
   pub value-first : (v : ℕ) → v < n → valueAt (take n sums) (take n counts) costs weight ratio v ≡ valueAt sums counts costs weight ratio v

@@ -1,23 +1,13 @@
--- What stands in for the divisors of an iteration. Definitions only.
+-- The divisors of an iteration, made ready. Definitions only.
 use mathlib.Core.Path.{_≡_}
 use mathlib.Core.List.{List}
-use Prim.Native.Nat.{ℕ, suc, _*_, _≤_}
-use lib.IntN.{ℤ, pos, natAbs, _*ℤ_}
+use Prim.Native.Nat.{ℕ, suc, _*_, _<_}
+use lib.IntN.{ℤ}
 use lib.ListN.{length}
-use Rattle.lists.specs.Tabulated.{tab}
-use Rattle.quotient.specs.Quotient.{unit, inverse}
-use Rattle.model.specs.Iteration.{divisor}
+use Rattle.quotient.specs.Prepared.{Prepared}
+use Rattle.model.specs.Iteration.{at, divisor}
 
--- of the divisors of variables that lie in 1, 2, .. n triples, A being the ratio: their inverses
-unfoldable pub inversesOf : ℕ → ℕ → List ℤ
-inversesOf A n = tab n (λ i. pos (inverse (natAbs (divisor (4 * suc i) A))))
-
--- and the most that is divided by each
-unfoldable pub mostsOf : ℕ → ℕ → List ℤ
-mostsOf A n = tab n (λ i. pos unit *ℤ divisor (4 * suc i) A)
-
--- lists of both, for the same counts
+-- entries i of the two lists stand for the divisor of the variables that lie in i + 1 triples, A being the ratio
 pub record Tables (A : ℕ) (mosts inverses : List ℤ) : Type 0 where
-  pub few : length inverses ≤ 63
-  pub mosts-are : mosts ≡ mostsOf A (length inverses)
-  pub inverses-are : inverses ≡ inversesOf A (length inverses)
+  pub as-long : length mosts ≡ length inverses
+  pub prepared : (i : ℕ) → i < length inverses → Prepared (divisor (4 * suc i) A) (at mosts i) (at inverses i)

@@ -1,13 +1,14 @@
 // c of all variables (document 01, 'One iteration'), on lists of exact length.
 ghost use mathlib.Core.Path.{_≡_};
-ghost use Prim.Native.Nat.{ℕ, _*_, _^_, _≤_, _<_};
+ghost use Prim.Native.Nat.{_*_, _^_, _≤_};
 ghost use lib.IntN.{pos, negℤ, natAbs, _+ℤ_, _*ℤ_};
-ghost use lib.ListN.{length, getD};
+ghost use lib.ListN.{length};
 ghost use Rattle.lists.specs.Tabulated.{tab};
 ghost use Rattle.quotient.specs.Quotient.{quotient};
-ghost use Rattle.model.specs.Iteration.{at, numerator};
+ghost use Rattle.model.specs.Iteration.{at};
 ghost use Rattle.model.specs.Iteration as Iteration;
-ghost use Rattle.values.specs.Divisors.{mostsOf, inversesOf, Tables};
+ghost use Rattle.values.specs.Divisors.{Tables};
+ghost use Rattle.values.specs.Values.{Given, valueAt};
 
 fn index(x: u16) -> usize
     ensures { λ r. ⌜ r ≡ x ⌝ }
@@ -18,7 +19,7 @@ fn index(x: u16) -> usize
 // "256 × S + W × L"
 fn weighed(weight: u32, sum: i64, cost: i16) -> i64
     requires { ⌜ (weight ≤ 65535) × (natAbs sum ≤ 2 ^ 40) × (natAbs cost ≤ 32767) ⌝ }
-    ensures { λ z. ⌜ z ≡ pos 256 *ℤ sum +ℤ pos weight *ℤ cost ⌝ }
+    ensures { λ z. ⌜ (z ≡ pos 256 *ℤ sum +ℤ pos weight *ℤ cost) × (natAbs z ≤ 2 ^ 49) ⌝ }
 {
     256 * sum + (weight as i64) * (cost as i64)
 }
@@ -31,44 +32,34 @@ fn divisor(count: usize, ratio: u32) -> i64
     1024 * (count as i64) - (ratio as i64)
 }
 
-// The inverses of the divisors of the counts 1, 2, on.
-pub fn write_inverses(ratio: u32, inverses: &mut [i64])
-    requires { ⌜ (ratio ≤ 1023) × (length (now inverses) ≤ 63) ⌝ }
-    ensures { λ _. ⌜ now (inverses .exit) ≡ inversesOf ratio (length (now (inverses .entry))) ⌝ }
+// The divisors of the counts 1, 2, on, made ready to be divided by.
+pub fn prepare(ratio: u32, mosts: &mut [i64], inverses: &mut [i64])
+    requires { ⌜ (ratio ≤ 1023) × (length (now mosts) ≡ length (now inverses)) × (length (now inverses) ≤ 63) ⌝ }
+    ensures { λ _. ⌜ Tables ratio (now (mosts .exit)) (now (inverses .exit)) ⌝ }
 {
     let n = inverses.len();
     let mut i = 0;
     while i < n {
-        inverses[i] = quotient::inverse(divisor(i + 1, ratio));
+        let prepared = quotient::prepare(divisor(i + 1, ratio));
+        let most = prepared.most;
+        mosts[i] = most;
+        let inverse = prepared.inverse;
+        inverses[i] = inverse;
         i += 1;
     }
 }
 
-// The most that is divided by each of them: what is larger is limited to it.
-pub fn write_mosts(ratio: u32, mosts: &mut [i64])
-    requires { ⌜ (ratio ≤ 1023) × (length (now mosts) ≤ 63) ⌝ }
-    ensures { λ _. ⌜ now (mosts .exit) ≡ mostsOf ratio (length (now (mosts .entry))) ⌝ }
-{
-    let n = mosts.len();
-    let mut i = 0;
-    while i < n {
-        mosts[i] = 16384 * divisor(i + 1, ratio);
-        i += 1;
-    }
-}
-
-// "-(256 × S + W × L) divided by 256 × e - A, rounded to nearest, halves away from zero, then limited", x being what is negated: by an inverse where
-// the list has one.
+// "-(256 × S + W × L) divided by 256 × e - A, rounded to nearest, halves away from zero, then limited", x being what is negated: by a product where
+// the lists have numbers for the divisor.
 fn divide(x: i64, count: usize, ratio: u32, mosts: &[i64], inverses: &[i64]) -> i16
-    requires { ⌜ (natAbs x ≤ 2 ^ 48) × (1 ≤ count) × (count ≤ 2048) × (ratio ≤ 1023) ⌝ }
+    requires { ⌜ (natAbs x ≤ 2 ^ 49) × (1 ≤ count) × (count ≤ 2048) × (ratio ≤ 1023) ⌝ }
     requires { ⌜ Tables ratio (now mosts) (now inverses) ⌝ }
     ensures { λ c. ⌜ c ≡ quotient (negℤ x) (Iteration.divisor (4 * count) ratio) ⌝ }
 {
-    let den = divisor(count, ratio);
     if count <= inverses.len() {
-        quotient::divide_opposite(x, den, mosts[count - 1], inverses[count - 1])
+        quotient::divide_opposite(x, mosts[count - 1], inverses[count - 1])
     } else {
-        quotient::divide(-x, den)
+        quotient::divide(-x, divisor(count, ratio))
     }
 }
 
@@ -90,12 +81,10 @@ fn renew_part(
     inverses: &[i64],
     values: &mut [i16],
 )
-    requires { ⌜ (length (now sums) ≡ length (now values)) × (length (now counts) ≡ length (now values)) × (weight ≤ 65535) × (ratio ≤ 1023) ⌝ }
-    requires { ⌜ ((v : ℕ) → v < length (now values) → (natAbs (at (now sums) v) ≤ 2 ^ 40) × (natAbs (at (now costs) v) ≤ 32767)
-        × (natAbs (numerator weight (at (now sums) v) (at (now costs) v)) ≤ 2 ^ 48) × (1 ≤ getD (now counts) v 0) × (getD (now counts) v 0 ≤ 2048)) ⌝ }
+    requires { ⌜ (Given (now sums) (now counts) (now costs) (length (now values))) × (weight ≤ 65535) × (ratio ≤ 1023) ⌝ }
     requires { ⌜ Tables ratio (now mosts) (now inverses) ⌝ }
-    ensures { λ _. ⌜ now (values .exit) ≡ tab (length (now (values .entry))) (λ v.
-        quotient (numerator weight (at (now (sums .entry)) v) (at (now (costs .entry)) v)) (Iteration.divisor (4 * getD (now (counts .entry)) v 0) ratio)) ⌝ }
+    ensures { λ _. ⌜ now (values .exit) ≡ tab (length (now (values .entry)))
+        (valueAt (now (sums .entry)) (now (counts .entry)) (now (costs .entry)) weight ratio) ⌝ }
 {
     let n = values.len();
     let mut v = 0;
@@ -117,12 +106,11 @@ pub fn renew(
     inverses: &[i64],
     values: &mut [i16],
 )
-    requires { ⌜ (length (now sums) ≡ length (now values)) × (length (now counts) ≡ length (now values)) × (length (now costs) ≤ length (now values)) × (weight ≤ 65535) × (ratio ≤ 1023) ⌝ }
-    requires { ⌜ ((v : ℕ) → v < length (now values) → (natAbs (at (now sums) v) ≤ 2 ^ 40) × (natAbs (at (now costs) v) ≤ 32767)
-        × (natAbs (numerator weight (at (now sums) v) (at (now costs) v)) ≤ 2 ^ 48) × (1 ≤ getD (now counts) v 0) × (getD (now counts) v 0 ≤ 2048)) ⌝ }
+    requires { ⌜ (Given (now sums) (now counts) (now costs) (length (now values))) × (weight ≤ 65535) × (ratio ≤ 1023) ⌝ }
+    requires { ⌜ length (now costs) ≤ length (now values) ⌝ }
     requires { ⌜ Tables ratio (now mosts) (now inverses) ⌝ }
-    ensures { λ _. ⌜ now (values .exit) ≡ tab (length (now (values .entry))) (λ v.
-        quotient (numerator weight (at (now (sums .entry)) v) (at (now (costs .entry)) v)) (Iteration.divisor (4 * getD (now (counts .entry)) v 0) ratio)) ⌝ }
+    ensures { λ _. ⌜ now (values .exit) ≡ tab (length (now (values .entry)))
+        (valueAt (now (sums .entry)) (now (counts .entry)) (now (costs .entry)) weight ratio) ⌝ }
 {
     let n = costs.len();
     renew_part(

@@ -12,7 +12,6 @@ use Rattle.quotient.specs.Quotient.{quotient}
 use Rattle.model.specs.Iteration.{at, sumOf, occurrences, numerator, divisor, renewedAt, State, sumsOf, countsOf, rowsOf, valueOf, valuesOf, iterate}
 use Rattle.model.specs.Run.{settledBy}
 use Rattle.model.specs.Bounds.{RowsWithin, Ready, held, Bounds}
-use Rattle.model.specs.Code.{triples, variables}
 use Rattle.model.specs.Splitting.{System}
 use Rattle.model.proofs.Bounds.{bounds}
 use Rattle.layout.specs.Turned.{straight}
@@ -71,17 +70,19 @@ renew-requires : tie.Need-renew-requires
 renew-requires c κs =
     let m = c .before .before .before in
     let s = first m in (
-      (sums-length m, count-length s, is-ready s .bits, is-ready s .weight, is-ready s .ratio),
       (
-        λ v h. (
-          rw (sums-are m) (omega (arith, bound s .sums v)),
-          is-ready s .cost v,
-          rw (sums-are m) (bound s .numerators (omega arith) v),
-          rw (count-is s v h) (is-ready s .some v h),
-          rw (count-is s v h) (is-ready s .few v),
-        ),
-        s .pre .1 .1,
+        record {
+          sums-long = sums-length m;
+          counts-long = count-length s;
+          sum = λ v h. rw (sums-are m) (omega (arith, bound s .sums v));
+          cost = λ v h. is-ready s .cost v;
+          some = λ v h. rw (count-is s v h) (is-ready s .some v h);
+          few = λ v h. rw (count-is s v h) (is-ready s .few v);
+        },
+        is-ready s .weight,
+        is-ready s .ratio,
       ),
+      (is-ready s .bits, s .pre .1 .1),
     )
 
 -- ---- c

@@ -1,46 +1,52 @@
--- `quotient::divide` meets its contract: the magnitudes are rounded, and the sign goes over. Assumes nothing.
-use mathlib.Core.Path.{_≡_, ap, _∙_}
+-- `quotient::divide` meets its contract: what is cut off changes no quotient. Assumes nothing.
+use mathlib.Core.Path.{_≡_, sym, ap, ap₂, _∙_}
+use Prim.Native.Nat.{ℕ, _*_, _≤_, _<_, min}
 use native.Mathlib.Omega.{arith}
-use borrow.Author.Needs.{needs}
-use lib.IntN.{ℤ, natAbs}
-use mir.Syntax.{w16}
+use lib.IntN.{ℤ, pos, natAbs, _*ℤ_}
+use mir.Syntax.{w16, w64}
+use mir.Val.{toZ, ofZ}
 use mir.Facts.{toZ-ofZ}
 use Rattle.integers.proofs.Linear.{readℤ}
-use Rattle.integers.proofs.Machine.{read-back}
-use Rattle.quotient.specs.Quotient.{signed}
-use Rattle.quotient.proofs.Magnitudes.{positive, divided}
+use Rattle.integers.proofs.Machine.{Worth, held, literal, also, times, fits, stored, read-back}
+use Rattle.quotient.specs.Quotient.{unit, quotient, signed}
+use Rattle.quotient.proofs.Magnitudes.{positive, abs-signed, quotient-limited}
 use Rattle.quotient.proofs.divide.Statement.{statement}
 use Rattle.quotient.proofs.divide.Tie as tie
 
-magnitude-requires : tie.Need-magnitude-requires
-magnitude-requires c κs = search needs
+module _ (s : tie.Start) where
+  abbrev d : ℕ
+  d = natAbs (s .args .den)
 
-natural-requires : tie.Need-natural-requires
-natural-requires c κs = rw (toZ-ofZ (c .before .fits .den)) (omega (arith, readℤ))
+  d-is : (0 < d) × (d ≤ 2097152) × (s .args .den ≡ pos d)
+  d-is = positive (s .args .den) 2097152 (s .pre .0) (s .pre .1)
 
-num-is : (c : tie.After-magnitude) → c .magnitude .result ≡ natAbs (c .before .args .num)
-num-is c = c .magnitude .ensures ∙ ap natAbs (toZ-ofZ (c .before .fits .num))
+  most-is : Worth (pos unit *ℤ toZ w64 (ofZ w64 (s .args .den))) (pos (unit * d)) (unit * 2097152)
+  most-is = times (literal (pos unit)) (also (held w64 (s .args .den) 2097152 tt (d-is .1)) (d-is .2))
 
-den-is : (c : tie.After-natural) → c .natural .result ≡ natAbs (c .before .before .args .den)
-den-is c = c .natural .ensures ∙ ap natAbs (toZ-ofZ (c .before .before .fits .den))
+mul-limited : tie.Need-mul-limited
+mul-limited c = fits (most-is c) w64 tt
+
+limited-requires : tie.Need-limited-requires
+limited-requires c κs = rw (stored (most-is c) w64 tt .is) (omega (arith, readℤ), omega (arith, d-is c))
+
+cut-is : (c : tie.After-limited) → toZ w64 (ofZ w64 (c .limited .result)) ≡ signed (c .before .args .num) (min (natAbs (c .before .args .num)) (unit * d (c .before)))
+cut-is c =
+    let s = c .before in
+    read-back w64 (c .limited .ok) (c .limited .ensures ∙ ap₂ (λ (x y : ℤ). signed x (min (natAbs x) (natAbs y))) (toZ-ofZ (s .fits .num)) (stored (most-is s) w64 tt .is))
 
 rounded-requires : tie.Need-rounded-requires
 rounded-requires c κs =
-    let s = c .before .before in
-    let p = positive (s .args .den) 2097152 (s .pre .1) (s .pre .2) in
-    rw (num-is (c .before), den-is c) (s .pre .0, p .0, p .1)
-
-signed-requires : tie.Need-signed-requires
-signed-requires c κs = search needs
+    let s = c .before in
+    let x = s .args .num in
+    rw (toZ-ofZ (s .fits .den), cut-is c, abs-signed x (min (natAbs x) (unit * d s))) (s .pre .0, s .pre .1, omega arith)
 
 returns : tie.Need-returns
 returns c =
-    let m = c .before .before in
-    let s = m .before .before in
-    let q = c .before .rounded .result in
-    read-back w16 (c .signed .ok)
-    (c .signed .ensures ∙ ap (λ (z : ℤ). signed z q) (toZ-ofZ (s .fits .num))
-    ∙ divided (s .args .num) (s .args .den) 2097152 (m .before .magnitude .result) (m .natural .result) q (s .pre .1) (s .pre .2) (num-is (m .before)) (den-is m) (c .before .rounded .ensures))
+    let s = c .before .before in
+    let e = d-is s .2 in
+    read-back w16 (c .rounded .ok)
+    (c .rounded .ensures ∙ ap₂ quotient (cut-is (c .before)) (toZ-ofZ (s .fits .den) ∙ e)
+    ∙ quotient-limited (s .args .num) (d s) (d-is s .0) ∙ ap (quotient (s .args .num)) (sym e))
 
 pub divide-spec : {M : Type 1} → statement M
-divide-spec = tie.close (tie.spec magnitude-requires natural-requires rounded-requires signed-requires returns)
+divide-spec = tie.close (tie.spec mul-limited limited-requires rounded-requires returns)

@@ -1,85 +1,99 @@
 -- `quotient::divide_opposite` meets its contract. Assumes nothing.
 use mathlib.Core.Path.{_≡_, sym, ap, ap₂, _∙_}
-use Prim.Native.Nat.{ℕ, _*_, _≤_, _<_, min}
+use Prim.Native.Nat.{ℕ, _*_, _/_, _^_, _≤_, min}
 use native.Mathlib.Omega.{arith}
 use lib.IntN.{ℤ, pos, negℤ, natAbs, _+ℤ_, _-ℤ_, _*ℤ_}
 use mir.Syntax.{w16, w64}
 use mir.Val.{toZ, ofZ}
 use mir.Facts.{toZ-ofZ}
-use Rattle.integers.proofs.Linear.{readℤ, split, toℕ, abs-add}
+use Rattle.integers.proofs.Linear.{readℤ, split, toℕ, abs-add, abs-mul}
 use Rattle.integers.proofs.Machine.{Worth, unsigned, fits, fits-one, stored, read-back}
 use Rattle.quotient.specs.Quotient.{unit, quotient, signed}
 use Rattle.quotient.specs.Quotient.Laws.{quotient-odd, quotient-range}
-use Rattle.quotient.proofs.Magnitudes.{positive, abs-signed, quotient-limited}
+use Rattle.quotient.specs.Prepared.{inverseOf, Numbers, numbers-of}
+use Rattle.quotient.proofs.Magnitudes.{abs-signed, quotient-limited}
+use Rattle.quotient.proofs.Products.{raise, product-most, raised-quotient}
 use Rattle.quotient.proofs.divide_opposite.Statement.{statement}
 use Rattle.quotient.proofs.divide_opposite.Tie as tie
 
-abbrev d : tie.Start → ℕ
-d s = natAbs (s .args .den)
-
-den-is : (s : tie.Start) → (0 < d s) × (d s ≤ 64512) × (s .args .den ≡ pos (d s))
-den-is s = positive (s .args .den) 64512 (s .pre .1) (s .pre .2)
-
-most-is : (s : tie.Start) → toZ w64 (ofZ w64 (s .args .most)) ≡ pos (unit * d s)
-most-is s = toZ-ofZ (s .fits .most) ∙ s .pre .3 ∙ ap (λ (z : ℤ). pos unit *ℤ z) (den-is s .2)
+numbers : (s : tie.Start) → Numbers (s .pre .0) (s .args .most) (s .args .inverse)
+numbers s = numbers-of (s .pre .1)
 
 limited-requires : tie.Need-limited-requires
-limited-requires c κs = rw (most-is c) (omega (arith, readℤ), omega (arith, den-is c))
+limited-requires c κs = rw (toZ-ofZ (c .fits .most) ∙ numbers c .most-is) (omega (arith, readℤ), omega (arith, numbers c .small))
 
-cut-is : (c : tie.After-limited) → toZ w64 (ofZ w64 (c .limited .result)) ≡ signed (c .before .args .x) (min (natAbs (c .before .args .x)) (unit * d (c .before)))
+-- ---- x, limited
+module _ (s : tie.Start) where
+  abbrev x : ℤ
+  x = s .args .x
+
+  abbrev cut : ℤ
+  cut = signed x (min (natAbs x) (natAbs (s .args .most)))
+
+  module _ {den : ℤ} (p : Numbers den (s .args .most) (s .args .inverse)) where
+    abbrev d : ℕ
+    d = natAbs den
+
+    within : natAbs cut ≤ unit * d
+    within = rw abs-signed (omega (arith, ap natAbs (p .most-is)))
+
+    -- what is cut off changes no quotient
+    same-quotient : quotient (negℤ cut) (pos d) ≡ quotient (negℤ x) den
+    same-quotient =
+        quotient-odd cut (pos d) ∙ ap (λ (z : ℤ). negℤ (quotient (signed x (min (natAbs x) (natAbs z))) (pos d))) (p .most-is)
+        ∙ ap negℤ (quotient-limited x d (p .least)) ∙ sym (quotient-odd x (pos d)) ∙ ap (quotient (negℤ x)) (sym (p .positive))
+
+cut-is : (c : tie.After-limited) → toZ w64 (ofZ w64 (c .limited .result)) ≡ cut (c .before)
 cut-is c =
     let s = c .before in
-    read-back w64 (c .limited .ok) (c .limited .ensures ∙ ap₂ (λ (x y : ℤ). signed x (min (natAbs x) (natAbs y))) (toZ-ofZ (s .fits .x)) (most-is s))
+    read-back w64 (c .limited .ok) (c .limited .ensures ∙ ap₂ (λ (y z : ℤ). signed y (min (natAbs y) (natAbs z))) (toZ-ofZ (s .fits .x)) (toZ-ofZ (s .fits .most)))
 
 raised-requires : tie.Need-raised-requires
 raised-requires c κs =
     let s = c .before in
-    let x = s .args .x in
-    rw (toZ-ofZ (s .fits .den), toZ-ofZ (s .fits .inverse), cut-is c, abs-signed x (min (natAbs x) (unit * d s))) (s .pre .1, s .pre .2, omega arith, s .pre .4)
+    let n = numbers s in
+    rw (cut-is c, toZ-ofZ (s .fits .inverse) ∙ n .inverse-is, abs-mul (cut s) (pos (inverseOf (natAbs (s .pre .0)))))
+    (omega (arith, product-most (natAbs (s .pre .0)) (n .least) (n .small) (natAbs (cut s)) (within s n)))
 
--- what is cut off changes no quotient
-raised-is : (c : tie.After-raised) → let a = c .before .before .args in pos (c .raised .result) ≡ pos unit +ℤ quotient (negℤ (a .x)) (a .den)
-raised-is c =
-    let s = c .before .before in
-    let x = s .args .x in
-    let cut = signed x (min (natAbs x) (unit * d s)) in
-    c .raised .ensures
-    ∙ ap₂ (λ (y z : ℤ). pos unit +ℤ quotient (negℤ y) z) (cut-is (c .before)) (toZ-ofZ (s .fits .den) ∙ den-is s .2)
-    ∙ ap (λ (z : ℤ). pos unit +ℤ z) (quotient-odd cut (pos (d s)) ∙ ap negℤ (quotient-limited x (d s) (den-is s .0)) ∙ sym (quotient-odd x (pos (d s))))
-    ∙ ap (λ (z : ℤ). pos unit +ℤ quotient (negℤ x) z) (sym (den-is s .2))
-
+-- ---- the quotient
 back : (a b : ℤ) → a +ℤ b -ℤ a ≡ b
 back a b = rw (split a, split b) (simp toℕ (omega arith))
 
-number-is : (c : tie.After-raised) → Worth (toZ w64 (c .raised .result)) (pos (c .raised .result)) (2 * unit)
-number-is c =
-    let a = c .before .before .args in
-    let q = quotient (negℤ (a .x)) (a .den) in
-    let e : c .raised .result ≡ natAbs (pos unit +ℤ q) = ap natAbs (raised-is c) in
-    unsigned w64 (c .raised .result) (2 * unit) tt (omega (arith, abs-add (pos unit) q, quotient-range (negℤ (a .x)) (a .den)))
+module _ (c : tie.After-raised) where
+  abbrev start : tie.Start
+  start = c .before .before
 
-quotient-is : (c : tie.After-raised)
-    → let a = c .before .before .args in
-    Worth (toZ w64 (c .raised .result) -ℤ pos unit) (quotient (negℤ (a .x)) (a .den)) unit
-quotient-is c =
-    let a = c .before .before .args in
-    let q = quotient (negℤ (a .x)) (a .den) in
-    record {
-      is = ap (λ (z : ℤ). z -ℤ pos unit) (number-is c .is ∙ raised-is c) ∙ back (pos unit) q;
-      within = quotient-range (negℤ (a .x)) (a .den);
-    }
+  module _ {den : ℤ} (p : Numbers den (start .args .most) (start .args .inverse)) where
+    abbrev q : ℤ
+    q = quotient (negℤ (x start)) den
+
+    raised-is : pos (c .raised .result) ≡ pos unit +ℤ q
+    raised-is =
+        ap pos (c .raised .ensures)
+        ∙ ap₂ (λ (y z : ℤ). pos (natAbs (pos raise -ℤ y *ℤ z) / 2 ^ 47)) (cut-is (c .before)) (toZ-ofZ (start .fits .inverse) ∙ p .inverse-is)
+        ∙ raised-quotient (natAbs den) (p .least) (p .small) (cut start) (within start p) ∙ ap (λ (z : ℤ). pos unit +ℤ z) (same-quotient start p)
+
+    number-is : Worth (toZ w64 (c .raised .result)) (pos (c .raised .result)) (2 * unit)
+    number-is = unsigned w64 (c .raised .result) (2 * unit) tt (omega (arith, ap natAbs raised-is, abs-add (pos unit) q, quotient-range (negℤ (x start)) den))
+
+    result : Worth (toZ w64 (c .raised .result) -ℤ pos unit) q unit
+    result =
+        record {
+          is = ap (λ (z : ℤ). z -ℤ pos unit) (number-is .is ∙ raised-is) ∙ back (pos unit) q;
+          within = quotient-range (negℤ (x start)) den;
+        }
 
 cast-result : tie.Need-cast-result
-cast-result c = fits-one w64 (pos (c .raised .result)) (2 * unit) (number-is c .within) tt
+cast-result c = fits-one w64 (pos (c .raised .result)) (2 * unit) (number-is c (numbers (start c)) .within) tt
 
 sub-result : tie.Need-sub-result
-sub-result c = fits (quotient-is c) w64 tt
+sub-result c = fits (result c (numbers (start c))) w64 tt
 
 cast-result-2 : tie.Need-cast-result-2
-cast-result-2 c = fits (stored (quotient-is c) w64 tt) w16 tt
+cast-result-2 c = fits (stored (result c (numbers (start c))) w64 tt) w16 tt
 
 returns : tie.Need-returns
-returns c = stored (stored (quotient-is c) w64 tt) w16 tt .is
+returns c = λ den p. stored (stored (result c (numbers-of p)) w64 tt) w16 tt .is
 
 pub divide-opposite-spec : {M : Type 1} → statement M
 divide-opposite-spec =

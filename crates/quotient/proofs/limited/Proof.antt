@@ -18,10 +18,10 @@ use Rattle.quotient.proofs.limited.Tie as tie
 x-is : (s : tie.Start) → toZ w64 (ofZ w64 (s .args .x)) ≡ s .args .x
 x-is s = toZ-ofZ (s .fits .x)
 
-most-is : (s : tie.Start) → Worth (toZ w64 (ofZ w64 (s .args .most))) (s .args .most) (unit * 64512)
-most-is s = held w64 (s .args .most) (unit * 64512) tt (s .pre .1)
+most-is : (s : tie.Start) → Worth (toZ w64 (ofZ w64 (s .args .most))) (s .args .most) (unit * 2097152)
+most-is s = held w64 (s .args .most) (unit * 2097152) tt (s .pre .1)
 
-least-is : (s : tie.Start) → Worth (pos 0 -ℤ toZ w64 (ofZ w64 (s .args .most))) (negℤ (s .args .most)) (unit * 64512)
+least-is : (s : tie.Start) → Worth (pos 0 -ℤ toZ w64 (ofZ w64 (s .args .most))) (negℤ (s .args .most)) (unit * 2097152)
 least-is s = negative (most-is s)
 
 -- the part below 0 is limited

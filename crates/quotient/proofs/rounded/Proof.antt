@@ -1,20 +1,79 @@
 -- `quotient::rounded` meets its contract. Assumes nothing.
-use borrow.Author.Needs.{needs}
-use Rattle.quotient.proofs.Magnitudes.{cut-rounded}
+use mathlib.Core.Path.{_≡_, sym, ap, ap₂, _∙_}
+use Prim.Native.Nat.{ℕ, _+_, _*_, _<_, _≤_}
+use native.Mathlib.Omega.{arith}
+use lib.IntN.{ℤ, pos, natAbs, _+ℤ_, _*ℤ_}
+use lib.Signed.{quotZ}
+use mir.Syntax.{w16, w64}
+use mir.Val.{toZ, ofZ}
+use Rattle.integers.proofs.Linear.{readℤ}
+use Rattle.integers.proofs.Machine.{Worth, held, literal, local, also, plus, times, fits, stored}
+use Rattle.quotient.specs.Quotient.{unit, quotient, signed}
+use Rattle.quotient.specs.Quotient.Laws.{quotient-range}
+use Rattle.quotient.proofs.Magnitudes.{positive, abs-signed, cut-quotient}
 use Rattle.quotient.proofs.rounded.Statement.{statement}
 use Rattle.quotient.proofs.rounded.Tie as tie
 
-dividend-requires : tie.Need-dividend-requires
-dividend-requires c κs = search needs
+module _ (s : tie.Start) where
+  abbrev x : ℤ
+  x = s .args .x
+
+  abbrev d : ℕ
+  d = natAbs (s .args .den)
+
+  d-is : (0 < d) × (d ≤ 2097152) × (s .args .den ≡ pos d)
+  d-is = positive (s .args .den) 2097152 (s .pre .0) (s .pre .1)
+
+  den-is : Worth (toZ w64 (ofZ w64 (s .args .den))) (pos d) 2097152
+  den-is = also (held w64 (s .args .den) 2097152 tt (d-is .1)) (d-is .2)
+
+  doubled : Worth (pos 2 *ℤ toZ w64 (ofZ w64 x)) (pos 2 *ℤ x) (2 * (unit * 2097152))
+  doubled = times (literal (pos 2)) (held w64 x (unit * 2097152) tt (omega (arith, s .pre .2, d-is .1)))
+
+  divisor : Worth (pos 2 *ℤ toZ w64 (ofZ w64 (s .args .den))) (pos (2 * d)) (2 * 2097152)
+  divisor = times (literal (pos 2)) den-is
+
+module _ (c : tie.After-along) where
+  abbrev s : tie.Start
+  s = c .before
+
+  half : Worth (toZ w64 (ofZ w64 (c .along .result))) (signed (x s) (d s)) 2097152
+  half =
+      local w64 2097152 (c .along .ok) (c .along .ensures ∙ ap₂ (λ (y z : ℤ). signed y (natAbs z)) (held w64 (x s) (unit * 2097152) tt (omega (arith, s .pre .2, d-is s .1)) .is) (den-is s .is))
+      (rw (abs-signed (x s) (d s)) (d-is s .1))
+
+  dividend : Worth (toZ w64 (ofZ w64 (pos 2 *ℤ toZ w64 (ofZ w64 (x s)))) +ℤ toZ w64 (ofZ w64 (c .along .result))) (pos 2 *ℤ x s +ℤ signed (x s) (d s)) (2 * (unit * 2097152) + 2097152)
+  dividend = plus (stored (doubled s) w64 tt) half
+
+  result : Worth (quotZ (toZ w64 (ofZ w64 (toZ w64 (ofZ w64 (pos 2 *ℤ toZ w64 (ofZ w64 (x s)))) +ℤ toZ w64 (ofZ w64 (c .along .result))))) (toZ w64 (ofZ w64 (pos 2 *ℤ toZ w64 (ofZ w64 (s .args .den)))))) (quotient (x s) (s .args .den)) unit
+  result =
+      record {
+        is = ap₂ quotZ (stored dividend w64 tt .is) (stored (divisor s) w64 tt .is) ∙ cut-quotient (x s) (d s) (d-is s .0) (s .pre .2) ∙ ap (quotient (x s)) (sym (d-is s .2));
+        within = quotient-range (x s) (s .args .den);
+      }
 
 mul-result : tie.Need-mul-result
-mul-result c = search needs
+mul-result c = fits (doubled c) w64 tt
+
+along-requires : tie.Need-along-requires
+along-requires c κs = (omega (arith, readℤ, den-is c .is), omega (arith, ap natAbs (den-is c .is), d-is c .1))
+
+add-result : tie.Need-add-result
+add-result c = fits (dividend c) w64 tt
+
+mul-result-2 : tie.Need-mul-result-2
+mul-result-2 c = fits (divisor (c .before)) w64 tt
 
 div-result : tie.Need-div-result
-div-result c = search needs
+div-result c = (omega (arith, ap (ofZ w64) (divisor (c .before) .is), d-is (c .before) .0), fits (result c) w64 tt)
+
+cast-result : tie.Need-cast-result
+cast-result c = fits (stored (result c) w64 tt) w16 tt
 
 returns : tie.Need-returns
-returns c = rw (c .dividend .ensures) (cut-rounded (c .before .args .n) (c .before .args .d) (c .before .pre .1))
+returns c = stored (stored (result c) w64 tt) w16 tt .is
 
 pub rounded-spec : {M : Type 1} → statement M
-rounded-spec = tie.close (tie.spec dividend-requires mul-result div-result returns)
+rounded-spec =
+    tie.close
+    (tie.spec mul-result along-requires add-result mul-result-2 div-result cast-result returns)

@@ -6,8 +6,8 @@ use native.Mathlib.Nat.{mul-le-mul-left, le-antisymm, div-eq-of-lt}
 use lib.IntN.{ℤ, pos, negsuc, negℤ, natAbs, negℤ-negℤ}
 use Rattle.integers.specs.Nearest.{nearest}
 use Rattle.integers.proofs.Nearest.{nearest-is}
-use Rattle.integers.proofs.Linear.{abs-neg, false-ltZ}
-use Rattle.quotient.specs.Quotient.{unit, limited, quotient, Rounded, signed}
+use Rattle.integers.proofs.Linear.{abs-neg}
+use Rattle.quotient.specs.Quotient.{unit, limited, quotient, Rounded}
 
 -- ---- magnitudes
 pub rounded-by : (n d : ℕ) → 0 < d → Rounded n d (min (nearest n d) unit)
@@ -57,9 +57,3 @@ pub quotient-is : (n d q : ℕ) → 0 < d → Rounded n d q → quotient (pos n)
 unfolding quotient
 quotient-is n d q h r =
     ap pos (le-antisymm (rounded-le n d (limited n d) q (limited-rounded n d h) r) (rounded-le n d q (limited n d) r (limited-rounded n d h)))
-
--- from the magnitude, by the sign
-pub quotient-signed : (n : ℤ) (d q : ℕ) → 0 < d → Rounded (natAbs n) d q → signed n q ≡ quotient n (pos d)
-unfolding quotient
-quotient-signed (pos n) d q h r = rw (false-ltZ (pos n) (pos 0) (omega arith)) (sym (quotient-is n d q h r))
-quotient-signed (negsuc n) d q h r = ap negℤ (sym (quotient-is (suc n) d q h r))

@@ -1,15 +1,16 @@
 -- `values::renew` meets its contract: the bits, and behind them the auxiliaries. Assumes nothing.
 use mathlib.Core.List.{List, _++_}
 use mathlib.Core.Path.{_≡_, refl, sym, ap, _∙_}
-use Prim.Native.Nat.{ℕ, _+_, _-_, _<_}
+use Prim.Native.Nat.{ℕ, _+_, _-_}
 use native.Mathlib.Omega.{arith}
 use borrow.Author.Needs.{needs}
-use lib.IntN.{ℤ, pos}
+use lib.IntN.{ℤ}
 use lib.ListN.{length, take, drop}
-use lib.Seq.{length-take-le, getD-take}
+use lib.Seq.{length-take-le}
 use Rattle.lists.specs.Tabulated.{tab}
 use Rattle.lists.proofs.Tabulated.{length-tab}
-use Rattle.values.proofs.Values.{behind, length-behind, getD-behind, length-left, tab-also, both-parts, valueAt, value-first, value-behind}
+use Rattle.values.specs.Values.{valueAt}
+use Rattle.values.proofs.Values.{behind, length-left, tab-also, both-parts, given-first, given-behind, value-first, value-behind}
 use Rattle.values.proofs.renew.Statement.{statement}
 use Rattle.values.proofs.renew.Tie as tie
 
@@ -28,14 +29,14 @@ module _ (s : tie.Start) where
   auxiliary = valueAt (behind n (s .args .sums .now)) (behind n (s .args .counts .now)) (behind n (s .args .costs .now)) (s .args .weight) (s .args .ratio)
 
   first-long : {A : Type 0} (l : List A) → length l ≡ length (s .args .values .now) → length (take n l) ≡ n
-  first-long l e = length-take-le n l (omega (arith, e, s .pre .0 .2))
+  first-long l e = length-take-le n l (omega (arith, e, s .pre .1 .0))
 
 -- ---- the bits
 slice-aggregate-renew-part : tie.Need-slice-aggregate-renew-part
-slice-aggregate-renew-part c = let s = c .before .before in sym (first-long s (s .args .sums .now) (s .pre .0 .0))
+slice-aggregate-renew-part c = let s = c .before .before in sym (first-long s (s .args .sums .now) (s .pre .0 .0 .sums-long))
 
 slice-aggregate-renew-part-2 : tie.Need-slice-aggregate-renew-part-2
-slice-aggregate-renew-part-2 c = let s = c .before .before .before in sym (first-long s (s .args .counts .now) (s .pre .0 .1))
+slice-aggregate-renew-part-2 c = let s = c .before .before .before in sym (first-long s (s .args .counts .now) (s .pre .0 .0 .counts-long))
 
 slice-relend-prefix-renew-part : tie.Need-slice-relend-prefix-renew-part
 slice-relend-prefix-renew-part c = search needs
@@ -46,15 +47,9 @@ slice-aggregate-renew-part-3 c = let s = c .before .before .before .before in sy
 renew-part-requires : tie.Need-renew-part-requires
 renew-part-requires c κs =
     let s = c .before .before .before .before in
-    let e = first-long s (s .args .values .now) refl in (
-      (first-long s (s .args .sums .now) (s .pre .0 .0) ∙ sym e, first-long s (s .args .counts .now) (s .pre .0 .1) ∙ sym e, s .pre .0 .3, s .pre .0 .4),
-      (
-        λ v h.
-            let l : v < n s = omega (arith, e) in
-            rw (getD-take (n s) (s .args .sums .now) v (pos 0) l, getD-take (n s) (s .args .counts .now) v 0 l) (s .pre .1 .0 v (omega (arith, s .pre .0 .2))),
-        s .pre .1 .1,
-      ),
-    )
+    let a = s .args in
+    let first = given-first (n s) (a .sums .now) (a .counts .now) (a .costs .now) (length (a .values .now)) (s .pre .0 .0) (s .pre .1 .0) in
+    ((rw (first-long s (a .values .now) refl) first, omega (arith, s .pre .0 .1), omega (arith, s .pre .0 .2)), s .pre .1 .1)
 
 module _ (b : tie.After-renew-part) where
   abbrev start : tie.Start
@@ -126,20 +121,9 @@ renew-part-requires-2 : tie.Need-renew-part-requires-2
 renew-part-requires-2 c κs =
     let b = c .before .before .before .before .before in
     let s = start b in
-    let a = s .args in (
-      (
-        length-behind (n s) (a .sums .now) ∙ ap (λ (m : ℕ). m - n s) (s .pre .0 .0) ∙ sym (left b),
-        length-behind (n s) (a .counts .now) ∙ ap (λ (m : ℕ). m - n s) (s .pre .0 .1) ∙ sym (left b),
-        s .pre .0 .3,
-        s .pre .0 .4,
-      ),
-      (
-        λ v h.
-            rw (getD-behind (n s) (a .sums .now) v (pos 0), getD-behind (n s) (a .counts .now) v 0, getD-behind (n s) (a .costs .now) v (pos 0))
-            (s .pre .1 .0 (n s + v) (omega (arith, left b))),
-        s .pre .1 .1,
-      ),
-    )
+    let a = s .args in
+    let rest = given-behind (n s) (a .sums .now) (a .counts .now) (a .costs .now) (length (a .values .now)) (s .pre .0 .0) (s .pre .1 .0) in
+    ((rw (left b) rest, omega (arith, s .pre .0 .1), omega (arith, s .pre .0 .2)), s .pre .1 .1)
 
 same-length : tie.Need-same-length
 same-length c = search needs
@@ -154,7 +138,7 @@ returns c =
     let rest-is : rest ≡ tab (length old - n s) (λ i. f s (n s + i))
     = tab-also rest (length old - n s) (auxiliary s) (λ i. f s (n s + i)) (c .before .renew-part2 .ensures) (left b)
     (λ i _. value-behind (n s) (a .sums .now) (a .counts .now) (a .costs .now) (a .weight) (a .ratio) i) in
-    both-parts (n s) (f s) old (bits b) rest (s .pre .0 .2) (bits-are b) rest-is
+    both-parts (n s) (f s) old (bits b) rest (s .pre .1 .0) (bits-are b) rest-is
 
 pub renew-spec : {M : Type 1} → statement M
 renew-spec =

@@ -7,13 +7,12 @@ use lib.IntN.{ℤ, pos, negℤ, _+ℤ_, _*ℤ_}
 use lib.ListN.{length}
 use mir.Syntax.{w16, w64}
 use mir.Val.{toZ, ofZ}
-use Rattle.integers.proofs.Linear.{abs-neg}
-use Rattle.integers.proofs.Machine.{read-back, held}
+use Rattle.integers.proofs.Machine.{kept, read-back, held}
 use Rattle.lists.specs.Tabulated.{over}
 use Rattle.lists.proofs.Tabulated.{length-over, over-stored, over-whole}
 use Rattle.quotient.specs.Quotient.{quotient}
 use Rattle.model.specs.Iteration.{at, divisor}
-use Rattle.values.proofs.Values.{valueAt}
+use Rattle.values.specs.Values.{valueAt}
 use Rattle.values.proofs.renew_part.Statement.{statement}
 use Rattle.values.proofs.renew_part.Tie as tie
 
@@ -37,10 +36,10 @@ long l = ap length (l .loop .inv .1) ∙ length-over (l .loop .v) (f l) (start l
 
 -- ---- what is divided
 mul-weighed : tie.Need-mul-weighed Inv-loop μ-loop
-mul-weighed c = let h : c .before .loop .v < length (start (c .before) .args .sums .now) = omega (arith, start (c .before) .pre .0) in search needs
+mul-weighed c = let h : c .before .loop .v < length (start (c .before) .args .sums .now) = omega (arith, start (c .before) .pre .0 .0) in search needs
 
 shared-slice-copy-out-weighed : tie.Need-shared-slice-copy-out-weighed Inv-loop μ-loop
-shared-slice-copy-out-weighed c = omega (arith, start (c .before) .pre .0)
+shared-slice-copy-out-weighed c = omega (arith, start (c .before) .pre .0 .0)
 
 cost-of-requires : tie.Need-cost-of-requires Inv-loop μ-loop
 cost-of-requires c κs = search needs
@@ -56,7 +55,7 @@ module _ (c : tie.After-cost-of Inv-loop μ-loop) where
   cost = at (start turn .args .costs .now) (turn .loop .v)
 
   sum-is : toZ w64 (ofZ w64 sum) ≡ sum
-  sum-is = held w64 sum (2 ^ 40) tt (start turn .pre .1 .0 (turn .loop .v) (omega arith) .0) .is
+  sum-is = held w64 sum (2 ^ 40) tt (start turn .pre .0 .0 .sum (turn .loop .v) (omega arith)) .is
 
   cost-is : toZ w16 (ofZ w16 (c .cost-of .result)) ≡ cost
   cost-is = read-back w16 (c .cost-of .ok) (c .cost-of .ensures)
@@ -64,13 +63,14 @@ module _ (c : tie.After-cost-of Inv-loop μ-loop) where
 weighed-requires : tie.Need-weighed-requires Inv-loop μ-loop
 weighed-requires c κs =
     let s = start (turn c) in
-    let p = s .pre .1 .0 (turn c .loop .v) (omega arith) in
-    rw (sum-is c, cost-is c) (s .pre .0 .2, p .0, p .1)
+    let g = s .pre .0 .0 in
+    let v = turn c .loop .v in
+    rw (sum-is c, cost-is c) (s .pre .0 .1, g .sum v (omega arith), g .cost v (omega arith))
 
 x-is : (c : tie.After-weighed Inv-loop μ-loop)
     → toZ w64 (ofZ w64 (c .weighed .result)) ≡ pos 256 *ℤ sum (c .before) +ℤ pos (start (turn (c .before)) .args .weight) *ℤ cost (c .before)
 x-is c =
-    read-back w64 (c .weighed .ok) (c .weighed .ensures
+    read-back w64 (c .weighed .ok) (c .weighed .ensures .0
     ∙ ap₂ (λ (y z : ℤ). pos 256 *ℤ y +ℤ pos (start (turn (c .before)) .args .weight) *ℤ z) (sum-is (c .before)) (cost-is (c .before)))
 
 -- ---- the divisor
@@ -87,8 +87,9 @@ divide-requires : tie.Need-divide-requires Inv-loop μ-loop
 divide-requires c κs =
     let m = c .before .before in
     let s = start (turn (m .before)) in
-    let p = s .pre .1 .0 (turn (m .before) .loop .v) (omega arith) in
-    rw (x-is m, c .index .ensures) ((rw abs-neg at (p .2), p .3, p .4, s .pre .0 .3), s .pre .1 .1)
+    let g = s .pre .0 .0 in
+    let v = turn (m .before) .loop .v in
+    rw (c .index .ensures) ((rw (kept w64 (m .weighed .result) (m .weighed .ok)) (m .weighed .ensures .1), g .some v (omega arith), g .few v (omega arith), s .pre .0 .2), s .pre .1)
 
 -- ---- the store
 mul-t20 : tie.Need-mul-t20 Inv-loop μ-loop

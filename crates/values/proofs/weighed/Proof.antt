@@ -1,7 +1,9 @@
 -- `values::weighed` meets its contract. Assumes nothing.
+use mathlib.Core.Path.{ap}
 use Prim.Native.Nat.{_+_, _*_, _^_}
+use native.Mathlib.Omega.{arith}
 use borrow.Author.Needs.{needs}
-use lib.IntN.{ℤ, pos, _+ℤ_, _*ℤ_}
+use lib.IntN.{ℤ, pos, natAbs, _+ℤ_, _*ℤ_}
 use mir.Syntax.{w16, w64}
 use mir.Val.{toZ, ofZ}
 use Rattle.integers.proofs.Machine.{Worth, fits, stored, unsigned, held, literal, plus, times}
@@ -43,7 +45,7 @@ add-result : tie.Need-add-result
 add-result c = fits (total c) w64 tt
 
 returns : tie.Need-returns
-returns c = stored (total c) w64 tt .is
+returns c = let t = stored (total c) w64 tt in (t .is, omega (arith, ap natAbs (t .is), t .within))
 
 pub weighed-spec : {M : Type 1} → statement M
 weighed-spec = tie.close (tie.spec mul-result cast-result cast-result-2 mul-result-2 add-result returns)

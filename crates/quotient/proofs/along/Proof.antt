@@ -1,0 +1,31 @@
+-- `quotient::along` meets its contract. Assumes nothing.
+use mathlib.Core.Path.{_≡_}
+use native.Mathlib.Omega.{arith}
+use lib.IntN.{pos, natAbs}
+use mir.Syntax.{w64}
+use mir.Val.{toZ, ofZ}
+use mir.Facts.{toZ-ofZ}
+use Rattle.integers.proofs.Linear.{readℤ, above-abs, false-ltZ}
+use Rattle.integers.proofs.Machine.{Worth, held, negative, also, fits, stored}
+use Rattle.quotient.proofs.along.Statement.{statement}
+use Rattle.quotient.proofs.along.Tie as tie
+
+x-is : (s : tie.Start) → toZ w64 (ofZ w64 (s .args .x)) ≡ s .args .x
+x-is s = toZ-ofZ (s .fits .x)
+
+d-is : (s : tie.Start) → Worth (toZ w64 (ofZ w64 (s .args .d))) (pos (natAbs (s .args .d))) 2097152
+d-is s =
+    let d = s .args .d in
+    also (held w64 d 2097152 tt (s .pre .1)) (above-abs d (false-ltZ d (pos 0) (omega (arith, readℤ))))
+
+sub-result : tie.Need-sub-result
+sub-result c = fits (negative (d-is (c .before))) w64 tt
+
+returns : tie.Need-returns
+returns c = rw (rw (x-is (c .before)) at (c .if1 .taken)) (stored (negative (d-is (c .before))) w64 tt .is)
+
+returns-2 : tie.Need-returns-2
+returns-2 c = rw (rw (x-is (c .before)) at (c .if1 .left)) (d-is (c .before) .is)
+
+pub along-spec : {M : Type 1} → statement M
+along-spec = tie.close (tie.spec sub-result returns returns-2)
