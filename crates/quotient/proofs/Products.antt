@@ -6,11 +6,15 @@ use native.Mathlib.Nat.{div-add-mod', mod-lt, mul-le-mul, mul-le-mul-left, mul-l
 use lib.IntN.{ℤ, pos, negsuc, negℤ, natAbs, _+ℤ_, _-ℤ_, _*ℤ_, negℤ-negℤ}
 use Rattle.integers.specs.Nearest.{nearest}
 use Rattle.integers.proofs.Nearest.{nearest-is}
-use Rattle.integers.proofs.Linear.{toℕ}
+use Rattle.integers.proofs.Linear.{toℕ, readℤ, abs-mul}
 use Rattle.quotient.specs.Quotient.{unit, quotient}
-use Rattle.quotient.specs.Prepared.{inverseOf}
+use Rattle.quotient.specs.Prepared.{cut, Product, Prepared, prepared-by}
 use Rattle.quotient.specs.Quotient.Laws.{quotient-odd}
-use Rattle.quotient.proofs.Magnitudes.{nearest-range, quotient-within}
+use Rattle.quotient.proofs.Magnitudes.{abs-signed, nearest-range, quotient-within, quotient-limited}
+
+-- the next whole number above 2 ^ 47 / d: a product with it, divided by 2 ^ 47, takes the place of a division by d
+unfoldable pub inverseOf : ℕ → ℕ
+inverseOf d = 2 ^ 47 / d + 1
 
 -- (16384 + 1/2) * 2 ^ 47
 abbrev pub raise : ℕ
@@ -38,7 +42,7 @@ module _ (d : ℕ) (least : 0 < d) (most : d ≤ 64512) where
     product : d * (m * inverseOf d) ≡ 2 ^ 47 * m + m * excess
     product = omega (arith, ap (λ (x : ℕ). m * x) whole)
 
-    pub product-most : m * inverseOf d ≤ 2 ^ 61 + 2 ^ 30
+    product-most : m * inverseOf d ≤ 2 ^ 61 + 2 ^ 30
     product-most = let t : m * inverseOf d ≤ unit * d * inverseOf d = mul-le-mul-right (inverseOf d) within in omega (arith, whole)
 
     -- also where m / d lies halfway and the nearest is the upper one, since the inverse has an excess
@@ -77,5 +81,26 @@ module _ (d : ℕ) (least : 0 < d) (most : d ≤ 64512) where
   scaled-quotient (negsuc m) h = ap pos (plus-divided (suc m) h) ∙ ap (λ (z : ℤ). pos unit +ℤ z) (sym (quotient-within (suc m) d least h))
 
   -- the product with the inverse, raised and divided, is the quotient
-  pub raised-quotient : (x : ℤ) → natAbs x ≤ unit * d → pos (natAbs (pos raise -ℤ x *ℤ pos (inverseOf d)) / 2 ^ 47) ≡ pos unit +ℤ quotient (negℤ x) (pos d)
+  raised-quotient : (x : ℤ) → natAbs x ≤ unit * d → pos (natAbs (pos raise -ℤ x *ℤ pos (inverseOf d)) / 2 ^ 47) ≡ pos unit +ℤ quotient (negℤ x) (pos d)
   raised-quotient x h = ap (λ (n : ℕ). pos (n / 2 ^ 47)) (scaled-is x h) ∙ scaled-quotient x h
+
+  -- ---- of any x, limited: what is cut off changes no quotient
+  abbrev cut-off : ℤ → ℤ
+  cut-off x = cut (pos (unit * d)) x
+
+  cut-within : (x : ℤ) → natAbs (cut-off x) ≤ unit * d
+  cut-within x = rw abs-signed (omega arith)
+
+  same-quotient : (x : ℤ) → quotient (negℤ (cut-off x)) (pos d) ≡ quotient (negℤ x) (pos d)
+  same-quotient x = quotient-odd (cut-off x) (pos d) ∙ ap negℤ (quotient-limited x d least) ∙ sym (quotient-odd x (pos d))
+
+  pub product-of-inverse : Product (pos d) (pos (unit * d)) (pos (inverseOf d))
+  product-of-inverse = record {
+    range = (omega (arith, readℤ), omega arith);
+    fits = λ x. rw (abs-mul (cut-off x) (pos (inverseOf d))) (omega (arith, product-most (natAbs (cut-off x)) (cut-within x)));
+    quotients = λ x. raised-quotient (cut-off x) (cut-within x) ∙ ap (λ (z : ℤ). pos unit +ℤ z) (same-quotient x);
+  }
+
+  -- of numbers that are these
+  pub prepared-at : (den most inverse : ℤ) → den ≡ pos d → most ≡ pos (unit * d) → inverse ≡ pos (inverseOf d) → Prepared den most inverse
+  prepared-at den most inverse e f g = rw (e, f, g) (prepared-by product-of-inverse)

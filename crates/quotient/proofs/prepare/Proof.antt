@@ -9,8 +9,8 @@ use mir.Syntax.{w64}
 use mir.Val.{toZ, ofZ}
 use Rattle.integers.proofs.Machine.{Worth, held, literal, also, plus, times, fits, stored}
 use Rattle.quotient.specs.Quotient.{unit}
-use Rattle.quotient.specs.Prepared.{inverseOf, prepared-by}
 use Rattle.quotient.proofs.Magnitudes.{positive}
+use Rattle.quotient.proofs.Products.{inverseOf, prepared-at}
 use Rattle.quotient.proofs.prepare.Statement.{statement}
 use Rattle.quotient.proofs.prepare.Tie as tie
 
@@ -44,14 +44,7 @@ add-t4 : tie.Need-add-t4
 add-t4 c = fits (inverse-is c) w64 tt
 
 returns : tie.Need-returns
-returns c =
-    prepared-by (record {
-      positive = d-is c .2;
-      least = d-is c .0;
-      small = d-is c .1;
-      most-is = stored (most-is c) w64 tt .is;
-      inverse-is = stored (inverse-is c) w64 tt .is;
-    })
+returns c = prepared-at (d c) (d-is c .0) (d-is c .1) _ _ _ (d-is c .2) (stored (most-is c) w64 tt .is) (stored (inverse-is c) w64 tt .is)
 
 pub prepare-spec : {M : Type 1} → statement M
 prepare-spec = tie.close (tie.spec mul-t2 div-t3 add-t4 returns)
