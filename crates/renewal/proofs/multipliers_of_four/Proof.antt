@@ -4,9 +4,9 @@ use native.Mathlib.Omega.{arith}
 use Rattle.integers.specs.Sum.{sumℕ}
 use Rattle.model.specs.Iteration.{multiplier}
 use Rattle.model.specs.Run.{squareOfChange}
-use Rattle.rows.proofs.Four.{multiplier-small}
+use Rattle.rows.proofs.Four.{sum-four, multiplier-small}
 use Rattle.layout.specs.Turned.{entry}
-use Rattle.renewal.proofs.Squares.{squares-small, sum-four}
+use Rattle.renewal.proofs.Squares.{squares-small}
 use borrow.Author.Needs.{needs}
 use Rattle.renewal.proofs.multipliers_of_four.Statement.{statement}
 use Rattle.renewal.proofs.multipliers_of_four.Tie as tie

@@ -60,7 +60,7 @@ returns-2 : tie.Need-returns-2
 unfolding sign
 returns-2 c =
     let s = c .before .before in
-    rw (held w32 (s .args .x) 16384 tt (s .pre .2) .is, above (of s) (one s) (rw (read s) at (c .if1 .left))) (twice (s .args .x))
+    rw (held w32 (s .args .x) 131072000 tt (s .pre .2) .is, above (of s) (one s) (rw (read s) at (c .if1 .left))) (twice (s .args .x))
 
 pub plus-spec : {M : Type 1} → statement M
 plus-spec = tie.close (tie.spec mul-if1 mul-if1-2 index-1-if1 index-2-if1 returns returns-2)
