@@ -1,2 +1,2 @@
 pub mod Four
-pub mod Halves
+pub mod Signs

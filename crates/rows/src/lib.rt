@@ -17,7 +17,7 @@ const UNIT: i32 = 16384;
 
 // x where position p of row r has plus, otherwise 0: twice it is the signed x, and x.
 fn plus(r: usize, p: usize, x: i32) -> i32
-    requires { ⌜ (r < 4) × (p < 3) × (natAbs x ≤ 131072000) ⌝ }
+    requires { ⌜ (r < 4) × (p < 3) × (natAbs x ≤ 16384) ⌝ }
     ensures { λ z. ⌜ pos 2 *ℤ z ≡ sign r p *ℤ x +ℤ x ⌝ }
 {
     if SIGNS[r][p] < 0 { 0 } else { x }
@@ -61,12 +61,20 @@ fn size_at(s: [i32; 4], r: usize) -> i32
     size(s[r])
 }
 
-// Position p of rows of sizes a, b, c and d: twice those with plus, less all four.
+// x with the sign of position p in row r.
+fn signed(r: usize, p: usize, x: i32) -> i32
+    requires { ⌜ (r < 4) × (p < 3) × (natAbs x ≤ 131072000) ⌝ }
+    ensures { λ z. ⌜ z ≡ sign r p *ℤ x ⌝ }
+{
+    if SIGNS[r][p] < 0 { -x } else { x }
+}
+
+// What rows of sizes a, b, c and d give the variable at position p.
 fn share(p: usize, a: i32, b: i32, c: i32, d: i32) -> i32
     requires { ⌜ (p < 3) × (natAbs a ≤ 131072000) × (natAbs b ≤ 131072000) × (natAbs c ≤ 131072000) × (natAbs d ≤ 131072000) ⌝ }
     ensures { λ z. ⌜ z ≡ sign 0 p *ℤ a +ℤ sign 1 p *ℤ b +ℤ sign 2 p *ℤ c +ℤ sign 3 p *ℤ d ⌝ }
 {
-    2 * (plus(0, p, a) + plus(1, p, b) + plus(2, p, c) + plus(3, p, d)) - (a + b + c + d)
+    signed(0, p, a) + signed(1, p, b) + signed(2, p, c) + signed(3, p, d)
 }
 
 // What the four rows give each of the three variables.
@@ -145,7 +153,7 @@ fn change_at(old: [i32; 4], new: [i32; 4], r: usize, side: i32) -> u64
     change(side * old[r], side * new[r])
 }
 
-fn total(a: u64, b: u64, c: u64, d: u64) -> u64
+fn added(a: u64, b: u64, c: u64, d: u64) -> u64
     requires { ⌜ a + b + c + d < 2 ^ 64 ⌝ }
     ensures { λ n. ⌜ n ≡ a + b + c + d ⌝ }
 {
@@ -156,7 +164,7 @@ fn changes(old: [i32; 4], new: [i32; 4], side: i32) -> u64
     requires { ⌜ (natAbs side ≤ 1) × ((r : ℕ) → (natAbs (at old r) ≤ 131072000) × (natAbs (at new r) ≤ 131072000)) ⌝ }
     ensures { λ n. ⌜ n ≡ sumℕ 4 (λ r. squareOfChange (multiplier (side *ℤ at old r)) (multiplier (side *ℤ at new r))) ⌝ }
 {
-    total(
+    added(
         change_at(old, new, 0, side),
         change_at(old, new, 1, side),
         change_at(old, new, 2, side),

@@ -6,7 +6,7 @@ use mir.Syntax.{w32}
 use Rattle.integers.proofs.Machine.{Worth, within-raw, fits, stored, held, times}
 use Rattle.model.specs.Iteration.{at, multiplier}
 use Rattle.model.specs.Run.{squareOfChange}
-use Rattle.rows.proofs.Halves.{raw}
+use Rattle.rows.proofs.Signs.{raw}
 use Rattle.rows.proofs.change_at.Statement.{statement}
 use Rattle.rows.proofs.change_at.Tie as tie
 

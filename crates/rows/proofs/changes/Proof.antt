@@ -12,7 +12,7 @@ use Rattle.integers.proofs.Machine.{Worth, within-raw, held}
 use Rattle.model.specs.Iteration.{at, multiplier}
 use Rattle.model.specs.Run.{squareOfChange}
 use Rattle.rows.proofs.Four.{sum-four, square-small, multiplier-small}
-use Rattle.rows.proofs.Halves.{raw}
+use Rattle.rows.proofs.Signs.{raw}
 use Rattle.rows.proofs.changes.Statement.{statement}
 use Rattle.rows.proofs.changes.Tie as tie
 
@@ -58,13 +58,13 @@ summed c =
     sum-four (of s (s .args .side)) _ _ _ _
     (is s 0 _ (c .before .before .before .change-at .ensures)) (is s 1 _ (c .before .before .change-at2 .ensures)) (is s 2 _ (c .before .change-at3 .ensures)) (is s 3 _ (c .change-at4 .ensures))
 
-total-requires : tie.Need-total-requires
-total-requires c κs = let s = start c in omega (arith, summed c, sumℕ-bound 4 17179869184000000 (of s (s .args .side)) (λ r _. small s r))
+added-requires : tie.Need-added-requires
+added-requires c κs = let s = start c in omega (arith, summed c, sumℕ-bound 4 17179869184000000 (of s (s .args .side)) (λ r _. small s r))
 
 returns : tie.Need-returns
-returns c = c .total .ensures ∙ summed (c .before)
+returns c = c .added .ensures ∙ summed (c .before)
 
 pub changes-spec : {M : Type 1} → statement M
 changes-spec =
     tie.close
-    (tie.spec change-at-requires change-at-requires-2 change-at-requires-3 change-at-requires-4 total-requires returns)
+    (tie.spec change-at-requires change-at-requires-2 change-at-requires-3 change-at-requires-4 added-requires returns)

@@ -10,7 +10,7 @@ use Rattle.integers.specs.Sum.{sumℤ}
 use Rattle.integers.proofs.Linear.{about}
 use Rattle.integers.proofs.Machine.{Worth, within-raw, read-back, local}
 use Rattle.model.specs.Iteration.{at, sign, slack, multiplier}
-use Rattle.rows.proofs.Halves.{raw}
+use Rattle.rows.proofs.Signs.{raw}
 use Rattle.rows.proofs.shares.Statement.{statement}
 use Rattle.rows.proofs.shares.Tie as tie
 

@@ -1,28 +1,45 @@
 -- `rows::sum` meets its contract. Assumes nothing.
-use mathlib.Core.Path.{_≡_, _∙_}
+use mathlib.Core.Path.{_≡_, refl, sym, ap, _∙_}
+use Prim.Native.Nat.{ℕ, _*_, _^_, _≤_, _<_}
 use native.Mathlib.Omega.{arith}
-use lib.IntN.{ℤ, pos, _+ℤ_, _-ℤ_, _*ℤ_}
+use borrow.Author.Needs.{needs}
+use lib.IntN.{ℤ, pos, natAbs, _+ℤ_, _-ℤ_, _*ℤ_}
+use lib.Signed.{mag}
 use mir.Syntax.{w32}
-use Rattle.integers.proofs.Machine.{Worth, within-raw, fits, stored, held, literal, plus, minus, times}
+use mir.Val.{toZ, ofZ, hbits}
+use Rattle.integers.proofs.Linear.{split, toℕ, abs-add, abs-mul}
+use Rattle.integers.proofs.Machine.{Worth, fits, stored, local, held, literal, plus, minus, times}
 use Rattle.model.specs.Iteration.{sign, rowSum}
-use Rattle.rows.proofs.Halves.{raw, half, given, more, less-all}
+use Rattle.model.proofs.Rows.{signed-abs}
 use Rattle.rows.proofs.sum.Statement.{statement}
 use Rattle.rows.proofs.sum.Tie as tie
 
+abbrev raw : ℤ → ℤ
+raw z = toZ w32 (ofZ w32 z)
+
 plus-requires : tie.Need-plus-requires
-plus-requires c κs = (c .pre .0, omega arith, omega (arith, within-raw (held w32 (c .args .a) 16384 tt (c .pre .1))))
+plus-requires c κs = search needs
 
 plus-requires-2 : tie.Need-plus-requires-2
-plus-requires-2 c κs = let s = c .before in (s .pre .0, omega arith, omega (arith, within-raw (held w32 (s .args .b) 16384 tt (s .pre .2))))
+plus-requires-2 c κs = search needs
 
 plus-requires-3 : tie.Need-plus-requires-3
-plus-requires-3 c κs = let s = c .before .before in (s .pre .0, omega arith, omega (arith, within-raw (held w32 (s .args .c) 16384 tt (s .pre .3))))
+plus-requires-3 c κs = search needs
+
+-- what a call of `plus` gave
+half : (r p : ℕ) (x z : ℤ) → natAbs x ≤ 16384 → pos 2 *ℤ z ≡ sign r p *ℤ raw x +ℤ raw x → pos 2 *ℤ z ≡ sign r p *ℤ x +ℤ x
+half r p x z k e = e ∙ ap (λ (y : ℤ). sign r p *ℤ y +ℤ y) (held w32 x 16384 tt k .is)
+
+given : (r p : ℕ) (x z : ℤ) → r < 4 → p < 3 → natAbs x ≤ 16384 → mag z < 2 ^ hbits w32 → pos 2 *ℤ z ≡ sign r p *ℤ raw x +ℤ raw x → Worth (raw z) z 16384
+given r p x z h l k f e =
+    let d : 2 * natAbs z ≡ natAbs (sign r p *ℤ x +ℤ x) = sym (abs-mul (pos 2) z) ∙ ap natAbs (half r p x z k e) in
+    local w32 16384 f refl (omega (arith, d, abs-add (sign r p *ℤ x) x, signed-abs r p x h l))
 
 first : (c : tie.After-plus) → Worth (raw (c .plus .result)) (c .plus .result) 16384
-first c = let s = c .before in given (s .args .r) 0 (s .args .a) (c .plus .result) 16384 tt (s .pre .1) (c .plus .ensures) (s .pre .0) (omega arith) (c .plus .ok)
+first c = let s = c .before in given (s .args .r) 0 (s .args .a) (c .plus .result) (s .pre .0) (omega arith) (s .pre .1) (c .plus .ok) (c .plus .ensures)
 
 second : (c : tie.After-plus2) → Worth (raw (c .plus2 .result)) (c .plus2 .result) 16384
-second c = let s = c .before .before in given (s .args .r) 1 (s .args .b) (c .plus2 .result) 16384 tt (s .pre .2) (c .plus2 .ensures) (s .pre .0) (omega arith) (c .plus2 .ok)
+second c = let s = c .before .before in given (s .args .r) 1 (s .args .b) (c .plus2 .result) (s .pre .0) (omega arith) (s .pre .2) (c .plus2 .ok) (c .plus2 .ensures)
 
 add-result : tie.Need-add-result
 add-result c = fits (plus (first (c .before)) (second c)) w32 tt
@@ -41,7 +58,7 @@ module _ (c : tie.After-plus3) where
   w = c .plus3 .result
 
   third : Worth (raw w) w 16384
-  third = given (s .args .r) 2 (s .args .c) w 16384 tt (s .pre .3) (c .plus3 .ensures) (s .pre .0) (omega arith) (c .plus3 .ok)
+  third = given (s .args .r) 2 (s .args .c) w (s .pre .0) (omega arith) (s .pre .3) (c .plus3 .ok) (c .plus3 .ensures)
 
   those : Worth (raw (raw u +ℤ raw v) +ℤ raw w) (u +ℤ v +ℤ w) 49152
   those = plus (stored (plus (first (c .before .before)) (second (c .before))) w32 tt) third
@@ -74,15 +91,20 @@ add-result-4 c = fits (three c) w32 tt
 sub-result : tie.Need-sub-result
 sub-result c = fits (less c) w32 tt
 
+-- twice those with plus, less all three
+signed : (a b c x y z u v w : ℤ) → pos 2 *ℤ u ≡ x +ℤ a → pos 2 *ℤ v ≡ y +ℤ b → pos 2 *ℤ w ≡ z +ℤ c → pos 2 *ℤ (u +ℤ v +ℤ w) -ℤ (a +ℤ b +ℤ c) ≡ x +ℤ y +ℤ z
+signed a b c x y z u v w = rw (split a, split b, split c, split x, split y, split z, split u, split v, split w) (simp toℕ (omega arith))
+
 returns : tie.Need-returns
 unfolding rowSum
 returns c =
     let s = c .before .before .before in
     let r = s .args .r in
-    let a = half r 0 (s .args .a) (u c) 16384 tt (s .pre .1) (c .before .before .plus .ensures) in
-    let b = half r 1 (s .args .b) (v c) 16384 tt (s .pre .2) (c .before .plus2 .ensures) in
-    let d = half r 2 (s .args .c) (w c) 16384 tt (s .pre .3) (c .plus3 .ensures) in
-    stored (less c) w32 tt .is ∙ less-all (more (more a b) d)
+    stored (less c) w32 tt .is
+    ∙ signed (s .args .a) (s .args .b) (s .args .c) (sign r 0 *ℤ s .args .a) (sign r 1 *ℤ s .args .b) (sign r 2 *ℤ s .args .c) (u c) (v c) (w c)
+    (half r 0 (s .args .a) (u c) (s .pre .1) (c .before .before .plus .ensures))
+    (half r 1 (s .args .b) (v c) (s .pre .2) (c .before .plus2 .ensures))
+    (half r 2 (s .args .c) (w c) (s .pre .3) (c .plus3 .ensures))
 
 pub sum-spec : {M : Type 1} → statement M
 sum-spec =
