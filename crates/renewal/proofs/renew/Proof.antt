@@ -54,7 +54,7 @@ renew-rest-requires c κs =
     let m = c .before .before in
     let e = m .renew-counted .ensures .0 in
     let h = first m .pre in (
-      (omega (arith, e), omega (arith, e), omega (arith, e), h .0 .0, h .0 .1, mid-length m),
+      (omega (arith, e), omega (arith, e), omega (arith, e), (h .0 .0, h .0 .1, mid-length m)),
       (
         h .1 .0,
         λ i k. (
