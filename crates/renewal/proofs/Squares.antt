@@ -1,6 +1,5 @@
 -- The squares of a triple's changes. Assumes nothing.
-use mathlib.Core.Path.{_≡_}
-use Prim.Native.Nat.{ℕ, _+_, _≤_}
+use Prim.Native.Nat.{ℕ, _≤_}
 use native.Mathlib.Nat.{le-trans}
 use native.Mathlib.Omega.{arith}
 use lib.IntN.{ℤ, natAbs}
@@ -12,6 +11,3 @@ use Rattle.rows.proofs.Four.{square-small}
 pub squares-small : (part : ℤ → ℕ) → ((z : ℤ) → part z ≤ natAbs z) → (a b : ℕ → ℤ) → ((r : ℕ) → (natAbs (a r) ≤ 131072000) × (natAbs (b r) ≤ 131072000))
     → sumℕ 4 (λ r. squareOfChange (part (a r)) (part (b r))) ≤ 68719476736000000
 squares-small part h a b k = le-trans (sumℕ-bound 4 17179869184000000 (λ r. squareOfChange (part (a r)) (part (b r))) (λ r _. square-small part h (a r) (b r) (k r))) (omega arith)
-
-pub sum-four : (f : ℕ → ℕ) (a b c d : ℕ) → a ≡ f 0 → b ≡ f 1 → c ≡ f 2 → d ≡ f 3 → a + b + c + d ≡ sumℕ 4 f
-sum-four f a b c d p q r s = omega (arith, p, q, r, s)

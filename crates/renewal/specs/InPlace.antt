@@ -1,10 +1,20 @@
 -- Rows that are renewed as they stand while a run goes. Definitions only.
 use mathlib.Core.List.{List}
-use Prim.Native.Nat.{ℕ, _*_, _/_, _%_}
-use lib.IntN.{ℤ}
+use mathlib.Core.Path.{_≡_}
+use Prim.Native.Nat.{ℕ, _*_, _/_, _%_, _≤_, _<_}
+use lib.IntN.{ℤ, natAbs}
+use lib.ListN.{length, getD}
 use Rattle.lists.specs.Tabulated.{tab}
 use Rattle.model.specs.Iteration.{at, sumAt, renewed, renewedAt}
 use Rattle.layout.specs.Turned.{place, straight}
+
+-- lists of exactly T triples: their variables, and their rows
+abbrev pub Sized : ℕ → List ℕ → List ℤ → Type 0
+Sized T ts s = (T ≤ 8192) × (3 * T ≡ length ts) × (4 * T ≡ length s)
+
+-- every variable of the triples has a value, and no value exceeds U
+abbrev pub Valued : List ℕ → List ℤ → Type 0
+Valued ts c = ((i : ℕ) → i < length ts → getD ts i 0 < length c) × ((v : ℕ) → natAbs (at c v) ≤ 16384)
 
 -- entry i of the rows of T triples, which stand in s, renewed with the values c
 abbrev pub renewedIn : ℕ → List ℕ → List ℤ → List ℤ → ℕ → ℤ

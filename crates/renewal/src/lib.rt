@@ -15,7 +15,7 @@ ghost use Rattle.model.specs.Run.{squareOfChange, settledBy};
 ghost use Rattle.model.specs.Run as Run;
 ghost use Rattle.model.specs.Bounds.{RowsWithin};
 ghost use Rattle.layout.specs.Turned.{entry, straight};
-ghost use Rattle.renewal.specs.InPlace.{renewedIn, renewedAll};
+ghost use Rattle.renewal.specs.InPlace.{Sized, Valued, renewedIn, renewedAll};
 
 fn wide(x: i16) -> i32
     ensures { λ r. ⌜ r ≡ x ⌝ }
@@ -90,13 +90,15 @@ struct Totals {
 
 // The first triples, whose rows are not turned, are renewed.
 fn renew_first(triples: &[u16], values: &[i16], rows: &mut [i32], count: usize) -> Totals
-    requires { ⌜ (count ≤ 8192) × (3 * count ≡ length (now triples)) × (4 * count ≡ length (now rows)) ⌝ }
-    requires { ⌜ ((i : ℕ) → i < length (now triples) → getD (now triples) i 0 < length (now values)) × ((v : ℕ) → natAbs (at (now values) v) ≤ 16384) ⌝ }
+    requires { ⌜ Sized count (now triples) (now rows) ⌝ }
+    requires { ⌜ Valued (now triples) (now values) ⌝ }
     requires { ⌜ RowsWithin 3999 (now rows) ⌝ }
     ensures { λ r. ⌜ r .done ≡ count % 4 ⌝ }
-    ensures { λ r. ⌜ now (rows .exit) ≡ over (4 * r .done) (renewedIn count (now (triples .entry)) (now (rows .entry)) (now (values .entry))) (now (rows .entry)) ⌝ }
-    ensures { λ r. ⌜ (r .multipliers ≡ Run.changes multiplier (r .done) (straight count (now (rows .entry))) (renewedAll count (now (triples .entry)) (now (rows .entry)) (now (values .entry))))
-        × (r .slacks ≡ Run.changes slack (r .done) (straight count (now (rows .entry))) (renewedAll count (now (triples .entry)) (now (rows .entry)) (now (values .entry)))) ⌝ }
+    ensures { λ r. ⌜ now (rows .exit)
+        ≡ over (4 * r .done) (renewedIn count (now (triples .entry)) (now (rows .entry)) (now (values .entry))) (now (rows .entry)) ⌝ }
+    ensures { λ r. ⌜ (let old = straight count (now (rows .entry)) in
+        let new = renewedAll count (now (triples .entry)) (now (rows .entry)) (now (values .entry)) in
+        (r .multipliers ≡ Run.changes multiplier (r .done) old new) × (r .slacks ≡ Run.changes slack (r .done) old new)) ⌝ }
 {
     let first = count % 4;
     let mut t = 0;
@@ -125,13 +127,16 @@ fn renew_counted(
     count: usize,
     tolerance: u64,
 ) -> Totals
-    requires { ⌜ (count ≤ 8192) × (3 * count ≡ length (now triples)) × (4 * count ≡ length (now rows)) ⌝ }
-    requires { ⌜ ((i : ℕ) → i < length (now triples) → getD (now triples) i 0 < length (now values)) × ((v : ℕ) → natAbs (at (now values) v) ≤ 16384) ⌝ }
+    requires { ⌜ Sized count (now triples) (now rows) ⌝ }
+    requires { ⌜ Valued (now triples) (now values) ⌝ }
     requires { ⌜ RowsWithin 3999 (now rows) ⌝ }
-    ensures { λ r. ⌜ (count % 4 ≤ r .done) × ((count - r .done) % 4 ≡ 0) × (r .done ≤ count) × (r .multipliers ≤ tolerance → r .slacks ≤ tolerance → r .done ≡ count) ⌝ }
-    ensures { λ r. ⌜ now (rows .exit) ≡ over (4 * r .done) (renewedIn count (now (triples .entry)) (now (rows .entry)) (now (values .entry))) (now (rows .entry)) ⌝ }
-    ensures { λ r. ⌜ (r .multipliers ≡ Run.changes multiplier (r .done) (straight count (now (rows .entry))) (renewedAll count (now (triples .entry)) (now (rows .entry)) (now (values .entry))))
-        × (r .slacks ≡ Run.changes slack (r .done) (straight count (now (rows .entry))) (renewedAll count (now (triples .entry)) (now (rows .entry)) (now (values .entry)))) ⌝ }
+    ensures { λ r. ⌜ (count % 4 ≤ r .done) × ((count - r .done) % 4 ≡ 0) × (r .done ≤ count)
+        × (r .multipliers ≤ tolerance → r .slacks ≤ tolerance → r .done ≡ count) ⌝ }
+    ensures { λ r. ⌜ now (rows .exit)
+        ≡ over (4 * r .done) (renewedIn count (now (triples .entry)) (now (rows .entry)) (now (values .entry))) (now (rows .entry)) ⌝ }
+    ensures { λ r. ⌜ (let old = straight count (now (rows .entry)) in
+        let new = renewedAll count (now (triples .entry)) (now (rows .entry)) (now (values .entry)) in
+        (r .multipliers ≡ Run.changes multiplier (r .done) old new) × (r .slacks ≡ Run.changes slack (r .done) old new)) ⌝ }
 {
     let first = renew_first(triples, values, rows, count);
     let mut t = first.done;
@@ -154,10 +159,11 @@ fn renew_counted(
 
 // The rows of the four triples from `from` on, and of those after them, are renewed.
 fn renew_rest(triples: &[u16], values: &[i16], rows: &mut [i32], from: usize, count: usize)
-    requires { ⌜ (count % 4 ≤ from) × ((count - from) % 4 ≡ 0) × (from ≤ count) × (count ≤ 8192) × (3 * count ≡ length (now triples)) × (4 * count ≡ length (now rows)) ⌝ }
-    requires { ⌜ ((i : ℕ) → i < length (now triples) → getD (now triples) i 0 < length (now values)) × ((v : ℕ) → natAbs (at (now values) v) ≤ 16384) ⌝ }
+    requires { ⌜ (count % 4 ≤ from) × ((count - from) % 4 ≡ 0) × (from ≤ count) × Sized count (now triples) (now rows) ⌝ }
+    requires { ⌜ Valued (now triples) (now values) ⌝ }
     requires { ⌜ ((i : ℕ) → 4 * from ≤ i → (multiplier (at (now rows) i) ≤ 32768 * 3999) × (slack (at (now rows) i) ≤ 65536)) ⌝ }
-    ensures { λ _. ⌜ now (rows .exit) ≡ over (4 * from) (at (now (rows .entry))) (tab (4 * count) (renewedIn count (now (triples .entry)) (now (rows .entry)) (now (values .entry)))) ⌝ }
+    ensures { λ _. ⌜ now (rows .exit)
+        ≡ over (4 * from) (at (now (rows .entry))) (tab (4 * count) (renewedIn count (now (triples .entry)) (now (rows .entry)) (now (values .entry)))) ⌝ }
 {
     let mut t = from;
     while t < count {
@@ -180,11 +186,13 @@ fn settles(multipliers: u64, slacks: u64, tolerance: u64) -> u32
 
 // "Then each row"; and whether "neither total exceeds X".
 pub fn renew(triples: &[u16], values: &[i16], rows: &mut [i32], count: usize, tolerance: u64) -> u32
-    requires { ⌜ (count ≤ 8192) × (3 * count ≡ length (now triples)) × (4 * count ≡ length (now rows)) ⌝ }
-    requires { ⌜ ((i : ℕ) → i < length (now triples) → getD (now triples) i 0 < length (now values)) × ((v : ℕ) → natAbs (at (now values) v) ≤ 16384) ⌝ }
+    requires { ⌜ Sized count (now triples) (now rows) ⌝ }
+    requires { ⌜ Valued (now triples) (now values) ⌝ }
     requires { ⌜ RowsWithin 3999 (now rows) ⌝ }
-    ensures { λ _. ⌜ (straight count (now (rows .exit)) ≡ renewedAll count (now (triples .entry)) (now (rows .entry)) (now (values .entry))) × (length (now (rows .exit)) ≡ 4 * count) ⌝ }
-    ensures { λ settled. ⌜ settled ≡ settledBy tolerance count (straight count (now (rows .entry))) (renewedAll count (now (triples .entry)) (now (rows .entry)) (now (values .entry))) ⌝ }
+    ensures { λ _. ⌜ (straight count (now (rows .exit)) ≡ renewedAll count (now (triples .entry)) (now (rows .entry)) (now (values .entry)))
+        × (length (now (rows .exit)) ≡ 4 * count) ⌝ }
+    ensures { λ settled. ⌜ settled
+        ≡ settledBy tolerance count (straight count (now (rows .entry))) (renewedAll count (now (triples .entry)) (now (rows .entry)) (now (values .entry))) ⌝ }
 {
     let totals = renew_counted(triples, values, rows, count, tolerance);
     renew_rest(triples, values, rows, totals.done, count);

@@ -1,7 +1,7 @@
 // The four rows of one triple (document 01, 'One iteration'): their sums, their shares of S, their renewal, and the squares of its changes.
 // Rows of up to 4,000 iterations are taken: their magnitude is at most 131,072,000.
 ghost use mathlib.Core.Path.{_≡_};
-ghost use Prim.Native.Nat.{ℕ, _+_, _*_, _≤_, _<_};
+ghost use Prim.Native.Nat.{ℕ, _+_, _*_, _^_, _≤_, _<_};
 ghost use lib.IntN.{pos, natAbs, _+ℤ_, _*ℤ_};
 ghost use Rattle.integers.specs.Sum.{sumℕ, sumℤ};
 ghost use Rattle.lists.specs.Tabulated.{tab};
@@ -61,15 +61,23 @@ fn size_at(s: [i32; 4], r: usize) -> i32
     size(s[r])
 }
 
-// `rest` has the last row's size with plus and the others with minus; the one with plus too is x.
-fn share(rest: i32, x: i32) -> i32
-    requires { ⌜ (natAbs rest ≤ 524288000) × (natAbs x ≤ 131072000) ⌝ }
-    ensures { λ z. ⌜ z ≡ rest +ℤ pos 2 *ℤ x ⌝ }
+// x with the sign of position p in row r.
+fn signed(r: usize, p: usize, x: i32) -> i32
+    requires { ⌜ (r < 4) × (p < 3) × (natAbs x ≤ 131072000) ⌝ }
+    ensures { λ z. ⌜ z ≡ sign r p *ℤ x ⌝ }
 {
-    rest + 2 * x
+    if SIGNS[r][p] < 0 { -x } else { x }
 }
 
-// What the four rows give each of the three variables. In SIGNS, position p has plus in rows p and 3 alone.
+// What rows of sizes a, b, c and d give the variable at position p.
+fn share(p: usize, a: i32, b: i32, c: i32, d: i32) -> i32
+    requires { ⌜ (p < 3) × (natAbs a ≤ 131072000) × (natAbs b ≤ 131072000) × (natAbs c ≤ 131072000) × (natAbs d ≤ 131072000) ⌝ }
+    ensures { λ z. ⌜ z ≡ sign 0 p *ℤ a +ℤ sign 1 p *ℤ b +ℤ sign 2 p *ℤ c +ℤ sign 3 p *ℤ d ⌝ }
+{
+    signed(0, p, a) + signed(1, p, b) + signed(2, p, c) + signed(3, p, d)
+}
+
+// What the four rows give each of the three variables.
 pub fn shares(s: [i32; 4]) -> [i32; 3]
     requires { ⌜ ((r : ℕ) → natAbs (at s r) ≤ 131072000) ⌝ }
     ensures { λ l. ⌜ l ≡ tab 3 (λ p. sumℤ 4 (λ r. sign r p *ℤ pos (slack (at s r) + multiplier (at s r)))) ⌝ }
@@ -77,8 +85,12 @@ pub fn shares(s: [i32; 4]) -> [i32; 3]
     let a = size_at(s, 0);
     let b = size_at(s, 1);
     let c = size_at(s, 2);
-    let rest = size_at(s, 3) - (a + b + c);
-    [share(rest, a), share(rest, b), share(rest, c)]
+    let d = size_at(s, 3);
+    [
+        share(0, a, b, c, d),
+        share(1, a, b, c, d),
+        share(2, a, b, c, d),
+    ]
 }
 
 // ---- the renewal
@@ -133,37 +145,43 @@ fn change(a: i32, b: i32) -> u64
     square(wide(positive(b)) - wide(positive(a)))
 }
 
-fn multiplier_change(old: [i32; 4], new: [i32; 4], r: usize) -> u64
-    requires { ⌜ (r < 4) × (natAbs (at old r) ≤ 131072000) × (natAbs (at new r) ≤ 131072000) ⌝ }
-    ensures { λ n. ⌜ n ≡ squareOfChange (multiplier (at old r)) (multiplier (at new r)) ⌝ }
+// Of row r, times `side`: with 1 the change of its multiplier, with -1 that of its slack, which is the multiplier of the row's negative.
+fn change_at(old: [i32; 4], new: [i32; 4], r: usize, side: i32) -> u64
+    requires { ⌜ (r < 4) × (natAbs side ≤ 1) × (natAbs (at old r) ≤ 131072000) × (natAbs (at new r) ≤ 131072000) ⌝ }
+    ensures { λ n. ⌜ n ≡ squareOfChange (multiplier (side *ℤ at old r)) (multiplier (side *ℤ at new r)) ⌝ }
 {
-    change(old[r], new[r])
+    change(side * old[r], side * new[r])
 }
 
-// The slack is the multiplier of the row's negative.
-fn slack_change(old: [i32; 4], new: [i32; 4], r: usize) -> u64
-    requires { ⌜ (r < 4) × (natAbs (at old r) ≤ 131072000) × (natAbs (at new r) ≤ 131072000) ⌝ }
-    ensures { λ n. ⌜ n ≡ squareOfChange (slack (at old r)) (slack (at new r)) ⌝ }
+fn added(a: u64, b: u64, c: u64, d: u64) -> u64
+    requires { ⌜ a + b + c + d < 2 ^ 64 ⌝ }
+    ensures { λ n. ⌜ n ≡ a + b + c + d ⌝ }
 {
-    change(-old[r], -new[r])
+    a + b + c + d
+}
+
+fn changes(old: [i32; 4], new: [i32; 4], side: i32) -> u64
+    requires { ⌜ (natAbs side ≤ 1) × ((r : ℕ) → (natAbs (at old r) ≤ 131072000) × (natAbs (at new r) ≤ 131072000)) ⌝ }
+    ensures { λ n. ⌜ n ≡ sumℕ 4 (λ r. squareOfChange (multiplier (side *ℤ at old r)) (multiplier (side *ℤ at new r))) ⌝ }
+{
+    added(
+        change_at(old, new, 0, side),
+        change_at(old, new, 1, side),
+        change_at(old, new, 2, side),
+        change_at(old, new, 3, side),
+    )
 }
 
 pub fn multiplier_changes(old: [i32; 4], new: [i32; 4]) -> u64
     requires { ⌜ ((r : ℕ) → (natAbs (at old r) ≤ 131072000) × (natAbs (at new r) ≤ 131072000)) ⌝ }
     ensures { λ n. ⌜ n ≡ sumℕ 4 (λ r. squareOfChange (multiplier (at old r)) (multiplier (at new r))) ⌝ }
 {
-    multiplier_change(old, new, 0)
-        + multiplier_change(old, new, 1)
-        + multiplier_change(old, new, 2)
-        + multiplier_change(old, new, 3)
+    changes(old, new, 1)
 }
 
 pub fn slack_changes(old: [i32; 4], new: [i32; 4]) -> u64
     requires { ⌜ ((r : ℕ) → (natAbs (at old r) ≤ 131072000) × (natAbs (at new r) ≤ 131072000)) ⌝ }
     ensures { λ n. ⌜ n ≡ sumℕ 4 (λ r. squareOfChange (slack (at old r)) (slack (at new r))) ⌝ }
 {
-    slack_change(old, new, 0)
-        + slack_change(old, new, 1)
-        + slack_change(old, new, 2)
-        + slack_change(old, new, 3)
+    changes(old, new, -1)
 }

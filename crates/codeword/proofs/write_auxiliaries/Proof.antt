@@ -31,6 +31,15 @@ sub-t-end c = omega (arith, sized c)
 loop-holds : tie.Need-loop-holds Inv-loop μ-loop
 loop-holds c = (omega arith, made-none _ _ _)
 
+-- ---- a turn
+loop-again : tie.Need-loop-again Inv-loop μ-loop
+loop-again c =
+    let j = c .before .before .before in
+    let i = j .before in
+    let l = i .before .before in
+    let s = l .before .before .before .before in
+    (omega arith, made-next _ _ (s .pre .1 .0) _ _ _ (s .pre .1 .1 .1) (l .loop .inv .1) _ _ _ (omega (arith, sized (l .before))) (i .item .ensures) (j .item2 .ensures) (c .parity .ensures))
+
 -- ---- the places of the two items
 mul-item : tie.Need-mul-item Inv-loop μ-loop
 mul-item c = omega (arith, sized (c .before .before))
@@ -70,7 +79,7 @@ slice-read-parity-2 c =
 parity-requires : tie.Need-parity-requires Inv-loop μ-loop
 parity-requires c κs = search needs
 
--- ---- a turn, and the whole
+-- ---- the whole
 add-point : tie.Need-add-point Inv-loop μ-loop
 add-point c = omega (arith, sized (c .before .before .before .before .before .before .before))
 
@@ -82,14 +91,6 @@ add-t c = omega (arith, sized (c .before .before .before .before .before .before
 
 loop-less : tie.Need-loop-less Inv-loop μ-loop
 loop-less c = omega arith
-
-loop-again : tie.Need-loop-again Inv-loop μ-loop
-loop-again c =
-    let j = c .before .before .before in
-    let i = j .before in
-    let l = i .before .before in
-    let s = l .before .before .before .before in
-    (omega arith, made-next _ _ (s .pre .1 .0) _ _ _ (s .pre .1 .1 .1) (l .loop .inv .1) _ _ _ (omega (arith, sized (l .before))) (i .item .ensures) (j .item2 .ensures) (c .parity .ensures))
 
 same-length : tie.Need-same-length Inv-loop μ-loop
 same-length c = c .before .loop .inv .1 .long

@@ -42,13 +42,13 @@ returns c = (right (c .before .before) (sym (c .if1 .taken) ∙ c .before .wild 
 tame : (c : tie.Else1) → false ≡ is-wild (c .before .before)
 tame c = sym (c .if1 .left) ∙ c .before .wild .ensures
 
+equal : (c : tie.Else2) → false ≡ is-unequal (c .before .before .before)
+equal c = let a = c .before .before .before .args in sym (ap not (eq-eqb (length (a .costs .now)) (a .bits) (c .if2 .left)))
+
 returns-2 : tie.Need-returns-2
 returns-2 c =
     let s = c .before .before .before in
     (right s (tame (c .before)) (sym (ap not (ne-eqb (length (s .args .costs .now)) (s .args .bits) (c .if2 .taken)))) refl refl, λ e. absurd (omega arith))
-
-equal : (c : tie.Else2) → false ≡ is-unequal (c .before .before .before)
-equal c = let a = c .before .before .before .args in sym (ap not (eq-eqb (length (a .costs .now)) (a .bits) (c .if2 .left)))
 
 some-forbidden-requires : tie.Need-some-forbidden-requires
 some-forbidden-requires c κs = search needs

@@ -4,9 +4,9 @@ use native.Mathlib.Omega.{arith}
 use Rattle.integers.specs.Sum.{sumℕ}
 use Rattle.model.specs.Iteration.{multiplier}
 use Rattle.model.specs.Run.{squareOfChange}
-use Rattle.rows.proofs.Four.{multiplier-small}
+use Rattle.rows.proofs.Four.{sum-four, multiplier-small}
 use Rattle.layout.specs.Turned.{entry}
-use Rattle.renewal.proofs.Squares.{squares-small, sum-four}
+use Rattle.renewal.proofs.Squares.{squares-small}
 use borrow.Author.Needs.{needs}
 use Rattle.renewal.proofs.multipliers_of_four.Statement.{statement}
 use Rattle.renewal.proofs.multipliers_of_four.Tie as tie
@@ -24,7 +24,7 @@ array-copy-out-multiplier-changes-2 : tie.Need-array-copy-out-multiplier-changes
 array-copy-out-multiplier-changes-2 c = search needs
 
 multiplier-changes-requires : tie.Need-multiplier-changes-requires
-multiplier-changes-requires c κs = c .before .before .pre 0
+multiplier-changes-requires c κs = c .before .before .pre _
 
 array-copy-out-multiplier-changes-3 : tie.Need-array-copy-out-multiplier-changes-3
 array-copy-out-multiplier-changes-3 c = search needs
@@ -33,7 +33,7 @@ array-copy-out-multiplier-changes-4 : tie.Need-array-copy-out-multiplier-changes
 array-copy-out-multiplier-changes-4 c = search needs
 
 multiplier-changes-requires-2 : tie.Need-multiplier-changes-requires-2
-multiplier-changes-requires-2 c κs = c .before .before .before .before .before .pre 1
+multiplier-changes-requires-2 c κs = c .before .before .before .before .before .pre _
 
 add-result : tie.Need-add-result
 add-result c = let s = start (c .before .before .before) in omega (arith, small s 0, small s 1, c .before .before .before .multiplier-changes .ensures, c .multiplier-changes2 .ensures)
@@ -45,7 +45,7 @@ array-copy-out-multiplier-changes-6 : tie.Need-array-copy-out-multiplier-changes
 array-copy-out-multiplier-changes-6 c = search needs
 
 multiplier-changes-requires-3 : tie.Need-multiplier-changes-requires-3
-multiplier-changes-requires-3 c κs = c .before .before .before .before .before .before .before .before .pre 2
+multiplier-changes-requires-3 c κs = c .before .before .before .before .before .before .before .before .pre _
 
 add-result-2 : tie.Need-add-result-2
 add-result-2 c = let s = start (c .before .before .before .before .before .before) in omega (arith, small s 0, small s 1, small s 2, c .before .before .before .before .before .before .multiplier-changes .ensures, c .before .before .before .multiplier-changes2 .ensures, c .multiplier-changes3 .ensures)
@@ -57,7 +57,7 @@ array-copy-out-multiplier-changes-8 : tie.Need-array-copy-out-multiplier-changes
 array-copy-out-multiplier-changes-8 c = search needs
 
 multiplier-changes-requires-4 : tie.Need-multiplier-changes-requires-4
-multiplier-changes-requires-4 c κs = c .before .before .before .before .before .before .before .before .before .before .before .pre 3
+multiplier-changes-requires-4 c κs = c .before .before .before .before .before .before .before .before .before .before .before .pre _
 
 add-result-3 : tie.Need-add-result-3
 add-result-3 c = let s = start (c .before .before .before .before .before .before .before .before .before) in omega (arith, small s 0, small s 1, small s 2, small s 3, c .before .before .before .before .before .before .before .before .before .multiplier-changes .ensures, c .before .before .before .before .before .before .multiplier-changes2 .ensures, c .before .before .before .multiplier-changes3 .ensures, c .multiplier-changes4 .ensures)

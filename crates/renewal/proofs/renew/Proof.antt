@@ -54,12 +54,12 @@ renew-rest-requires c κs =
     let m = c .before .before in
     let e = m .renew-counted .ensures .0 in
     let h = first m .pre in (
-      (e .0, e .1, e .2, h .0 .0, h .0 .1, mid-length m),
+      (omega (arith, e), omega (arith, e), omega (arith, e), (h .0 .0, h .0 .1, mid-length m)),
       (
         h .1 .0,
         λ i k. (
-          subst (λ (z : ℤ). multiplier z ≤ 32768 * 3999) (sym (mid-outside m i k)) (h .1 .1 .multipliers i),
-          subst (λ (z : ℤ). slack z ≤ 65536) (sym (mid-outside m i k)) (h .1 .1 .slacks i),
+          subst (λ (z : ℤ). multiplier z ≤ 32768 * 3999) (sym (mid-outside m i (omega (arith, e)))) (h .1 .1 .multipliers i),
+          subst (λ (z : ℤ). slack z ≤ 65536) (sym (mid-outside m i (omega (arith, e)))) (h .1 .1 .slacks i),
         ),
       ),
     )

@@ -25,7 +25,7 @@ loop-holds : tie.Need-loop-holds Inv-loop μ-loop
 loop-holds c =
     let a = c .before .args in
     let h = c .before .pre .0 in
-    (omega arith, record { least = h .0; fours = h .1; most = h .2 }, sym (rest-first (a .count) (a .triples .now) (a .rows .now) (a .values .now) (a .from) (h .2) (h .5)))
+    (omega arith, record { least = h .0; fours = h .1; most = h .2 }, sym (rest-first (a .count) (a .triples .now) (a .rows .now) (a .values .now) (a .from) (h .2) (h .3 .2)))
 
 -- ---- in the loop
 abbrev start : tie.At-loop Inv-loop μ-loop → tie.Start Inv-loop μ-loop
@@ -47,7 +47,7 @@ abbrev goal : tie.At-loop Inv-loop μ-loop → ℕ → ℤ
 goal l = at (rest (T l) (ts l) (ss l) (cs l) (start l .args .from))
 
 long : (l : tie.At-loop Inv-loop μ-loop) → length (l .loop .rows) ≡ 4 * T l
-long l = ap length (l .loop .inv .2) ∙ length-over (4 * l .loop .t) (goal l) (ss l) (omega (arith, start l .pre .0, l .loop .inv .1 .most)) ∙ sym (start l .pre .0 .5)
+long l = ap length (l .loop .inv .2) ∙ length-over (4 * l .loop .t) (goal l) (ss l) (omega (arith, start l .pre .0, l .loop .inv .1 .most)) ∙ sym (start l .pre .0 .3 .2)
 
 room : (c : tie.In-loop Inv-loop μ-loop) → c .before .loop .t + 4 ≤ T (c .before)
 room c = four-left (T (c .before)) (c .before .loop .t) (c .before .loop .inv .1) (c .loop-test .taken)
@@ -125,7 +125,7 @@ loop-again : tie.Need-loop-again Inv-loop μ-loop
 loop-again c = let l = at-loop c in (omega (arith, l .loop .inv .0), next-four (T l) (l .loop .t) (l .loop .inv .1) (omega (arith, below c)), put-is c)
 
 same-length : tie.Need-same-length Inv-loop μ-loop
-same-length c = long (c .before) ∙ start (c .before) .pre .0 .5
+same-length c = long (c .before) ∙ start (c .before) .pre .0 .3 .2
 
 returns : tie.Need-returns Inv-loop μ-loop
 returns c =
@@ -133,7 +133,7 @@ returns c =
     let a = start l .args in
     let h = start l .pre .0 in
     let e : l .loop .t ≡ a .count = omega (arith, l .loop .inv .1 .most, c .loop-test .left) in
-    l .loop .inv .2 ∙ ap (λ (n : ℕ). over (4 * n) (goal l) (ss l)) e ∙ rest-whole (T l) (ts l) (ss l) (cs l) (a .from) (h .2) (h .5)
+    l .loop .inv .2 ∙ ap (λ (n : ℕ). over (4 * n) (goal l) (ss l)) e ∙ rest-whole (T l) (ts l) (ss l) (cs l) (a .from) (h .2) (h .3 .2)
 
 pub renew-rest-spec : {M : Type 1} → statement M
 renew-rest-spec =

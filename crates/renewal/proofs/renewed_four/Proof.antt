@@ -16,7 +16,7 @@ array-copy-out-renewed-rows : tie.Need-array-copy-out-renewed-rows
 array-copy-out-renewed-rows c = search needs
 
 renewed-rows-requires : tie.Need-renewed-rows-requires
-renewed-rows-requires c κs = let s = c .before .before in ((omega (arith, s .pre .0), omega (arith, s .pre .0)), (s .pre .1 .0, (s .pre .1 .1 .0, s .pre .1 .1 .1 0)))
+renewed-rows-requires c κs = let s = c .before .before in ((omega (arith, s .pre .0), omega (arith, s .pre .0)), (s .pre .1 .0, (s .pre .1 .1 .0, s .pre .1 .1 .1 _)))
 
 add-renewed-rows : tie.Need-add-renewed-rows
 add-renewed-rows c = search needs
@@ -25,7 +25,7 @@ array-copy-out-renewed-rows-2 : tie.Need-array-copy-out-renewed-rows-2
 array-copy-out-renewed-rows-2 c = search needs
 
 renewed-rows-requires-2 : tie.Need-renewed-rows-requires-2
-renewed-rows-requires-2 c κs = let s = c .before .before .before .before in ((omega (arith, s .pre .0), omega (arith, s .pre .0)), (s .pre .1 .0, (s .pre .1 .1 .0, s .pre .1 .1 .1 1)))
+renewed-rows-requires-2 c κs = let s = c .before .before .before .before in ((omega (arith, s .pre .0), omega (arith, s .pre .0)), (s .pre .1 .0, (s .pre .1 .1 .0, s .pre .1 .1 .1 _)))
 
 add-renewed-rows-2 : tie.Need-add-renewed-rows-2
 add-renewed-rows-2 c = search needs
@@ -34,7 +34,7 @@ array-copy-out-renewed-rows-3 : tie.Need-array-copy-out-renewed-rows-3
 array-copy-out-renewed-rows-3 c = search needs
 
 renewed-rows-requires-3 : tie.Need-renewed-rows-requires-3
-renewed-rows-requires-3 c κs = let s = c .before .before .before .before .before .before in ((omega (arith, s .pre .0), omega (arith, s .pre .0)), (s .pre .1 .0, (s .pre .1 .1 .0, s .pre .1 .1 .1 2)))
+renewed-rows-requires-3 c κs = let s = c .before .before .before .before .before .before in ((omega (arith, s .pre .0), omega (arith, s .pre .0)), (s .pre .1 .0, (s .pre .1 .1 .0, s .pre .1 .1 .1 _)))
 
 add-renewed-rows-3 : tie.Need-add-renewed-rows-3
 add-renewed-rows-3 c = search needs
@@ -43,7 +43,7 @@ array-copy-out-renewed-rows-4 : tie.Need-array-copy-out-renewed-rows-4
 array-copy-out-renewed-rows-4 c = search needs
 
 renewed-rows-requires-4 : tie.Need-renewed-rows-requires-4
-renewed-rows-requires-4 c κs = let s = c .before .before .before .before .before .before .before .before in ((omega (arith, s .pre .0), omega (arith, s .pre .0)), (s .pre .1 .0, (s .pre .1 .1 .0, s .pre .1 .1 .1 3)))
+renewed-rows-requires-4 c κs = let s = c .before .before .before .before .before .before .before .before in ((omega (arith, s .pre .0), omega (arith, s .pre .0)), (s .pre .1 .0, (s .pre .1 .1 .0, s .pre .1 .1 .1 _)))
 
 returns : tie.Need-returns
 returns c =

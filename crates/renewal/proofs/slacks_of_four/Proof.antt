@@ -4,9 +4,9 @@ use native.Mathlib.Omega.{arith}
 use Rattle.integers.specs.Sum.{sumℕ}
 use Rattle.model.specs.Iteration.{slack}
 use Rattle.model.specs.Run.{squareOfChange}
-use Rattle.rows.proofs.Four.{slack-small}
+use Rattle.rows.proofs.Four.{sum-four, slack-small}
 use Rattle.layout.specs.Turned.{entry}
-use Rattle.renewal.proofs.Squares.{squares-small, sum-four}
+use Rattle.renewal.proofs.Squares.{squares-small}
 use borrow.Author.Needs.{needs}
 use Rattle.renewal.proofs.slacks_of_four.Statement.{statement}
 use Rattle.renewal.proofs.slacks_of_four.Tie as tie
@@ -24,7 +24,7 @@ array-copy-out-slack-changes-2 : tie.Need-array-copy-out-slack-changes-2
 array-copy-out-slack-changes-2 c = search needs
 
 slack-changes-requires : tie.Need-slack-changes-requires
-slack-changes-requires c κs = c .before .before .pre 0
+slack-changes-requires c κs = c .before .before .pre _
 
 array-copy-out-slack-changes-3 : tie.Need-array-copy-out-slack-changes-3
 array-copy-out-slack-changes-3 c = search needs
@@ -33,7 +33,7 @@ array-copy-out-slack-changes-4 : tie.Need-array-copy-out-slack-changes-4
 array-copy-out-slack-changes-4 c = search needs
 
 slack-changes-requires-2 : tie.Need-slack-changes-requires-2
-slack-changes-requires-2 c κs = c .before .before .before .before .before .pre 1
+slack-changes-requires-2 c κs = c .before .before .before .before .before .pre _
 
 add-result : tie.Need-add-result
 add-result c = let s = start (c .before .before .before) in omega (arith, small s 0, small s 1, c .before .before .before .slack-changes .ensures, c .slack-changes2 .ensures)
@@ -45,7 +45,7 @@ array-copy-out-slack-changes-6 : tie.Need-array-copy-out-slack-changes-6
 array-copy-out-slack-changes-6 c = search needs
 
 slack-changes-requires-3 : tie.Need-slack-changes-requires-3
-slack-changes-requires-3 c κs = c .before .before .before .before .before .before .before .before .pre 2
+slack-changes-requires-3 c κs = c .before .before .before .before .before .before .before .before .pre _
 
 add-result-2 : tie.Need-add-result-2
 add-result-2 c = let s = start (c .before .before .before .before .before .before) in omega (arith, small s 0, small s 1, small s 2, c .before .before .before .before .before .before .slack-changes .ensures, c .before .before .before .slack-changes2 .ensures, c .slack-changes3 .ensures)
@@ -57,7 +57,7 @@ array-copy-out-slack-changes-8 : tie.Need-array-copy-out-slack-changes-8
 array-copy-out-slack-changes-8 c = search needs
 
 slack-changes-requires-4 : tie.Need-slack-changes-requires-4
-slack-changes-requires-4 c κs = c .before .before .before .before .before .before .before .before .before .before .before .pre 3
+slack-changes-requires-4 c κs = c .before .before .before .before .before .before .before .before .before .before .before .pre _
 
 add-result-3 : tie.Need-add-result-3
 add-result-3 c = let s = start (c .before .before .before .before .before .before .before .before .before) in omega (arith, small s 0, small s 1, small s 2, small s 3, c .before .before .before .before .before .before .before .before .before .slack-changes .ensures, c .before .before .before .before .before .before .slack-changes2 .ensures, c .before .before .before .slack-changes3 .ensures, c .slack-changes4 .ensures)

@@ -31,6 +31,11 @@ lowered s = minus (held w32 (sum s) 49152 tt (s .pre .2)) (literal (pos 16384))
 regrouped : (a b c : ℤ) → a +ℤ (b -ℤ c) ≡ a +ℤ b -ℤ c
 regrouped a b c = rw (split a, split b, split c) (simp toℕ (omega arith))
 
+returns : tie.Need-returns
+returns c =
+    let s = c .before .before .before in
+    stored (plus (multiplier-is (c .before)) (stored (lowered s) w32 tt)) w32 tt .is ∙ regrouped (pos (multiplier (row s))) (sum s) (pos 16384)
+
 mul-positive : tie.Need-mul-positive
 mul-positive c = search needs
 
@@ -51,11 +56,6 @@ sub-result c = fits (lowered (c .before .before .before)) w32 tt
 
 add-result : tie.Need-add-result
 add-result c = fits (plus (multiplier-is (c .before)) (stored (lowered (c .before .before .before)) w32 tt)) w32 tt
-
-returns : tie.Need-returns
-returns c =
-    let s = c .before .before .before in
-    stored (plus (multiplier-is (c .before)) (stored (lowered s) w32 tt)) w32 tt .is ∙ regrouped (pos (multiplier (row s))) (sum s) (pos 16384)
 
 pub renew-spec : {M : Type 1} → statement M
 renew-spec =

@@ -8,16 +8,16 @@ use Rattle.rows.proofs.renew_all.Statement.{statement}
 use Rattle.rows.proofs.renew_all.Tie as tie
 
 renew-requires : tie.Need-renew-requires
-renew-requires c κs = (omega arith, c .pre 0 .0, c .pre 0 .1)
+renew-requires c κs = (omega arith, c .pre _ .0, c .pre _ .1)
 
 renew-requires-2 : tie.Need-renew-requires-2
-renew-requires-2 c κs = (omega arith, c .before .pre 1 .0, c .before .pre 1 .1)
+renew-requires-2 c κs = (omega arith, c .before .pre _ .0, c .before .pre _ .1)
 
 renew-requires-3 : tie.Need-renew-requires-3
-renew-requires-3 c κs = (omega arith, c .before .before .pre 2 .0, c .before .before .pre 2 .1)
+renew-requires-3 c κs = (omega arith, c .before .before .pre _ .0, c .before .before .pre _ .1)
 
 renew-requires-4 : tie.Need-renew-requires-4
-renew-requires-4 c κs = (omega arith, c .before .before .before .pre 3 .0, c .before .before .before .pre 3 .1)
+renew-requires-4 c κs = (omega arith, c .before .before .before .pre _ .0, c .before .before .before .pre _ .1)
 
 returns : tie.Need-returns
 returns c =

@@ -1,25 +1,78 @@
 -- `rows::share` meets its contract. Assumes nothing.
-use lib.IntN.{pos, _+ℤ_, _*ℤ_}
+use mathlib.Core.Path.{_≡_, ap, _∙_}
+use Prim.Native.Nat.{ℕ, _^_, _≤_, _<_}
+use native.Mathlib.Omega.{arith}
+use borrow.Author.Needs.{needs}
+use lib.IntN.{ℤ, natAbs, _+ℤ_, _*ℤ_}
+use lib.Signed.{mag}
 use mir.Syntax.{w32}
-use mir.Val.{toZ, ofZ}
-use Rattle.integers.proofs.Machine.{Worth, fits, stored, held, literal, plus, times}
+use mir.Val.{hbits}
+use Rattle.integers.proofs.Machine.{Worth, fits, stored, local, held, plus}
+use Rattle.model.specs.Iteration.{sign}
+use Rattle.model.proofs.Rows.{signed-abs}
+use Rattle.rows.proofs.Signs.{raw}
 use Rattle.rows.proofs.share.Statement.{statement}
 use Rattle.rows.proofs.share.Tie as tie
 
-twice : (s : tie.Start) → Worth (pos 2 *ℤ toZ w32 (ofZ w32 (s .args .x))) (pos 2 *ℤ s .args .x) 262144000
-twice s = times (literal (pos 2)) (held w32 (s .args .x) 131072000 tt (s .pre .1))
+signed-requires : tie.Need-signed-requires
+signed-requires c κs = search needs
 
-value : (s : tie.Start) → Worth (toZ w32 (ofZ w32 (s .args .rest)) +ℤ toZ w32 (ofZ w32 (pos 2 *ℤ toZ w32 (ofZ w32 (s .args .x))))) (s .args .rest +ℤ pos 2 *ℤ s .args .x) 786432000
-value s = plus (held w32 (s .args .rest) 524288000 tt (s .pre .0)) (stored (twice s) w32 tt)
+signed-requires-2 : tie.Need-signed-requires-2
+signed-requires-2 c κs = search needs
 
-mul-result : tie.Need-mul-result
-mul-result c = fits (twice c) w32 tt
+signed-requires-3 : tie.Need-signed-requires-3
+signed-requires-3 c κs = search needs
+
+signed-requires-4 : tie.Need-signed-requires-4
+signed-requires-4 c κs = search needs
+
+-- what a call of `signed` gave
+given : (s : tie.Start) (r : ℕ) (x z : ℤ) → r < 4 → natAbs x ≤ 131072000 → mag z < 2 ^ hbits w32 → z ≡ sign r (s .args .p) *ℤ raw x → Worth (raw z) (sign r (s .args .p) *ℤ x) 131072000
+given s r x z h k f e =
+    local w32 131072000 f (e ∙ ap (λ (y : ℤ). sign r (s .args .p) *ℤ y) (held w32 x 131072000 tt k .is)) (omega (arith, signed-abs r (s .args .p) x h (s .pre .0)))
+
+two : (c : tie.After-signed2) → let s = c .before .before in let p = s .args .p in
+    Worth (raw (c .before .signed .result) +ℤ raw (c .signed2 .result)) (sign 0 p *ℤ s .args .a +ℤ sign 1 p *ℤ s .args .b) 262144000
+two c =
+    let s = c .before .before in
+    plus (given s 0 (s .args .a) _ (omega arith) (s .pre .1) (c .before .signed .ok) (c .before .signed .ensures))
+    (given s 1 (s .args .b) _ (omega arith) (s .pre .2) (c .signed2 .ok) (c .signed2 .ensures))
+
+three : (c : tie.After-signed3) → let s = c .before .before .before in let p = s .args .p in
+    Worth (raw (raw (c .before .before .signed .result) +ℤ raw (c .before .signed2 .result)) +ℤ raw (c .signed3 .result))
+    (sign 0 p *ℤ s .args .a +ℤ sign 1 p *ℤ s .args .b +ℤ sign 2 p *ℤ s .args .c) 393216000
+three c =
+    let s = c .before .before .before in
+    plus (stored (two (c .before)) w32 tt) (given s 2 (s .args .c) _ (omega arith) (s .pre .3) (c .signed3 .ok) (c .signed3 .ensures))
+
+all : (c : tie.After-signed4) → let s = c .before .before .before .before in let p = s .args .p in
+    Worth (raw (raw (raw (c .before .before .before .signed .result) +ℤ raw (c .before .before .signed2 .result)) +ℤ raw (c .before .signed3 .result)) +ℤ raw (c .signed4 .result))
+    (sign 0 p *ℤ s .args .a +ℤ sign 1 p *ℤ s .args .b +ℤ sign 2 p *ℤ s .args .c +ℤ sign 3 p *ℤ s .args .d) 524288000
+all c =
+    let s = c .before .before .before .before in
+    plus (stored (three (c .before)) w32 tt) (given s 3 (s .args .d) _ (omega arith) (s .pre .4) (c .signed4 .ok) (c .signed4 .ensures))
 
 add-result : tie.Need-add-result
-add-result c = fits (value c) w32 tt
+add-result c = fits (two c) w32 tt
+
+add-result-2 : tie.Need-add-result-2
+add-result-2 c = fits (three c) w32 tt
+
+add-result-3 : tie.Need-add-result-3
+add-result-3 c = fits (all c) w32 tt
 
 returns : tie.Need-returns
-returns c = stored (value c) w32 tt .is
+returns c = stored (all c) w32 tt .is
 
 pub share-spec : {M : Type 1} → statement M
-share-spec = tie.close (tie.spec mul-result add-result returns)
+share-spec =
+    tie.close
+    (tie.spec
+    signed-requires
+    signed-requires-2
+    add-result
+    signed-requires-3
+    add-result-2
+    signed-requires-4
+    add-result-3
+    returns)

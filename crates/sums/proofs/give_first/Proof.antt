@@ -51,11 +51,6 @@ small l r = reached (start l .args .rows .now) (start l .pre .0 .3) (4 * l .loop
 load-requires : tie.Need-load-requires Inv-loop μ-loop
 load-requires c κs = let s = start (c .before) in (omega (arith, s .pre .0), omega (arith, s .pre .0))
 
-shares-requires : tie.Need-shares-requires Inv-loop μ-loop
-shares-requires c κs r =
-    let l = c .before .before in
-    rw (c .load .ensures) (at-tab (λ z. natAbs z ≤ 131072000) 4 (λ r. row (start l .args .rows .now) (l .loop .t) r) r (λ _. small l r) (omega arith))
-
 shares-are : (c : tie.After-shares Inv-loop μ-loop) → let l = c .before .before .before in c .shares .result ≡ tab 3 (share (start l .args .rows .now) (l .loop .t))
 shares-are c =
     let l = c .before .before .before in
@@ -63,6 +58,11 @@ shares-are c =
     formed (c .before .load .result) (c .shares .result) (c .shares .ensures)
     ∙ ap (λ (q : List ℤ). tab 3 (share q 0)) (c .before .load .ensures)
     ∙ tab-same 3 (share (tab 4 (λ r. row s (l .loop .t) r)) 0) (share s (l .loop .t)) (λ p _. share-four s (l .loop .t) p)
+
+shares-requires : tie.Need-shares-requires Inv-loop μ-loop
+shares-requires c κs r =
+    let l = c .before .before in
+    rw (c .load .ensures) (at-tab (λ z. natAbs z ≤ 131072000) 4 (λ r. row (start l .args .rows .now) (l .loop .t) r) r (λ _. small l r) (omega arith))
 
 give-requires : tie.Need-give-requires Inv-loop μ-loop
 give-requires c κs =

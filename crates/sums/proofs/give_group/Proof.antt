@@ -111,24 +111,8 @@ read-small c p =
     let i = c .before .loop .i in
     rw (read-is c) (at-tab (λ z. natAbs z ≤ 524288000) 3 (λ p. entry (lists s) p i) p (small s i (c .loop-test .taken) p) (omega arith))
 
-give-requires : tie.Need-give-requires Inv-loop μ-loop
-unfolding read
-give-requires c κs =
-    let d = c .before .before .before .before in
-    let l = d .before in
-    let s = start l in (
-      (omega (arith, s .pre .0), omega (arith, s .pre .0), read-small d),
-      (λ i h. omega (arith, long l, s .pre .1 .1 .0 i h), sums-small l),
-    )
-
 abbrev in-loop : tie.After-sums Inv-loop μ-loop → tie.In-loop Inv-loop μ-loop
 in-loop c = c .before .before .before .before .before .before
-
-add-i : tie.Need-add-i Inv-loop μ-loop
-add-i c = omega (arith, start (in-loop c .before) .pre .0)
-
-loop-less : tie.Need-loop-less Inv-loop μ-loop
-loop-less c = omega arith
 
 loop-again : tie.Need-loop-again Inv-loop μ-loop
 unfolding read
@@ -144,6 +128,22 @@ loop-again c =
           ap₂ _+ℤ_ (ap (λ (k : List ℤ). at k u) (l .loop .inv .1) ∙ getD-tab (length (old s)) (sumsAt s i) u (pos 0) h) (ap (λ (x : List ℤ). given x u) (read-is d))
           ∙ +ℤ-assoc (at (old s) u) (sumℤ i (more s u)) (more s u i))),
     )
+
+give-requires : tie.Need-give-requires Inv-loop μ-loop
+unfolding read
+give-requires c κs =
+    let d = c .before .before .before .before in
+    let l = d .before in
+    let s = start l in (
+      (omega (arith, s .pre .0), omega (arith, s .pre .0), read-small d),
+      (λ i h. omega (arith, long l, s .pre .1 .1 .0 i h), sums-small l),
+    )
+
+add-i : tie.Need-add-i Inv-loop μ-loop
+add-i c = omega (arith, start (in-loop c .before) .pre .0)
+
+loop-less : tie.Need-loop-less Inv-loop μ-loop
+loop-less c = omega arith
 
 same-length : tie.Need-same-length Inv-loop μ-loop
 same-length c = long (c .before)

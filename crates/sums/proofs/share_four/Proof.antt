@@ -104,6 +104,19 @@ array-copy-out-t37 c = search needs
 abbrev first : tie.After-t37 → tie.After-shares4
 first c = c .before .before .before .before .before
 
+returns : tie.Need-returns
+unfolding four
+returns c =
+    let z = c .before in
+    let y = z .before .before .before .before .before .before .before in
+    let x = y .before .before .before .before .before .before .before in
+    let e = first (x .before) in
+    let s = start e in (
+      x .store .ensures ∙ ap (sets (s .args .x .now) (4 * s .args .b)) (four-is e 0 (omega arith)),
+      y .store2 .ensures ∙ ap (sets (s .args .y .now) (4 * s .args .b)) (four-is e 1 (omega arith)),
+      z .store3 .ensures ∙ ap (sets (s .args .z .now) (4 * s .args .b)) (four-is e 2 (omega arith)),
+    )
+
 store-requires : tie.Need-store-requires
 unfolding four
 store-requires c κs = let s = start (first c) in ((omega (arith, s .pre .0 .3), omega (arith, s .pre .0 .3, s .pre .1 .0)), four-small (first c) 0 (omega arith))
@@ -154,19 +167,6 @@ same-length-2 c = search needs
 
 same-length-3 : tie.Need-same-length-3
 same-length-3 c = search needs
-
-returns : tie.Need-returns
-unfolding four
-returns c =
-    let z = c .before in
-    let y = z .before .before .before .before .before .before .before in
-    let x = y .before .before .before .before .before .before .before in
-    let e = first (x .before) in
-    let s = start e in (
-      x .store .ensures ∙ ap (sets (s .args .x .now) (4 * s .args .b)) (four-is e 0 (omega arith)),
-      y .store2 .ensures ∙ ap (sets (s .args .y .now) (4 * s .args .b)) (four-is e 1 (omega arith)),
-      z .store3 .ensures ∙ ap (sets (s .args .z .now) (4 * s .args .b)) (four-is e 2 (omega arith)),
-    )
 
 pub share-four-spec : {M : Type 1} → statement M
 share-four-spec =

@@ -1,0 +1,60 @@
+-- `rows::change_at` meets its contract. Assumes nothing.
+use mathlib.Core.Path.{ap₂, _∙_}
+use borrow.Author.Needs.{needs}
+use lib.IntN.{ℤ, _*ℤ_}
+use mir.Syntax.{w32}
+use Rattle.integers.proofs.Machine.{Worth, within-raw, fits, stored, held, times}
+use Rattle.model.specs.Iteration.{at, multiplier}
+use Rattle.model.specs.Run.{squareOfChange}
+use Rattle.rows.proofs.Signs.{raw}
+use Rattle.rows.proofs.change_at.Statement.{statement}
+use Rattle.rows.proofs.change_at.Tie as tie
+
+module _ (s : tie.Start) where
+  side : Worth (raw (s .args .side)) (s .args .side) 1
+  side = held w32 (s .args .side) 1 tt (s .pre .1)
+
+  old : Worth (raw (s .args .side) *ℤ raw (at (s .args .t1) (s .args .r))) (s .args .side *ℤ at (s .args .t1) (s .args .r)) 131072000
+  old = times side (held w32 (at (s .args .t1) (s .args .r)) 131072000 tt (s .pre .2))
+
+  new : Worth (raw (s .args .side) *ℤ raw (at (s .args .t2) (s .args .r))) (s .args .side *ℤ at (s .args .t2) (s .args .r)) 131072000
+  new = times side (held w32 (at (s .args .t2) (s .args .r)) 131072000 tt (s .pre .3))
+
+mul-change : tie.Need-mul-change
+mul-change c = search needs
+
+array-copy-out-change : tie.Need-array-copy-out-change
+array-copy-out-change c = search needs
+
+mul-change-2 : tie.Need-mul-change-2
+mul-change-2 c = fits (old (c .before)) w32 tt
+
+mul-change-3 : tie.Need-mul-change-3
+mul-change-3 c = search needs
+
+array-copy-out-change-2 : tie.Need-array-copy-out-change-2
+array-copy-out-change-2 c = search needs
+
+mul-change-4 : tie.Need-mul-change-4
+mul-change-4 c = fits (new (c .before .before)) w32 tt
+
+change-requires : tie.Need-change-requires
+change-requires c κs = let s = c .before .before in (within-raw (stored (old s) w32 tt), within-raw (stored (new s) w32 tt))
+
+returns : tie.Need-returns
+returns c =
+    let s = c .before .before .before in
+    c .change .ensures ∙ ap₂ (λ (x y : ℤ). squareOfChange (multiplier x) (multiplier y)) (stored (old s) w32 tt .is) (stored (new s) w32 tt .is)
+
+pub change-at-spec : {M : Type 1} → statement M
+change-at-spec =
+    tie.close
+    (tie.spec
+    mul-change
+    array-copy-out-change
+    mul-change-2
+    mul-change-3
+    array-copy-out-change-2
+    mul-change-4
+    change-requires
+    returns)

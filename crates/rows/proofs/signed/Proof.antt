@@ -1,0 +1,55 @@
+-- `rows::signed` meets its contract: a sign is 1 or -1. Assumes nothing.
+use mathlib.Core.Path.{_≡_, _∙_}
+use native.Mathlib.Omega.{arith}
+use borrow.Author.Needs.{needs}
+use lib.IntN.{ℤ, pos, negsuc, negℤ, _-ℤ_, _*ℤ_}
+use mir.Syntax.{w32}
+use Rattle.integers.proofs.Linear.{split, toℕ}
+use Rattle.integers.proofs.Machine.{Worth, fits, stored, held, negative}
+use Rattle.model.specs.Iteration.{sign}
+use Rattle.rows.proofs.Signs.{raw, is-minus, is-plus}
+use Rattle.rows.proofs.signed.Statement.{statement}
+use Rattle.rows.proofs.signed.Tie as tie
+
+mul-if1 : tie.Need-mul-if1
+mul-if1 c = search needs
+
+mul-if1-2 : tie.Need-mul-if1-2
+mul-if1-2 c = search needs
+
+index-1-if1 : tie.Need-index-1-if1
+index-1-if1 c = search needs
+
+index-2-if1 : tie.Need-index-2-if1
+index-2-if1 c = search needs
+
+x : (s : tie.Start) → Worth (raw (s .args .x)) (s .args .x) 131072000
+x s = held w32 (s .args .x) 131072000 tt (s .pre .2)
+
+turned : (s : tie.Start) → Worth (pos 0 -ℤ raw (s .args .x)) (negℤ (s .args .x)) 131072000
+turned s = negative (x s)
+
+minus : (x : ℤ) → negℤ x ≡ negsuc 0 *ℤ x
+minus x = rw (split x) (simp toℕ (omega arith))
+
+plus : (x : ℤ) → x ≡ pos 1 *ℤ x
+plus x = rw (split x) (simp toℕ (omega arith))
+
+sub-result : tie.Need-sub-result
+sub-result c = fits (turned (c .before .before)) w32 tt
+
+returns : tie.Need-returns
+unfolding sign
+returns c =
+    let s = c .before .before in
+    rw (is-minus (s .args .r) (s .args .p) (s .pre .0) (s .pre .1) (c .if1 .taken)) (stored (turned s) w32 tt .is ∙ minus (s .args .x))
+
+returns-2 : tie.Need-returns-2
+unfolding sign
+returns-2 c =
+    let s = c .before .before in
+    rw (is-plus (s .args .r) (s .args .p) (s .pre .0) (s .pre .1) (c .if1 .left)) (x s .is ∙ plus (s .args .x))
+
+pub signed-spec : {M : Type 1} → statement M
+signed-spec =
+    tie.close (tie.spec mul-if1 mul-if1-2 index-1-if1 index-2-if1 sub-result returns returns-2)
