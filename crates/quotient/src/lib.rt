@@ -19,15 +19,15 @@ fn limited(x: i64, most: i64) -> i64
     requires { ⌜ (pos 0 ≤ℤ most) × (natAbs most ≤ unit * 2097152) ⌝ }
     ensures { λ r. ⌜ r ≡ signed x (min (natAbs x) (natAbs most)) ⌝ }
 {
+    let high = if most < x { most } else { x };
     let least = -most;
-    let low = if x < least { least } else { x };
-    if most < low { most } else { low }
+    if high < least { least } else { high }
 }
 
 // ---- by a signed division
 
 // d with the sign of x.
-fn along(x: i64, d: i64) -> i64
+fn with_sign(d: i64, x: i64) -> i64
     requires { ⌜ (pos 0 ≤ℤ d) × (natAbs d ≤ 2097152) ⌝ }
     ensures { λ r. ⌜ r ≡ signed x (natAbs d) ⌝ }
 {
@@ -39,7 +39,7 @@ fn rounded(x: i64, den: i64) -> i16
     requires { ⌜ (pos 0 <ℤ den) × (den ≤ℤ pos 2097152) × (natAbs x ≤ unit * natAbs den) ⌝ }
     ensures { λ r. ⌜ r ≡ quotient x den ⌝ }
 {
-    ((2 * x + along(x, den)) / (2 * den)) as i16
+    ((2 * x + with_sign(den, x)) / (2 * den)) as i16
 }
 
 // num / den, rounded to the nearest whole number, halves away from zero, and limited to -16384..=16384.
@@ -84,5 +84,5 @@ pub fn divide_opposite(x: i64, most: i64, inverse: i64) -> i16
     requires { ⌜ ((den : ℤ) × Prepared den most inverse) ⌝ }
     ensures { λ r. ⌜ ((den : ℤ) → Prepared den most inverse → r ≡ quotient (negℤ x) den) ⌝ }
 {
-    ((raised(limited(x, most), inverse) as i64) - 16384) as i16
+    ((raised(limited(x, most), inverse) as i64) - UNIT) as i16
 }

@@ -24,12 +24,12 @@ fn weighed(weight: u32, sum: i64, cost: i16) -> i64
     256 * sum + (weight as i64) * (cost as i64)
 }
 
-// "256 × e - A", for a variable in `count` triples
+// "256 × e − A", for a variable in `count` triples
 fn divisor(count: usize, ratio: u32) -> i64
     requires { ⌜ (count ≤ 2048) × (ratio ≤ 1023) ⌝ }
     ensures { λ z. ⌜ z ≡ Iteration.divisor (4 * count) ratio ⌝ }
 {
-    1024 * (count as i64) - (ratio as i64)
+    (1024 * count) as i64 - (ratio as i64)
 }
 
 // The divisors of the counts 1, 2, on, made ready to be divided by.
@@ -49,7 +49,7 @@ pub fn prepare(ratio: u32, mosts: &mut [i64], inverses: &mut [i64])
     }
 }
 
-// "-(256 × S + W × L) divided by 256 × e - A, rounded to nearest, halves away from zero, then limited", x being what is negated: by a product where
+// "−(256 × S + W × L) divided by 256 × e − A, rounded to nearest, halves away from zero, then limited", x being what is negated: by a product where
 // the lists have numbers for the divisor.
 fn divide(x: i64, count: usize, ratio: u32, mosts: &[i64], inverses: &[i64]) -> i16
     requires { ⌜ (natAbs x ≤ 2 ^ 49) × (1 ≤ count) × (count ≤ 2048) × (ratio ≤ 1023) ⌝ }

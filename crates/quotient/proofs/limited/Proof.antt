@@ -24,44 +24,46 @@ most-is s = held w64 (s .args .most) (unit * 2097152) tt (s .pre .1)
 least-is : (s : tie.Start) → Worth (pos 0 -ℤ toZ w64 (ofZ w64 (s .args .most))) (negℤ (s .args .most)) (unit * 2097152)
 least-is s = negative (most-is s)
 
--- the part below 0 is limited
-low-is : (c : tie.Joined1)
-    → let low = toZ w64 (c .if1 .low) in
+-- the part above 0 is limited
+high-is : (c : tie.Joined1)
+    → let high = toZ w64 (c .if1 .high) in
     let a = c .before .args in
-    (up low ≡ up (a .x)) × (dn low ≡ min (dn (a .x)) (natAbs (a .most)))
-low-is c =
+    (up high ≡ min (up (a .x)) (natAbs (a .most))) × (dn high ≡ dn (a .x))
+high-is c =
     let s = c .before in
     let x = s .args .x in
-    let least = negℤ (s .args .most) in
-    let e = stored (least-is s) w64 tt .is in
+    let most = s .args .most in
     let x-parts = about x in
-    let most-parts = about (s .args .most) in
-    let least-parts = about-neg (s .args .most) in
+    let most-parts = about most in
     elim (c .if1 .came) [
-      | inl w ↦ rw (ap (toZ w64) (w .1) ∙ e) (omega (arith, readℤ, ltZ-true x least (rw (x-is s, e) at (w .0 .taken))))
-      | inr w ↦ rw (ap (toZ w64) (w .1) ∙ x-is s) (omega (arith, readℤ, ltZ-false x least (rw (x-is s, e) at (w .0 .left))))
+      | inl w ↦ rw (ap (toZ w64) (w .1) ∙ most-is s .is) (omega (arith, readℤ, ltZ-true most x (rw (x-is s, most-is s .is) at (w .0 .taken))))
+      | inr w ↦ rw (ap (toZ w64) (w .1) ∙ x-is s) (omega (arith, readℤ, ltZ-false most x (rw (x-is s, most-is s .is) at (w .0 .left))))
     ]
 
 sub-least : tie.Need-sub-least
-sub-least c = fits (least-is c) w64 tt
+sub-least c = fits (least-is (c .before)) w64 tt
 
--- then the part above 0
+-- then the part below 0
 returns : tie.Need-returns
 returns c =
     let s = c .before .before in
     let most = s .args .most in
-    let low = toZ w64 (c .before .if1 .low) in
-    let over = ltZ-true most low (rw (most-is s .is) at (c .if2 .taken)) in
-    let e : (up most ≡ min (up (s .args .x)) (natAbs most)) × (dn most ≡ min (dn (s .args .x)) (natAbs most)) = omega (arith, readℤ, low-is (c .before), about most, about low) in
-    rw (most-is s .is) (limited-is (s .args .x) most (natAbs most) (e .0) (e .1))
+    let least = negℤ most in
+    let high = toZ w64 (c .before .if1 .high) in
+    let is = stored (least-is s) w64 tt .is in
+    let under = ltZ-true high least (rw is at (c .if2 .taken)) in
+    let e : (up least ≡ min (up (s .args .x)) (natAbs most)) × (dn least ≡ min (dn (s .args .x)) (natAbs most))
+    = omega (arith, readℤ, high-is (c .before), about most, about-neg most, about high) in
+    rw is (limited-is (s .args .x) least (natAbs most) (e .0) (e .1))
 
 returns-2 : tie.Need-returns-2
 returns-2 c =
     let s = c .before .before in
     let most = s .args .most in
-    let low = toZ w64 (c .before .if1 .low) in
-    let within = ltZ-false most low (rw (most-is s .is) at (c .if2 .left)) in
-    limited-is (s .args .x) low (natAbs most) (omega (arith, readℤ, low-is (c .before), about most, about low)) (low-is (c .before) .1)
+    let least = negℤ most in
+    let high = toZ w64 (c .before .if1 .high) in
+    let within = ltZ-false high least (rw (stored (least-is s) w64 tt .is) at (c .if2 .left)) in
+    limited-is (s .args .x) high (natAbs most) (high-is (c .before) .0) (omega (arith, readℤ, high-is (c .before), about most, about-neg most, about high))
 
 pub limited-spec : {M : Type 1} → statement M
 limited-spec = tie.close (tie.spec sub-least returns returns-2)

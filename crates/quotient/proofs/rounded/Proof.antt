@@ -33,19 +33,19 @@ module _ (s : tie.Start) where
   divisor : Worth (pos 2 *ℤ toZ w64 (ofZ w64 (s .args .den))) (pos (2 * d)) (2 * 2097152)
   divisor = times (literal (pos 2)) den-is
 
-module _ (c : tie.After-along) where
+module _ (c : tie.After-with-sign) where
   abbrev s : tie.Start
   s = c .before
 
-  half : Worth (toZ w64 (ofZ w64 (c .along .result))) (signed (x s) (d s)) 2097152
+  half : Worth (toZ w64 (ofZ w64 (c .with-sign .result))) (signed (x s) (d s)) 2097152
   half =
-      local w64 2097152 (c .along .ok) (c .along .ensures ∙ ap₂ (λ (y z : ℤ). signed y (natAbs z)) (held w64 (x s) (unit * 2097152) tt (omega (arith, s .pre .2, d-is s .1)) .is) (den-is s .is))
+      local w64 2097152 (c .with-sign .ok) (c .with-sign .ensures ∙ ap₂ (λ (y z : ℤ). signed y (natAbs z)) (held w64 (x s) (unit * 2097152) tt (omega (arith, s .pre .2, d-is s .1)) .is) (den-is s .is))
       (rw (abs-signed (x s) (d s)) (d-is s .1))
 
-  dividend : Worth (toZ w64 (ofZ w64 (pos 2 *ℤ toZ w64 (ofZ w64 (x s)))) +ℤ toZ w64 (ofZ w64 (c .along .result))) (pos 2 *ℤ x s +ℤ signed (x s) (d s)) (2 * (unit * 2097152) + 2097152)
+  dividend : Worth (toZ w64 (ofZ w64 (pos 2 *ℤ toZ w64 (ofZ w64 (x s)))) +ℤ toZ w64 (ofZ w64 (c .with-sign .result))) (pos 2 *ℤ x s +ℤ signed (x s) (d s)) (2 * (unit * 2097152) + 2097152)
   dividend = plus (stored (doubled s) w64 tt) half
 
-  result : Worth (quotZ (toZ w64 (ofZ w64 (toZ w64 (ofZ w64 (pos 2 *ℤ toZ w64 (ofZ w64 (x s)))) +ℤ toZ w64 (ofZ w64 (c .along .result))))) (toZ w64 (ofZ w64 (pos 2 *ℤ toZ w64 (ofZ w64 (s .args .den)))))) (quotient (x s) (s .args .den)) unit
+  result : Worth (quotZ (toZ w64 (ofZ w64 (toZ w64 (ofZ w64 (pos 2 *ℤ toZ w64 (ofZ w64 (x s)))) +ℤ toZ w64 (ofZ w64 (c .with-sign .result))))) (toZ w64 (ofZ w64 (pos 2 *ℤ toZ w64 (ofZ w64 (s .args .den)))))) (quotient (x s) (s .args .den)) unit
   result =
       record {
         is = ap₂ quotZ (stored dividend w64 tt .is) (stored (divisor s) w64 tt .is) ∙ cut-quotient (x s) (d s) (d-is s .0) (s .pre .2) ∙ ap (quotient (x s)) (sym (d-is s .2));
@@ -55,8 +55,8 @@ module _ (c : tie.After-along) where
 mul-result : tie.Need-mul-result
 mul-result c = fits (doubled c) w64 tt
 
-along-requires : tie.Need-along-requires
-along-requires c κs = (omega (arith, readℤ, den-is c .is), omega (arith, ap natAbs (den-is c .is), d-is c .1))
+with-sign-requires : tie.Need-with-sign-requires
+with-sign-requires c κs = (omega (arith, readℤ, den-is c .is), omega (arith, ap natAbs (den-is c .is), d-is c .1))
 
 add-result : tie.Need-add-result
 add-result c = fits (dividend c) w64 tt
@@ -76,4 +76,4 @@ returns c = stored (stored (result c) w64 tt) w16 tt .is
 pub rounded-spec : {M : Type 1} → statement M
 rounded-spec =
     tie.close
-    (tie.spec mul-result along-requires add-result mul-result-2 div-result cast-result returns)
+    (tie.spec mul-result with-sign-requires add-result mul-result-2 div-result cast-result returns)

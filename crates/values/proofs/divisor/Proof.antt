@@ -3,27 +3,27 @@ use mathlib.Core.Path.{_≡_, ap}
 use Prim.Native.Nat.{ℕ, _+_, _*_}
 use native.Mathlib.Omega.{arith}
 use borrow.Author.Needs.{needs}
-use lib.IntN.{pos, _-ℤ_, _*ℤ_}
+use lib.IntN.{pos, _-ℤ_}
 use mir.Syntax.{w64}
-use mir.Val.{toZ, ofZ}
-use Rattle.integers.proofs.Machine.{Worth, fits, stored, unsigned, literal, also, minus, times}
+use mir.Val.{toZ}
+use Rattle.integers.proofs.Machine.{Worth, fits, fits-one, stored, unsigned, also, minus}
 use Rattle.model.specs.Iteration.{divisor}
 use Rattle.values.proofs.divisor.Statement.{statement}
 use Rattle.values.proofs.divisor.Tie as tie
 
-counted : (s : tie.Start) → Worth (pos 1024 *ℤ toZ w64 (s .args .count)) (pos 1024 *ℤ pos (s .args .count)) (1024 * 2048)
-counted s = times (literal (pos 1024)) (unsigned w64 (s .args .count) 2048 tt (s .pre .0))
+counted : (s : tie.Start) → Worth (toZ w64 (1024 * s .args .count)) (pos (1024 * s .args .count)) (1024 * 2048)
+counted s = unsigned w64 (1024 * s .args .count) (1024 * 2048) tt (omega (arith, s .pre .0))
 
-value : (s : tie.Start) → Worth (toZ w64 (ofZ w64 (pos 1024 *ℤ toZ w64 (s .args .count))) -ℤ toZ w64 (s .args .ratio)) (divisor (4 * s .args .count) (s .args .ratio)) (1024 * 2048 + 1023)
+value : (s : tie.Start) → Worth (toZ w64 (1024 * s .args .count) -ℤ toZ w64 (s .args .ratio)) (divisor (4 * s .args .count) (s .args .ratio)) (1024 * 2048 + 1023)
 value s =
-    also (minus (stored (counted s) w64 tt) (unsigned w64 (s .args .ratio) 1023 tt (s .pre .1)))
+    also (minus (counted s) (unsigned w64 (s .args .ratio) 1023 tt (s .pre .1)))
     (ap (λ (n : ℕ). pos n -ℤ pos (s .args .ratio)) (let e : 1024 * s .args .count ≡ 256 * (4 * s .args .count) = omega arith in e))
 
-cast-result : tie.Need-cast-result
-cast-result c = search needs
-
 mul-result : tie.Need-mul-result
-mul-result c = fits (counted c) w64 tt
+mul-result c = search needs
+
+cast-result : tie.Need-cast-result
+cast-result c = fits-one w64 (pos (1024 * c .args .count)) (1024 * 2048) (counted c .within) tt
 
 cast-result-2 : tie.Need-cast-result-2
 cast-result-2 c = search needs
@@ -35,4 +35,4 @@ returns : tie.Need-returns
 returns c = stored (value c) w64 tt .is
 
 pub divisor-spec : {M : Type 1} → statement M
-divisor-spec = tie.close (tie.spec cast-result mul-result cast-result-2 sub-result returns)
+divisor-spec = tie.close (tie.spec mul-result cast-result cast-result-2 sub-result returns)

@@ -1,4 +1,4 @@
--- `quotient::along` meets its contract. Assumes nothing.
+-- `quotient::with_sign` meets its contract. Assumes nothing.
 use mathlib.Core.Path.{_≡_}
 use native.Mathlib.Omega.{arith}
 use lib.IntN.{pos, natAbs}
@@ -7,8 +7,8 @@ use mir.Val.{toZ, ofZ}
 use mir.Facts.{toZ-ofZ}
 use Rattle.integers.proofs.Linear.{readℤ, above-abs, false-ltZ}
 use Rattle.integers.proofs.Machine.{Worth, held, negative, also, fits, stored}
-use Rattle.quotient.proofs.along.Statement.{statement}
-use Rattle.quotient.proofs.along.Tie as tie
+use Rattle.quotient.proofs.with_sign.Statement.{statement}
+use Rattle.quotient.proofs.with_sign.Tie as tie
 
 x-is : (s : tie.Start) → toZ w64 (ofZ w64 (s .args .x)) ≡ s .args .x
 x-is s = toZ-ofZ (s .fits .x)
@@ -27,5 +27,5 @@ returns c = rw (rw (x-is (c .before)) at (c .if1 .taken)) (stored (negative (d-i
 returns-2 : tie.Need-returns-2
 returns-2 c = rw (rw (x-is (c .before)) at (c .if1 .left)) (d-is (c .before) .is)
 
-pub along-spec : {M : Type 1} → statement M
-along-spec = tie.close (tie.spec sub-result returns returns-2)
+pub with-sign-spec : {M : Type 1} → statement M
+with-sign-spec = tie.close (tie.spec sub-result returns returns-2)
