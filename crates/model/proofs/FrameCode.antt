@@ -13,7 +13,7 @@ use Rattle.model.specs.Causes.{_if_}
 use Rattle.model.specs.Code.{tripleCount, triples}
 use Rattle.model.specs.Records.{bitCount, checkCount, degree, indices, afterCheck, checksIn, afterChecks, codeOf, judgeChecks, covered, judge}
 use Rattle.model.specs.Frames.{judgeHeldHeader, judgeHeldCheck, judgeHeldChecks}
-use Rattle.model.specs.FrameClaims.{Begun}
+use Rattle.model.specs.FrameClaims.{Begun, HeldCode}
 use Rattle.model.proofs.Causes.{only, clear}
 use Rattle.model.proofs.Accepted.{header-sound, record-sound, length-numbers}
 use Rattle.model.proofs.Frames.{header-held, check-held}
@@ -113,11 +113,11 @@ module _ (t : ℕ) (b : List ℕ) (g : Begun 0 t b) where
   unfolding codeOf
   code-more s = rw (bits-more b s (g .header), count-more b s (g .header), body-more b s (g .header), all-held s .checks)
 
-  pub bits-most : codeOf b .bits ≤ 512
+  bits-most : codeOf b .bits ≤ 512
   unfolding codeOf
   bits-most = header-held b (g .header) .room
 
-  pub triples-most : triples (codeOf b) ≤ 1024
+  triples-most : triples (codeOf b) ≤ 1024
   unfolding codeOf
   triples-most = omega (arith, all-held [] .room)
 
@@ -127,3 +127,6 @@ module _ (t : ℕ) (b : List ℕ) (g : Begun 0 t b) where
   judged =
       let few : ltb 8192 (triples (codeOf b)) ≡ false = le-ltb 8192 (triples (codeOf b)) (omega (arith, triples-most)) in
       rw (header-held b (g .header) .sound, all-held [] .sound, none-after, few) (only (8 if not (covered (codeOf b))))
+
+  pub code-held : judge b ≡ 0 → HeldCode b
+  code-held h = record { sound = h; bits = bits-most; triples = triples-most }

@@ -15,14 +15,14 @@ use Rattle.quotient.specs.Quotient.{quotient}
 use Rattle.model.specs.declared.Settings.{Settings}
 use Rattle.model.specs.Causes.{accepted}
 use Rattle.model.specs.Code.{Code, triples, variables}
-use Rattle.model.specs.Records.{codeOf, judge}
+use Rattle.model.specs.Records.{codeOf}
 use Rattle.model.specs.Splitting.{systemOf}
 use Rattle.model.specs.Iteration.{at}
 use Rattle.model.specs.Run.{Ended, run}
 use Rattle.model.specs.Words.{bitOf, wordOf, outcome}
 use Rattle.model.specs.Calls.{wild, forbidden, Lists, Answer, noRoom, decoderCause, decodedBy}
 use Rattle.model.specs.Frames.{line, noLists, frameLine}
-use Rattle.model.specs.FrameClaims.{Room, HeldFrame}
+use Rattle.model.specs.FrameClaims.{HeldCode, Room, HeldFrame}
 use Rattle.model.proofs.Accepted as Accepted
 use Rattle.model.proofs.Sound.{variables-most}
 use Rattle.model.proofs.Entry.{ran-is}
@@ -59,13 +59,13 @@ line-left k e l =
     line-of (decodedBy k e l .answer) _ _ (λ (z : outcome k (e .last .values) .number ≡ 0). rw z (take-at w (drop (length w) (l .word)) (k .bits) (word-long k (e .last .values)) ∙ sym (ap (λ (r : List ℕ). w ++ r) (drop-nil (length w)) ∙ append-nil w)))
 
 -- ---- the call
-module _ (b : List ℕ) (o : Settings) (costs : List ℤ) (l : Lists) (sound : judge b ≡ 0) (bits : codeOf b .bits ≤ 512) (few : triples (codeOf b) ≤ 1024)
+module _ (b : List ℕ) (o : Settings) (costs : List ℤ) (l : Lists) (held : HeldCode b)
     (within : wild o ≡ false) (fits : length costs ≡ codeOf b .bits) (allowed : some forbidden costs ≡ false) (room : Room l) where
   no-cause : decoderCause b o costs l ≡ 0
   unfolding decoderCause
   no-cause =
-      let most = variables-most (codeOf b) (Accepted.accepted b sound) in
-      rw (sound, within, eq-eqb (length costs) (codeOf b .bits) fits, allowed, enough (codeOf b) l room bits few (omega (arith, most)))
+      let most = variables-most (codeOf b) (Accepted.accepted b (held .sound)) in
+      rw (held .sound, within, eq-eqb (length costs) (codeOf b .bits) fits, allowed, enough (codeOf b) l room (held .bits) (held .triples) (omega (arith, most)))
 
   pub held-frame : HeldFrame b o costs l
   unfolding frameLine

@@ -118,7 +118,7 @@ frame-after-frame t b r s k o =
     let whole' = length-append b (r ++ d) in
     let rest' = length-append r d in
     let more : frameLines (length s) (codeOf b) (settingsOf r) d ≡ frames (b ++ (r ++ d)) =
-        enough (codeOf b) (settingsOf r) (length s) (length (b ++ (r ++ d))) d (omega arith) (omega arith) ∙ sym (set-frames t b r d k o) in
+    enough (codeOf b) (settingsOf r) (length s) (length (b ++ (r ++ d))) d (omega arith) (omega arith) ∙ sym (set-frames t b r d k o) in
     set-frames t b r s k o ∙ enough (codeOf b) (settingsOf r) (length (b ++ (r ++ s))) (suc (length s)) s (omega arith) (omega arith)
     ∙ first-frame (codeOf b) (settingsOf r) s (frames (b ++ (r ++ d))) more ∙ rw (← text-take (codeOf b) (settingsOf r) s, ← goes-take n s)
 

@@ -7,7 +7,7 @@ use lib.Dec.{eqb}
 use lib.IntN.{ℤ}
 use lib.ListN.{length, take, drop}
 use Rattle.model.specs.declared.Settings.{Settings}
-use Rattle.model.specs.Code.{Code}
+use Rattle.model.specs.Code.{Code, triples}
 use Rattle.model.specs.Records.{bitCount, checkCount, afterChecks, codeOf, judge}
 use Rattle.model.specs.Calls.{Lists, decoderCause, decoder}
 use Rattle.model.specs.Frames.{judgeHeldHeader, judgeHeldCheck, judgeHeldChecks, judgeSettings, costsOf, judgeFrame, refusal, line, frameLine}
@@ -52,8 +52,14 @@ frameText k o b =
 abbrev pub goesOn : ℕ → List ℕ → Bool
 goesOn n b = not (eqb (length b) 0) && (eqb (judgeFrame n b) 0 || eqb (judgeFrame n b) 13)
 
--- ---- the lists that the program lends to the decoder
--- what they hold at least: 1,024 triples and 512 bits need no more
+-- ---- a sound frame
+-- a code, accepted, that the program has room for
+pub record HeldCode (b : List ℕ) : Type 0 where
+  pub sound : judge b ≡ 0
+  pub bits : codeOf b .bits ≤ 512
+  pub triples : triples (codeOf b) ≤ 1024
+
+-- what the lists that are lent to the decoder hold at least: 1,024 triples and 512 bits need no more
 pub record Room (l : Lists) : Type 0 where
   pub triples : 3072 ≤ length (l .triples)
   pub counts : 1536 ≤ length (l .counts)
