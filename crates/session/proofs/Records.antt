@@ -1,14 +1,17 @@
 -- What the bytes of a header, a check and the settings lead to, each judged by the contract of its function. Assumes nothing.
 use mathlib.Core.Path.{_≡_, refl, sym, ap, subst, _∙_}
-use mathlib.Core.Bool.{false}
+use mathlib.Core.Bool.{true, false, not, _||_}
 use mathlib.Core.List.{List, [], _++_, append-assoc}
 use Prim.Native.Nat.{ℕ, zero, suc, _+_, _-_, _*_, _≤_, _<_}
 use native.Mathlib.Omega.{arith}
+use lib.Dec.{ltb, eqb}
 use lib.ListN.{length, take, drop, length-append, length-take, length-drop, take-append-drop}
 use lib.Seq.{length-take-le, take-take, take-add, take-append-add, drop-drop, drop-at, take-append-seam}
-use Rattle.model.specs.Records.{bitCount, checkCount, degree}
+use borrow.Author.Tests.{ltb-true, ltb-false, eqb-true, not-false}
+use Rattle.model.specs.Records.{bitCount, checkCount, degree, judge}
 use Rattle.model.specs.Frames.{judgeHeldHeader, judgeHeldCheck, judgeSettings, frameSize, refusal, frames}
 use Rattle.model.specs.FrameClaims.{Begun, Opened, Coded}
+use Rattle.model.proofs.Causes.{or-false}
 use Rattle.model.proofs.Accepted.{header-sound, record-sound}
 use Rattle.model.proofs.Frames.{header-held, check-held, settings-sound}
 use Rattle.model.proofs.FrameBytes.{two-take, drop-take, drop-within, degree-take, held-take, three-judged, opened-degree}
@@ -18,7 +21,14 @@ use Rattle.session.specs.declared.State.{State}
 use Rattle.session.specs.declared.Step.{Step}
 use Rattle.session.specs.declared.Part.the-variants.{Header, Check, Indices, Settings, Frame}
 use Rattle.session.specs.Session.{isOver, AtIndices, Due, Asked, Told, Entered, Refused}
-use Rattle.session.proofs.Steps.{refused, kept-too, entered}
+use Rattle.session.proofs.Steps.{refused, kept-too, entered, entry-refused}
+
+-- the test for a mark and a degree that are sound
+pub opening-taken : (c came : ℕ) → (not (eqb c 1) || ltb came 3) ≡ true → c ≡ 1 → came < 3
+opening-taken c came h e = ltb-true came 3 (rw e at h)
+
+pub opening-left : (c came : ℕ) → (not (eqb c 1) || ltb came 3) ≡ false → (c ≡ 1) × (3 ≤ came)
+opening-left c came h = let x = or-false (not (eqb c 1)) (ltb came 3) h in (eqb-true c 1 (not-false (eqb c 1) (x .0)), ltb-false came 3 (x .1))
 
 -- a code that is kept has its header at least, and fits
 module _ (left t : ℕ) (b : List ℕ) (g : Begun left t b) where
@@ -31,6 +41,27 @@ module _ (left t : ℕ) (b : List ℕ) (g : Begun left t b) where
       by : (k : ℕ) → 0 < k → Begun k t b → frames (b ++ s) ≡ refusal c
       by zero l g = absurd (omega arith)
       by (suc k) l g = Program.check-refused k t b s g c h e
+
+-- ---- a check is kept
+module _ (buffer : List ℕ) (long : length buffer ≡ 10260) (at left t : ℕ) (g : Begun left t (take at buffer)) (fits : at ≤ 10260) where
+  kept-long : length (take at buffer) ≡ at
+  kept-long = length-take-le at buffer (omega arith)
+
+  kept-most : at ≤ 9222
+  kept-most = omega (arith, kept-long, begun-room left t (take at buffer) g .1)
+
+  pub next-check : 0 < left → (out : List ℕ) → Entered buffer at (record { state = record { part = Check; at = at; want = 3; left = left; triples = t }; written = 0 }) out
+  next-check h out = entered buffer at _ out refl refl (record { kept = kept-long; fits = omega (arith, kept-most); due = (g, h, refl) })
+
+  module _ (none : left ≤ 0) where
+    whole : Begun 0 t (take at buffer)
+    whole = let z : left ≡ 0 = omega arith in rw z at g
+
+    pub code-refused : {c : ℕ} {r : Step} {out : List ℕ} → c ≡ judge (take at buffer) → (c ≡ 0 → ⊥) → Refused c r out → Entered buffer at r out
+    code-refused {c} e h f = entry-refused buffer at f (λ s. Program.code-refused t (take at buffer) whole s c h e)
+
+    pub code-kept : judge (take at buffer) ≡ 0 → (out : List ℕ) → Entered buffer at (record { state = record { part = Settings; at = at; want = 12; left = left; triples = t }; written = 0 }) out
+    code-kept h out = entered buffer at _ out refl refl (record { kept = kept-long; fits = omega (arith, kept-most); due = (record { begun = whole; sound = h }, refl) })
 
 module _ (buffer : List ℕ) (long : length buffer ≡ 10260) (st : State) (came : ℕ) (a : Asked st came buffer) where
   -- the bytes that are kept, and those that came
@@ -59,24 +90,24 @@ module _ (buffer : List ℕ) (long : length buffer ≡ 10260) (st : State) (came
         refused buffer st came (ap isOver p) f
         (λ s t. rw (due .0) (Program.header-refused s c h (e ∙ ap judgeHeldHeader (sym all-came ∙ t ∙ ap (λ (w : ℕ). take w s) (due .1)))))
 
-    pub header-kept : (out : List ℕ) → 0 ≡ judgeHeldHeader (take came buffer)
-        → Told buffer st came (record { state = record { part = Check; at = 6; want = 3; left = checkCount buffer; triples = 0 }; written = 0 }) out
-    header-kept out e =
-        let h : judgeHeldHeader bytes ≡ 0 = ap judgeHeldHeader all-came ∙ sym e in
+    pub header-kept : (m : ℕ) (out : List ℕ) → judgeHeldHeader (take came buffer) ≡ 0 → m ≡ checkCount buffer
+        → Told buffer st came (record { state = record { part = Check; at = 6; want = 3; left = m; triples = 0 }; written = 0 }) out
+    header-kept m out e told =
+        let h : judgeHeldHeader bytes ≡ 0 = ap judgeHeldHeader all-came ∙ e in
         let sound = header-sound bytes (header-held bytes h .sound) in
         let six : came ≡ 6 = omega (arith, a .most, due .1, sound .room, counted) in
         let kept : bytes ≡ take 6 buffer = all-came ∙ ap (λ (k : ℕ). take k buffer) six in
         let l : length (take 6 buffer) ≡ 6 = length-take-le 6 buffer (omega arith) in
-        let count : checkCount (take 6 buffer) ≡ checkCount buffer = two-take 4 6 buffer (omega arith) in
+        let count : checkCount (take 6 buffer) ≡ m = two-take 4 6 buffer (omega arith) ∙ sym told in
         let z : judgeHeldHeader (take 6 buffer) ≡ 0 = rw (← kept) h in
-        let begun : Begun (checkCount buffer) 0 (take 6 buffer) = record {
+        let begun : Begun m 0 (take 6 buffer) = record {
           header = z;
           checks = λ s. rw (drop-at (take 6 buffer) s 6 l, count);
           after = λ s. rw (drop-at (take 6 buffer) s 6 l, count);
           few = omega arith;
           size = omega arith;
         } in
-        let some : 0 < checkCount buffer = omega (arith, count, header-sound (take 6 buffer) (header-held (take 6 buffer) z .sound) .checks-least) in
+        let some : 0 < m = omega (arith, count, header-sound (take 6 buffer) (header-held (take 6 buffer) z .sound) .checks-least) in
         kept-too buffer st came (ap isOver p) (six ∙ sym (due .1))
         (entered buffer (st .at + came) _ out refl (omega (arith, first, six)) (record { kept = l; fits = omega arith; due = (begun, some, refl) }))
 
@@ -109,7 +140,7 @@ module _ (buffer : List ℕ) (long : length buffer ≡ 10260) (st : State) (came
           (judged ∙ ap (judgeHeldCheck (bitCount b) (st .triples)) first
           ∙ three-judged (bitCount b) (st .triples) s (λ z. omega (arith, ap length first, counted, h (judged ∙ ap (judgeHeldCheck (bitCount b) (st .triples)) first ∙ z)))))
 
-    pub opening-kept : (d : ℕ) (out : List ℕ) → 1 ≡ judgeHeldCheck (bitCount buffer) (st .triples) bytes → 3 ≤ came → d ≡ degree (drop (st .at) buffer)
+    pub opening-kept : (d : ℕ) (out : List ℕ) → judgeHeldCheck (bitCount buffer) (st .triples) bytes ≡ 1 → 3 ≤ came → d ≡ degree (drop (st .at) buffer)
         → Told buffer st came (record { state = record { part = Indices; at = st .at + came; want = 2 * d; left = st .left; triples = st .triples }; written = 0 }) out
     opening-kept d out e h g =
         let three : came ≡ 3 = omega (arith, a .most, due-check .2) in
@@ -120,7 +151,7 @@ module _ (buffer : List ℕ) (long : length buffer ≡ 10260) (st : State) (came
         let tail : drop (next - 3) (take next buffer) ≡ bytes = ap (λ (k : ℕ). drop k (take next buffer)) same ∙ drop-take (st .at) came buffer in
         let told : d ≡ degree bytes = g ∙ sym (degree-take came (drop (st .at) buffer) h) in
         let bits : bitCount (take next buffer) ≡ bitCount buffer = two-take 2 next buffer (omega (arith, room .0)) in
-        let opened : Opened (bitCount buffer) (st .triples) bytes = record { three = counted ∙ three; cut = sym e } in
+        let opened : Opened (bitCount buffer) (st .triples) bytes = record { three = counted ∙ three; cut = e } in
         kept-too buffer st came (ap isOver p) (three ∙ sym (due-check .2))
         (entered buffer next _ out refl refl (record {
           kept = l;
@@ -177,6 +208,9 @@ module _ (buffer : List ℕ) (long : length buffer ≡ 10260) (st : State) (came
     pub indices-few : t ≤ 1024
     indices-few = due-indices .begun .few
 
+    pub indices-left : 0 < st .left
+    indices-left = due-indices .more
+
     pub indices-room : (3 ≤ st .at) × (st .at + came ≤ 10260)
     indices-room = (omega (arith, sizes .0), omega (arith, a .most, a .held .fits))
 
@@ -193,9 +227,9 @@ module _ (buffer : List ℕ) (long : length buffer ≡ 10260) (st : State) (came
           let split : b ++ s ≡ head ++ (three ++ s) = ap (λ (l : List ℕ). l ++ s) (sym (take-append-drop from b)) ∙ append-assoc head three s in
           ap frames split ∙ check-refused (st .left) t head (due-indices .begun) (three ++ s) c (due-indices .more) h judged)
 
-    module _ (e : 0 ≡ judgeHeldCheck (bitCount buffer) t (take (st .at + came - from) (drop from buffer))) where
+    module _ (e : judgeHeldCheck (bitCount buffer) t (take (st .at + came - from) (drop from buffer)) ≡ 0) where
       held : judgeHeldCheck (bitCount head) t (three ++ bytes) ≡ 0
-      held = rw (bits-in, ← check-is) (sym e)
+      held = rw (bits-in, ← check-is) e
 
       long-check : length (three ++ bytes) ≡ 3 + came
       long-check = length-append three bytes ∙ omega (arith, counted, due-indices .opened .three)
@@ -233,21 +267,21 @@ module _ (buffer : List ℕ) (long : length buffer ≡ 10260) (st : State) (came
         refused buffer st came (ap isOver p) f
         (λ s w. Program.settings-refused (st .triples) b s (due-settings .0) c h (e ∙ ap judgeSettings (w ∙ ap (λ (k : ℕ). take k s) (due-settings .1))))
 
-    pub settings-kept : (out : List ℕ) → 0 ≡ judgeSettings bytes
-        → Told buffer st came (record { state = record { part = Frame; at = st .at + came; want = frameSize (bitCount buffer); left = st .left; triples = st .triples }; written = 0 }) out
-    settings-kept out e =
-        let twelve : came ≡ 12 = omega (arith, a .most, due-settings .1, counted, settings-sound bytes (sym e) .room) in
+    pub settings-kept : (n : ℕ) (out : List ℕ) → judgeSettings bytes ≡ 0 → n ≡ bitCount buffer
+        → Told buffer st came (record { state = record { part = Frame; at = st .at + came; want = frameSize n; left = st .left; triples = st .triples }; written = 0 }) out
+    settings-kept n out e told =
+        let twelve : came ≡ 12 = omega (arith, a .most, due-settings .1, counted, settings-sound bytes e .room) in
         let next = st .at + came in
         let l : length (take next buffer) ≡ next = length-take-le next buffer (omega (arith, code-room .1)) in
         let same : next - 12 ≡ st .at = omega arith in
         let head : take (next - 12) (take next buffer) ≡ b = take-take (next - 12) next buffer (omega arith) ∙ ap (λ (k : ℕ). take k buffer) same in
         let tail : drop (next - 12) (take next buffer) ≡ bytes = ap (λ (k : ℕ). drop k (take next buffer)) same ∙ drop-take (st .at) came buffer in
-        let bits : bitCount (take next buffer) ≡ bitCount buffer = two-take 2 next buffer (omega (arith, code-room .0)) in
+        let bits : bitCount (take next buffer) ≡ n = two-take 2 next buffer (omega (arith, code-room .0)) ∙ sym told in
         let few : bitCount b ≤ 512 = header-held b (due-settings .0 .begun .header) .room in
-        let own : bitCount b ≡ bitCount buffer = two-take 2 (st .at) buffer (omega (arith, code-room .0)) in
+        let own : bitCount b ≡ n = two-take 2 (st .at) buffer (omega (arith, code-room .0)) ∙ sym told in
         kept-too buffer st came (ap isOver p) (twelve ∙ sym (due-settings .1))
         (entered buffer next _ out refl refl (record {
           kept = l;
           fits = omega (arith, code-room .1);
-          due = record { code = rw head (due-settings .0); set = rw tail (record { twelve = counted ∙ twelve; sound = sym e }); want = rw bits };
+          due = record { code = rw head (due-settings .0); set = rw tail (record { twelve = counted ∙ twelve; sound = e }); want = rw bits };
         }))

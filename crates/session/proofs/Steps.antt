@@ -11,7 +11,7 @@ use Rattle.session.specs.declared.State.{State}
 use Rattle.session.specs.declared.Step.{Step}
 use Rattle.session.specs.Session.{over, isOver, Held, Told, Entered, Refused}
 
-over-held : (buffer : List ℕ) → Held over (take 0 buffer)
+pub over-held : (buffer : List ℕ) → Held over (take 0 buffer)
 over-held buffer = record { kept = refl; fits = omega arith; due = refl }
 
 module _ (buffer : List ℕ) (st : State) (came : ℕ) (going : isOver (st .part) ≡ false) where

@@ -132,9 +132,10 @@ fn check(state: State, came: usize, buffer: &[u8; 10260], out: &mut [u8; 640]) -
 
 // One more check is kept: the next is due, or the settings once the code is judged.
 fn keep(at: usize, left: usize, triples: usize, buffer: &[u8; 10260], out: &mut [u8; 640]) -> Step
-    requires { ⌜ Begun left triples (take at (now buffer)) ⌝ }
+    requires { ⌜ Begun left triples (take at (now buffer)) × (at ≤ 10260) ⌝ }
     ensures { λ r. ⌜ Entered (now (buffer .entry)) at r (now (out .exit)) ⌝ }
 {
+    let bytes = &buffer[..];
     if 0 < left {
         let next = State {
             part: Part::Check,
@@ -148,7 +149,6 @@ fn keep(at: usize, left: usize, triples: usize, buffer: &[u8; 10260], out: &mut 
             written: 0,
         };
     }
-    let bytes = &buffer[..];
     let cause = stream::judge_code(&bytes[..at]);
     if cause != 0 {
         return refuse(cause, out);

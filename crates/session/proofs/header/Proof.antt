@@ -1,35 +1,39 @@
+-- `session::header` meets its contract: a refusal, or a header that is kept. Assumes nothing.
+use mathlib.Core.Path.{_≡_, sym, _∙_}
+use native.Mathlib.Omega.{arith}
+use lib.ListN.{length}
+use lib.Seq.{length-take-le}
+use Rattle.session.proofs.Records.{header-refused, header-kept}
 use borrow.Author.Needs.{needs}
 use Rattle.session.proofs.header.Statement.{statement}
 use Rattle.session.proofs.header.Tie as tie
-use Rattle.session.proofs.header.Reads as reads
-use Rattle.session.proofs.header.Lts as lts
-use Rattle.records.proofs.two_bytes.Reads as two-bytes-reads
-use Rattle.session.proofs.refuse.Reads as refuse-reads
-use Rattle.stream.proofs.judge_header.Reads as judge-header-reads
 
--- src/lib.rt:88:38
+long : (c : tie.After-bytes) → length (c .before .args .buffer .now) ≡ 10260
+long c = search needs
+
 slice-aggregate-judge-header : tie.Need-slice-aggregate-judge-header
-slice-aggregate-judge-header c = ?
+slice-aggregate-judge-header c = let a = c .before .before .pre .0 in sym (length-take-le _ _ (omega (arith, a .most, a .held .fits)))
 
--- src/lib.rt:88:9
 judge-header-requires : tie.Need-judge-header-requires
 judge-header-requires c κs = search needs
 
--- src/lib.rt:90:9
 refuse-requires : tie.Need-refuse-requires
 refuse-requires c κs = search needs
 
--- src/lib.rt:90:9
 returns : tie.Need-returns
-returns c = ?
+returns c =
+    let q = c .before .before .before .before .before in
+    let s = q .before in
+    header-refused _ (long q) _ _ (s .pre .0) (s .pre .1) (c .before .before .before .judge-header .ensures) (c .before .before .if1 .taken) (c .refuse .ensures)
 
--- src/lib.rt:92:9
 two-bytes-requires : tie.Need-two-bytes-requires
 two-bytes-requires c κs = search needs
 
--- src/lib.rt:83:1
 returns-2 : tie.Need-returns-2
-returns-2 c = ?
+returns-2 c =
+    let q = c .before .before .before .before in
+    let s = q .before in
+    header-kept _ (long q) _ _ (s .pre .0) (s .pre .1) _ _ (sym (c .before .before .judge-header .ensures) ∙ c .before .if1 .left) (c .two-bytes .ensures .0)
 
 pub header-spec : {M : Type 1} → statement M
 header-spec =

@@ -1,34 +1,43 @@
+-- `session::keep` meets its contract: the next check, a refusal, or the settings. Assumes nothing.
+use mathlib.Core.Path.{_≡_, sym, _∙_}
+use native.Mathlib.Omega.{arith}
+use lib.ListN.{length}
+use lib.Seq.{length-take-le}
+use Rattle.session.proofs.Records.{next-check, code-refused, code-kept}
 use borrow.Author.Needs.{needs}
 use Rattle.session.proofs.keep.Statement.{statement}
 use Rattle.session.proofs.keep.Tie as tie
-use Rattle.session.proofs.keep.Reads as reads
-use Rattle.session.proofs.keep.Lts as lts
-use Rattle.session.proofs.refuse.Reads as refuse-reads
-use Rattle.stream.proofs.judge_code.Reads as judge-code-reads
 
--- src/lib.rt:146:9
+long : (c : tie.After-bytes) → length (c .before .args .buffer .now) ≡ 10260
+long c = search needs
+
 returns : tie.Need-returns
-returns c = ?
+returns c = let s = c .before .before in next-check _ (long (c .before)) _ _ _ (s .pre .0) (s .pre .1) (c .if1 .taken) _
 
--- src/lib.rt:152:36
 slice-aggregate-judge-code : tie.Need-slice-aggregate-judge-code
-slice-aggregate-judge-code c = ?
+slice-aggregate-judge-code c = sym (length-take-le _ _ (omega (arith, c .before .before .before .pre .1)))
 
--- src/lib.rt:152:9
 judge-code-requires : tie.Need-judge-code-requires
 judge-code-requires c κs = search needs
 
--- src/lib.rt:154:9
 refuse-requires : tie.Need-refuse-requires
 refuse-requires c κs = search needs
 
--- src/lib.rt:154:9
 returns-2 : tie.Need-returns-2
-returns-2 c = ?
+returns-2 c =
+    let j = c .before .before .before in
+    let e = j .before .before in
+    let q = e .before in
+    let s = q .before in
+    code-refused _ (long q) _ _ _ (s .pre .0) (s .pre .1) (e .if1 .left) (j .judge-code .ensures) (c .before .before .if2 .taken) (c .refuse .ensures)
 
--- src/lib.rt:134:1
 returns-3 : tie.Need-returns-3
-returns-3 c = ?
+returns-3 c =
+    let j = c .before in
+    let e = j .before .before in
+    let q = e .before in
+    let s = q .before in
+    code-kept _ (long q) _ _ _ (s .pre .0) (s .pre .1) (e .if1 .left) (sym (j .judge-code .ensures) ∙ c .if2 .left) _
 
 pub keep-spec : {M : Type 1} → statement M
 keep-spec =

@@ -1,55 +1,65 @@
+-- `session::settings` meets its contract: a refusal, or settings that are kept. Assumes nothing.
+use mathlib.Core.Path.{_≡_, sym, _∙_}
+use Prim.Native.Nat.{_+_, _-_}
+use native.Mathlib.Omega.{arith}
+use lib.ListN.{length, take, drop}
+use Rattle.model.specs.Frames.{judgeSettings}
+use Rattle.session.proofs.Records.{settings-refused, settings-kept}
 use borrow.Author.Needs.{needs}
 use Rattle.session.proofs.settings.Statement.{statement}
 use Rattle.session.proofs.settings.Tie as tie
-use Rattle.session.proofs.settings.Reads as reads
-use Rattle.session.proofs.settings.Lts as lts
-use Rattle.records.proofs.two_bytes.Reads as two-bytes-reads
-use Rattle.session.proofs.refuse.Reads as refuse-reads
-use Rattle.stream.proofs.judge_settings.Reads as judge-settings-reads
 
--- src/lib.rt:194:15
+long : (c : tie.After-bytes) → length (c .before .args .buffer .now) ≡ 10260
+long c = search needs
+
+judged : (j : tie.After-judge-settings)
+    → let s = j .before .before .before .args in
+    j .judge-settings .result ≡ judgeSettings (take (s .came) (drop (s .state .at) (s .buffer .now)))
+judged j =
+    let s = j .before .before .before .args in
+    let size : s .state .at + s .came - s .state .at ≡ s .came = omega arith in
+    j .judge-settings .ensures ∙ rw size
+
 add-end : tie.Need-add-end
 add-end c = search needs
 
--- src/lib.rt:195:40
 sub-judge-settings : tie.Need-sub-judge-settings
 sub-judge-settings c = search needs
 
--- src/lib.rt:195:40
 part-judge-settings-start : tie.Need-part-judge-settings-start
 part-judge-settings-start c = search needs
 
--- src/lib.rt:195:40
 part-judge-settings-end : tie.Need-part-judge-settings-end
 part-judge-settings-end c = search needs
 
--- src/lib.rt:195:9
 judge-settings-requires : tie.Need-judge-settings-requires
 judge-settings-requires c κs = search needs
 
--- src/lib.rt:197:9
 refuse-requires : tie.Need-refuse-requires
 refuse-requires c κs = search needs
 
--- src/lib.rt:197:9
 returns : tie.Need-returns
-returns c = ?
+returns c =
+    let j = c .before .before .before in
+    let q = j .before .before in
+    let s = q .before in
+    settings-refused _ (long q) _ _ (s .pre .0) (s .pre .1) (judged j) (c .before .before .if1 .taken) (c .refuse .ensures)
 
--- src/lib.rt:199:9
 two-bytes-requires : tie.Need-two-bytes-requires
 two-bytes-requires c κs = search needs
 
--- src/lib.rt:203:19
 mul-t13 : tie.Need-mul-t13
 mul-t13 c = search needs
 
--- src/lib.rt:203:15
 add-t19 : tie.Need-add-t19
 add-t19 c = search needs
 
--- src/lib.rt:188:1
 returns-2 : tie.Need-returns-2
-returns-2 c = ?
+returns-2 c =
+    let j = c .before .before in
+    let q = j .before .before in
+    let s = q .before in
+    settings-kept _ (long q) _ _ (s .pre .0) (s .pre .1) _ _ (sym (judged j) ∙ c .before .if1 .left) (c .two-bytes .ensures .0)
 
 pub settings-spec : {M : Type 1} → statement M
 settings-spec =
