@@ -129,5 +129,8 @@ module _ (buffer : List ℕ) (long : length buffer ≡ 10260) (st : State) (came
       within = most;
     }
 
-    pub stops : false ≡ goesOn n bytes → Told buffer st came (record { state = over; written = w }) out
-    stops g = record { stepped = record { writes = λ s e. rw (going, text) (next s e ∙ rw (← g)); ends = λ h. refl; holds = over-held buffer }; within = most }
+    pub stops : {after : State} → after ≡ over → false ≡ goesOn n bytes → Told buffer st came (record { state = after; written = w }) out
+    stops z g = record {
+      stepped = record { writes = λ s e. rw (going, text, z) (next s e ∙ rw (← g)); ends = λ h. rw z; holds = rw z (over-held buffer) };
+      within = most;
+    }

@@ -1,6 +1,6 @@
 -- From one state to the next: a refusal, and bytes that are kept. Assumes nothing.
 use mathlib.Core.Path.{_≡_, refl, sym, ap, _∙_}
-use mathlib.Core.Bool.{false}
+use mathlib.Core.Bool.{true, false}
 use mathlib.Core.List.{List, [], _++_, append-nil, append-assoc}
 use Prim.Native.Nat.{ℕ, _+_, _≤_, _<_}
 use native.Mathlib.Omega.{arith}
@@ -9,7 +9,8 @@ use lib.Seq.{take-add}
 use Rattle.model.specs.Frames.{refusal, frames}
 use Rattle.session.specs.declared.State.{State}
 use Rattle.session.specs.declared.Step.{Step}
-use Rattle.session.specs.Session.{over, isOver, Held, Told, Entered, Refused}
+use Rattle.session.specs.declared.Part.the-variants.{Over}
+use Rattle.session.specs.Session.{over, isOver, Held, Asked, Told, Entered, Refused}
 
 pub over-held : (buffer : List ℕ) → Held over (take 0 buffer)
 over-held buffer = record { kept = refl; fits = omega arith; due = refl }
@@ -51,3 +52,9 @@ module _ (buffer : List ℕ) (at : ℕ) where
 
   pub entry-refused : {c : ℕ} {r : Step} {out : List ℕ} → Refused c r out → ((s : List ℕ) → frames (take at buffer ++ s) ≡ refusal c) → Entered buffer at r out
   entry-refused {c} f h = record { writes = λ s. rw (f .ends, f .line, h s) (sym (append-nil (refusal c))); holds = rw (f .ends) (over-held buffer); within = f .within }
+
+-- the program is over
+pub stays : (buffer : List ℕ) (st : State) (came : ℕ) (out : List ℕ) → Asked st came buffer → st .part ≡ Over → Told buffer st came (record { state = st; written = 0 }) out
+stays buffer st came out a p =
+    let z : isOver (st .part) ≡ true = ap isOver p in
+    record { stepped = record { writes = λ s e. rw z; ends = λ h. z; holds = a .held }; within = omega arith }

@@ -1,67 +1,108 @@
+-- `session::frame` meets its contract: the code and the settings are those that were kept. Assumes nothing.
+use mathlib.Core.Path.{_≡_, sym, ap, _∙_}
+use native.Mathlib.Omega.{arith}
+use mathlib.Core.List.{List}
+use Prim.Native.Nat.{ℕ, _+_, _-_}
+use lib.ListN.{length, take, drop}
+use lib.Seq.{length-take-le}
+use Rattle.model.specs.Records.{codeOf}
+use Rattle.model.specs.Frames.{settingsOf}
+use Rattle.model.specs.FrameClaims.{frameText, goesOn}
+use Rattle.session.proofs.Answers.{behind, set, held, within, goes-on, stops}
 use borrow.Author.Needs.{needs}
 use Rattle.session.proofs.frame.Statement.{statement}
 use Rattle.session.proofs.frame.Tie as tie
 use Rattle.session.proofs.frame.Reads as reads
 use Rattle.session.proofs.frame.Lts as lts
 use Rattle.session.proofs.frame_line.Reads as frame-line-reads
-use Rattle.session.proofs.over.Reads as over-reads
-use Rattle.stream.proofs.settings.Reads as settings-reads
 
--- src/lib.rt:320:16
+long : (c : tie.After-bytes) → length (c .before .args .buffer .now) ≡ 10260
+long c = search needs
+
 sub-size : tie.Need-sub-size
-sub-size c = ?
+sub-size c = let s = c .before in behind _ (long c) _ _ (s .pre .0) (s .pre .1)
 
--- src/lib.rt:321:15
 add-end : tie.Need-add-end
 add-end c = search needs
 
--- src/lib.rt:322:37
 sub-settings : tie.Need-sub-settings
 sub-settings c = search needs
 
--- src/lib.rt:322:37
 part-settings-start : tie.Need-part-settings-start
 part-settings-start c = search needs
 
--- src/lib.rt:322:37
 part-settings-end : tie.Need-part-settings-end
 part-settings-end c = search needs
 
--- src/lib.rt:322:9
 settings-requires : tie.Need-settings-requires
-settings-requires c κs = ?
+settings-requires c κs = let s = c .before .before in omega (arith, set _ (long (c .before)) _ _ (s .pre .0) (s .pre .1) .twelve)
 
--- src/lib.rt:324:9
 slice-aggregate-frame-line : tie.Need-slice-aggregate-frame-line
-slice-aggregate-frame-line c = ?
+slice-aggregate-frame-line c = sym (length-take-le _ _ (omega (arith, c .before .before .before .before .pre .0 .held .fits)))
 
--- src/lib.rt:326:9
 sub-frame-line : tie.Need-sub-frame-line
 sub-frame-line c = search needs
 
--- src/lib.rt:326:9
 part-frame-line-start : tie.Need-part-frame-line-start
 part-frame-line-start c = search needs
 
--- src/lib.rt:326:9
 part-frame-line-end : tie.Need-part-frame-line-end
 part-frame-line-end c = search needs
 
--- src/lib.rt:323:9
 frame-line-requires : tie.Need-frame-line-requires
-frame-line-requires c κs = ?
+frame-line-requires c κs =
+    let q = c .before .before .before .before .before .before .before .before .before .before .before .before in
+    let s = q .before in
+    (held _ (long q) _ _ (s .pre .0) (s .pre .1), rw (c .before .before .before .before .before .before .before .before .before .before .settings .ensures) (within _ (long q) _ _ (s .pre .0) (s .pre .1)))
 
--- src/lib.rt:341:20
+-- ---- what is written
+module _ (c : tie.After-frame-line) where
+  abbrev made : tie.After-bytes
+  made = c .before .before .before .before .before .before .before .before .before .before .before .before .before
+
+  abbrev s : tie.Start
+  s = made .before
+
+  abbrev settings : tie.After-settings
+  settings = c .before .before .before .before .before .before .before .before .before .before .before
+
+  came : s .args .state .at + s .args .came - s .args .state .at ≡ s .args .came
+  came = omega arith
+
+  abbrev at : ℕ
+  at = s .args .state .at
+
+  abbrev buffer : List ℕ
+  buffer = s .args .buffer .now
+
+  abbrev code : List ℕ
+  code = take (at - 12) buffer
+
+  abbrev bytes : List ℕ
+  bytes = take (s .args .came) (drop at buffer)
+
+  text : take (c .frame-line .result .written) (c .frame-line .last .1 .1 .1 .1 .1 .1 .1 .1 .1 .1 .0)
+      ≡ frameText (codeOf code) (settingsOf (take (at - (at - 12)) (drop (at - 12) buffer))) bytes
+  text =
+      c .frame-line .ensures .0
+      ∙ ap (λ o. frameText (codeOf code) o (take (at + s .args .came - at) (drop at buffer))) (settings .settings .ensures)
+      ∙ ap (λ (k : ℕ). frameText (codeOf code) (settingsOf (take (at - (at - 12)) (drop (at - 12) buffer))) (take k (drop at buffer))) came
+
+  on : c .frame-line .result .on ≡ goesOn (codeOf code .bits) bytes
+  on = c .frame-line .ensures .1 ∙ rw came
+
 over-requires : tie.Need-over-requires
 over-requires c κs = search needs
 
--- src/lib.rt:302:1
 returns : tie.Need-returns
-returns c = ?
+returns c =
+    let f = c .before in
+    goes-on _ (long (made f)) _ _ (s f .pre .0) (s f .pre .1) _ _ (text f) (f .frame-line .ensures .2) (sym (c .if1 .taken) ∙ on f)
 
--- src/lib.rt:302:1
 returns-2 : tie.Need-returns-2
-returns-2 c = ?
+returns-2 c =
+    let f = c .before .before in
+    stops _ (long (made f)) _ _ (s f .pre .0) (s f .pre .1) _ _ (text f) (f .frame-line .ensures .2) (c .over .ensures) (sym (c .before .if1 .left) ∙ on f)
 
 pub frame-spec : {M : Type 1} → statement M
 frame-spec =
