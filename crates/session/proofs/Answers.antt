@@ -118,7 +118,7 @@ module _ (buffer : List ℕ) (long : length buffer ≡ 10260) (st : State) (came
   counted : length bytes ≡ came
   counted = length-take-le came (drop (st .at) buffer) (omega (arith, a .most, a .held .fits, length-drop (st .at) buffer))
 
-  module _ (w : ℕ) (out : List ℕ) (text : take w out ≡ frameText (codeOf code) (settingsOf r) bytes) (most : w ≤ 640) where
+  module _ (w : ℕ) (out : List ℕ) (text : take w out ≡ frameText (codeOf code) (settingsOf r) bytes) (most : w ≤ length out) where
     pub goes-on : true ≡ goesOn n bytes → Told buffer st came (record { state = st; written = w }) out
     goes-on g = record {
       stepped = record {

@@ -135,10 +135,10 @@ module _ (buffer : List ℕ) (long : length buffer ≡ 10260) (st : State) (came
         let some : c ≡ 0 → ⊥ = λ z. (let x = record-sound _ bytes (check-held (bitCount b) (st .triples) bytes (sym judged ∙ z) .sound) in omega (arith, x .room, x .least, counted, a .most, three)) in
         refused buffer st came (ap isOver p) f
         (λ s t.
-          let first : bytes ≡ take 3 s = t ∙ ap (λ (w : ℕ). take w s) three in
-          check-refused (st .left) (st .triples) b begun s c (due-check .1) some
-          (judged ∙ ap (judgeHeldCheck (bitCount b) (st .triples)) first
-          ∙ three-judged (bitCount b) (st .triples) s (λ z. omega (arith, ap length first, counted, h (judged ∙ ap (judgeHeldCheck (bitCount b) (st .triples)) first ∙ z)))))
+        let first : bytes ≡ take 3 s = t ∙ ap (λ (w : ℕ). take w s) three in
+        check-refused (st .left) (st .triples) b begun s c (due-check .1) some
+        (judged ∙ ap (judgeHeldCheck (bitCount b) (st .triples)) first
+        ∙ three-judged (bitCount b) (st .triples) s (λ z. omega (arith, ap length first, counted, h (judged ∙ ap (judgeHeldCheck (bitCount b) (st .triples)) first ∙ z)))))
 
     pub opening-kept : (d : ℕ) (out : List ℕ) → judgeHeldCheck (bitCount buffer) (st .triples) bytes ≡ 1 → 3 ≤ came → d ≡ degree (drop (st .at) buffer)
         → Told buffer st came (record { state = record { part = Indices; at = st .at + came; want = 2 * d; left = st .left; triples = st .triples }; written = 0 }) out
@@ -219,13 +219,13 @@ module _ (buffer : List ℕ) (long : length buffer ≡ 10260) (st : State) (came
     indices-refused {c} e h f =
         refused buffer st came (ap isOver p) f
         (λ s w.
-          let size = st .want in
-          let whole : take (3 + size) (three ++ s) ≡ three ++ bytes = ap (λ (k : ℕ). take (k + size) (three ++ s)) (sym (due-indices .opened .three)) ∙ take-append-add three s size ∙ rw w in
-          let d : degree (three ++ s) ≡ degree three = sym (degree-take (3 + size) (three ++ s) (omega arith)) ∙ rw whole degree-is in
-          let judged : c ≡ judgeHeldCheck (bitCount head) t (three ++ s) =
-              e ∙ rw (check-is, bits-in, ← whole) (held-take (bitCount buffer) t (3 + size) (three ++ s) (omega (arith, d, due-indices .want))) in
-          let split : b ++ s ≡ head ++ (three ++ s) = ap (λ (l : List ℕ). l ++ s) (sym (take-append-drop from b)) ∙ append-assoc head three s in
-          ap frames split ∙ check-refused (st .left) t head (due-indices .begun) (three ++ s) c (due-indices .more) h judged)
+        let size = st .want in
+        let whole : take (3 + size) (three ++ s) ≡ three ++ bytes = ap (λ (k : ℕ). take (k + size) (three ++ s)) (sym (due-indices .opened .three)) ∙ take-append-add three s size ∙ rw w in
+        let d : degree (three ++ s) ≡ degree three = sym (degree-take (3 + size) (three ++ s) (omega arith)) ∙ rw whole degree-is in
+        let judged : c ≡ judgeHeldCheck (bitCount head) t (three ++ s) =
+        e ∙ rw (check-is, bits-in, ← whole) (held-take (bitCount buffer) t (3 + size) (three ++ s) (omega (arith, d, due-indices .want))) in
+        let split : b ++ s ≡ head ++ (three ++ s) = ap (λ (l : List ℕ). l ++ s) (sym (take-append-drop from b)) ∙ append-assoc head three s in
+        ap frames split ∙ check-refused (st .left) t head (due-indices .begun) (three ++ s) c (due-indices .more) h judged)
 
     module _ (e : judgeHeldCheck (bitCount buffer) t (take (st .at + came - from) (drop from buffer)) ≡ 0) where
       held : judgeHeldCheck (bitCount head) t (three ++ bytes) ≡ 0
@@ -245,7 +245,7 @@ module _ (buffer : List ℕ) (long : length buffer ≡ 10260) (st : State) (came
           let l : suc (st .left - 1) ≡ st .left = omega (arith, due-indices .more) in
           let g : Begun (suc (st .left - 1)) t head = rw l (due-indices .begun) in
           let all : take (st .at + came) buffer ≡ head ++ (three ++ bytes) =
-              take-add (st .at) came buffer ∙ ap (λ (l : List ℕ). l ++ bytes) (sym (take-append-drop from b)) ∙ append-assoc head three bytes in
+          take-add (st .at) came buffer ∙ ap (λ (l : List ℕ). l ++ bytes) (sym (take-append-drop from b)) ∙ append-assoc head three bytes in
           rw (all, degree-told) (held-next (st .left - 1) t head (three ++ bytes) g held (omega (arith, long-check, indices-all, due-indices .want, degree-is)))
 
       pub degree-within : (3 ≤ degree (drop from buffer)) × (t + (degree (drop from buffer) - 2) ≤ 1024)

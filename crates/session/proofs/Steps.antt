@@ -1,6 +1,6 @@
 -- From one state to the next: a refusal, and bytes that are kept. Assumes nothing.
 use mathlib.Core.Path.{_≡_, refl, sym, ap, _∙_}
-use mathlib.Core.Bool.{true, false}
+use mathlib.Core.Bool.{Bool, true, false, cond}
 use mathlib.Core.List.{List, [], _++_, append-nil, append-assoc}
 use Prim.Native.Nat.{ℕ, _+_, _≤_, _<_}
 use native.Mathlib.Omega.{arith}
@@ -58,3 +58,7 @@ pub stays : (buffer : List ℕ) (st : State) (came : ℕ) (out : List ℕ) → A
 stays buffer st came out a p =
     let z : isOver (st .part) ≡ true = ap isOver p in
     record { stepped = record { writes = λ s e. rw z; ends = λ h. z; holds = a .held }; within = omega arith }
+
+pub sent-held : (buffer : List ℕ) (st after : State) (whole : Bool) → after ≡ cond whole st over → Held st (take (st .at) buffer) → Held after (take (after .at) buffer)
+sent-held buffer st after true e h = rw e h
+sent-held buffer st after false e h = rw e (over-held buffer)

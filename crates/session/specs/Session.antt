@@ -80,19 +80,19 @@ pub record Stepped (buffer : List ℕ) (before : State) (came : ℕ) (after : St
 -- what `advance` tells: the next state, and what stands at the beginning of `out`
 pub record Told (buffer : List ℕ) (before : State) (came : ℕ) (r : Step) (out : List ℕ) : Type 0 where
   pub stepped : Stepped buffer before came (r .state) (take (r .written) out)
-  pub within : r .written ≤ 640
+  pub within : r .written ≤ length out
 
 -- the same once the bytes that came are kept as well, `at` in all
 pub record Entered (buffer : List ℕ) (at : ℕ) (r : Step) (out : List ℕ) : Type 0 where
   pub writes : (s : List ℕ) → frames (take at buffer ++ s) ≡ take (r .written) out ++ toWrite (r .state) (take (r .state .at) buffer) s
   pub holds : Held (r .state) (take (r .state .at) buffer)
-  pub within : r .written ≤ 640
+  pub within : r .written ≤ length out
 
 -- the same of a refusal
 pub record Refused (cause : ℕ) (r : Step) (out : List ℕ) : Type 0 where
   pub ends : r .state ≡ over
   pub line : take (r .written) out ≡ refusal cause
-  pub within : r .written ≤ 640
+  pub within : r .written ≤ length out
 
 -- ---- the loop
 

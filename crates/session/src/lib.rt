@@ -181,7 +181,13 @@ fn indices(state: State, came: usize, buffer: &[u8; 10260], out: &mut [u8; 640])
         return refuse(cause, out);
     }
     let degree = records::wide(bytes[from + 2]);
-    keep(end, state.left - 1, state.triples + (degree - 2), buffer, out)
+    keep(
+        end,
+        state.left - 1,
+        state.triples + (degree - 2),
+        buffer,
+        out,
+    )
 }
 
 // The bytes of the settings record came.
@@ -226,7 +232,7 @@ fn answer(
     out: &mut [u8; 640],
 ) -> usize
     requires { ⌜ HeldCode (now code) × (wild settings ≡ false) × (length (now costs) ≡ codeOf (now code) .bits) × (some forbidden (now costs) ≡ false) ⌝ }
-    ensures { λ r. ⌜ (take r (now (out .exit)) ≡ Frames.frameLine (codeOf (now (code .entry))) settings (now (costs .entry))) × (r ≤ 640) ⌝ }
+    ensures { λ r. ⌜ (take r (now (out .exit)) ≡ Frames.frameLine (codeOf (now (code .entry))) settings (now (costs .entry))) × (r ≤ length (now (out .exit))) ⌝ }
 {
     let decoding = decoder::decode(
         code,
@@ -265,7 +271,7 @@ fn frame_line(
 ) -> Line
     requires { ⌜ HeldCode (now code) × (wild settings ≡ false) ⌝ }
     ensures { λ r. ⌜ (let k = codeOf (now (code .entry)) in let b = now (bytes .entry) in
-        (take (r .written) (now (out .exit)) ≡ frameText k settings b) × (r .on ≡ goesOn (k .bits) b) × (r .written ≤ 640)) ⌝ }
+        (take (r .written) (now (out .exit)) ≡ frameText k settings b) × (r .on ≡ goesOn (k .bits) b) × (r .written ≤ length (now (out .exit)))) ⌝ }
 {
     if bytes.len() == 0 {
         return Line {

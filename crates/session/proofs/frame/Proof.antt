@@ -12,9 +12,6 @@ use Rattle.session.proofs.Answers.{behind, set, held, within, goes-on, 
 use borrow.Author.Needs.{needs}
 use Rattle.session.proofs.frame.Statement.{statement}
 use Rattle.session.proofs.frame.Tie as tie
-use Rattle.session.proofs.frame.Reads as reads
-use Rattle.session.proofs.frame.Lts as lts
-use Rattle.session.proofs.frame_line.Reads as frame-line-reads
 
 long : (c : tie.After-bytes) → length (c .before .args .buffer .now) ≡ 10260
 long c = search needs

@@ -2,7 +2,7 @@
 use mathlib.Core.Path.{_≡_, sym, ap, _∙_}
 use native.Mathlib.Omega.{arith}
 use lib.ListN.{length, take, length-take}
-use Rattle.lines.proofs.Text.{lent}
+use Rattle.lines.proofs.Text.{lent, counted}
 use Rattle.model.specs.Records.{codeOf}
 use Rattle.model.specs.Frames.{costsOf, judgeFrame, frameLine}
 use Rattle.model.proofs.Frames as Frames
@@ -46,7 +46,7 @@ returns-2 c =
     let k = codeOf (a .code .now) in
     let line = c .refusal .ensures in
     let x = frame-refused k (a .settings) (a .bytes .now) (w .before .if1 .left) (f .read-frame .result) (judged f) (c .before .before .if2 .taken) in
-    (lent line ∙ x .0, x .1, omega (arith, line .fits))
+    (lent line ∙ x .0, x .1, counted line .0)
 
 -- the costs of a sound frame
 costs-are : (f : tie.After-read-frame) → f .read-frame .result ≡ 0
