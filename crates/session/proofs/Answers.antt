@@ -1,8 +1,8 @@
 -- What the bytes of a frame lead to. Assumes nothing.
 use mathlib.Core.Path.{_≡_, refl, sym, ap, subst, _∙_}
-use mathlib.Core.Bool.{Bool, true, false, cond}
+use mathlib.Core.Bool.{true, false, cond}
 use mathlib.Core.List.{List, [], _++_, append-assoc}
-use Prim.Native.Nat.{ℕ, _+_, _-_, _≤_, _<_}
+use Prim.Native.Nat.{ℕ, _+_, _-_, _≤_}
 use native.Mathlib.Omega.{arith}
 use lib.Dec.{eqb}
 use lib.IntN.{ℤ}
@@ -12,7 +12,7 @@ use borrow.Author.Tests.{eq-eqb, ne-eqb}
 use Rattle.lists.specs.Entries.{some}
 use Rattle.model.specs.declared.Settings as Model
 use Rattle.model.specs.Code.{Code}
-use Rattle.model.specs.Records.{bitCount, codeOf, judge}
+use Rattle.model.specs.Records.{bitCount, codeOf}
 use Rattle.model.specs.Calls.{wild, forbidden, Lists, Answer, decoder}
 use Rattle.model.specs.Frames.{settingsOf, frameSize, costsOf, judgeFrame, refusal, line, frameLine, frames}
 use Rattle.model.specs.FrameClaims.{Coded, Set, HeldCode, Room, frameText, goesOn}
@@ -23,10 +23,10 @@ use Rattle.model.proofs.FrameCode.{code-held}
 use Rattle.model.proofs.FrameLines.{held-frame}
 use Rattle.model.proofs.FrameProgram.{frame-after-frame, cut-ends}
 use Rattle.session.specs.declared.State.{State}
-use Rattle.session.specs.declared.Step.{Step}
 use Rattle.session.specs.declared.Part.the-variants.{Frame}
 use Rattle.session.specs.Session.{over, isOver, AtFrame, Due, Asked, Told}
 use Rattle.session.proofs.Steps.{over-held}
+use Rattle.session.proofs.Records.{counted}
 
 -- ---- the call of the decoder
 pub answered : (b : List ℕ) (o : Model.Settings) (costs : List ℤ) (before after : Lists) (a : Answer)
@@ -115,15 +115,12 @@ module _ (buffer : List ℕ) (long : length buffer ≡ 10260) (st : State) (came
   going : isOver (st .part) ≡ false
   going = ap isOver p
 
-  counted : length bytes ≡ came
-  counted = length-take-le came (drop (st .at) buffer) (omega (arith, a .most, a .held .fits, length-drop (st .at) buffer))
-
   module _ (w : ℕ) (out : List ℕ) (text : take w out ≡ frameText (codeOf code) (settingsOf r) bytes) (most : w ≤ length out) where
     pub goes-on : true ≡ goesOn n bytes → Told buffer st came (record { state = st; written = w }) out
     goes-on g = record {
       stepped = record {
         writes = λ s e. rw (going, text) (next s e ∙ rw (← g));
-        ends = λ h. (let z : _≡_ {A = ℕ} 0 1 = cc (g ∙ cut-ends n bytes (omega (arith, counted, want-is))) in absurd (omega arith));
+        ends = λ h. (let z : _≡_ {A = ℕ} 0 1 = cc (g ∙ cut-ends n bytes (omega (arith, counted buffer long st came a, want-is))) in absurd (omega arith));
         holds = a .held;
       };
       within = most;

@@ -1,7 +1,7 @@
 -- What the bytes of a header, a check and the settings lead to, each judged by the contract of its function. Assumes nothing.
 use mathlib.Core.Path.{_≡_, refl, sym, ap, subst, _∙_}
 use mathlib.Core.Bool.{true, false, not, _||_}
-use mathlib.Core.List.{List, [], _++_, append-assoc}
+use mathlib.Core.List.{List, _++_, append-assoc}
 use Prim.Native.Nat.{ℕ, zero, suc, _+_, _-_, _*_, _≤_, _<_}
 use native.Mathlib.Omega.{arith}
 use lib.Dec.{ltb, eqb}
@@ -10,7 +10,7 @@ use lib.Seq.{length-take-le, take-take, take-add, take-append-add, drop-drop, dr
 use borrow.Author.Tests.{ltb-true, ltb-false, eqb-true, not-false}
 use Rattle.model.specs.Records.{bitCount, checkCount, degree, judge}
 use Rattle.model.specs.Frames.{judgeHeldHeader, judgeHeldCheck, judgeSettings, frameSize, refusal, frames}
-use Rattle.model.specs.FrameClaims.{Begun, Opened, Coded}
+use Rattle.model.specs.FrameClaims.{Begun, Opened}
 use Rattle.model.proofs.Causes.{or-false}
 use Rattle.model.proofs.Accepted.{header-sound, record-sound}
 use Rattle.model.proofs.Frames.{header-held, check-held, settings-sound}
@@ -71,8 +71,15 @@ module _ (buffer : List ℕ) (long : length buffer ≡ 10260) (st : State) (came
   abbrev bytes : List ℕ
   bytes = take came (drop (st .at) buffer)
 
-  counted : length bytes ≡ came
+  pub counted : length bytes ≡ came
   counted = length-take-le came (drop (st .at) buffer) (omega (arith, a .most, a .held .fits, length-drop (st .at) buffer))
+
+  -- once k bytes came and are kept: those kept before, and those k
+  behind : (k : ℕ) → came ≡ k → let next = st .at + came in (take (next - k) (take next buffer) ≡ b) × (drop (next - k) (take next buffer) ≡ bytes)
+  behind k e =
+      let next = st .at + came in
+      let same : next - k ≡ st .at = omega arith in
+      (take-take (next - k) next buffer (omega arith) ∙ ap (λ (j : ℕ). take j buffer) same, ap (λ (j : ℕ). drop j (take next buffer)) same ∙ drop-take (st .at) came buffer)
 
   -- ---- the header
   module _ (p : st .part ≡ Header) where
@@ -122,7 +129,7 @@ module _ (buffer : List ℕ) (long : length buffer ≡ 10260) (st : State) (came
     room : (6 ≤ st .at) × (st .at ≤ 9222)
     room = let x = begun-room _ _ b begun in let k = a .held .kept in (omega (arith, x .0), omega (arith, x .1))
 
-    pub bits-there : bitCount b ≡ bitCount buffer
+    bits-there : bitCount b ≡ bitCount buffer
     bits-there = two-take 2 (st .at) buffer (omega (arith, room .0))
 
     pub check-few : st .triples ≤ 1024
@@ -146,9 +153,7 @@ module _ (buffer : List ℕ) (long : length buffer ≡ 10260) (st : State) (came
         let three : came ≡ 3 = omega (arith, a .most, due-check .2) in
         let next = st .at + came in
         let l : length (take next buffer) ≡ next = length-take-le next buffer (omega (arith, room .1)) in
-        let same : next - 3 ≡ st .at = omega arith in
-        let head : take (next - 3) (take next buffer) ≡ b = take-take (next - 3) next buffer (omega arith) ∙ ap (λ (k : ℕ). take k buffer) same in
-        let tail : drop (next - 3) (take next buffer) ≡ bytes = ap (λ (k : ℕ). drop k (take next buffer)) same ∙ drop-take (st .at) came buffer in
+        let x = behind 3 three in
         let told : d ≡ degree bytes = g ∙ sym (degree-take came (drop (st .at) buffer) h) in
         let bits : bitCount (take next buffer) ≡ bitCount buffer = two-take 2 next buffer (omega (arith, room .0)) in
         let opened : Opened (bitCount buffer) (st .triples) bytes = record { three = counted ∙ three; cut = e } in
@@ -156,7 +161,7 @@ module _ (buffer : List ℕ) (long : length buffer ≡ 10260) (st : State) (came
         (entered buffer next _ out refl refl (record {
           kept = l;
           fits = omega (arith, room .1, told, opened-degree _ _ bytes opened .1);
-          due = record { begun = rw head begun; more = due-check .1; opened = rw (bits, tail) opened; want = rw (tail, told) };
+          due = record { begun = rw (x .0) begun; more = due-check .1; opened = rw (bits, x .1) opened; want = rw (x .1, told) };
         }))
 
   -- ---- the indices of a check
@@ -273,9 +278,7 @@ module _ (buffer : List ℕ) (long : length buffer ≡ 10260) (st : State) (came
         let twelve : came ≡ 12 = omega (arith, a .most, due-settings .1, counted, settings-sound bytes e .room) in
         let next = st .at + came in
         let l : length (take next buffer) ≡ next = length-take-le next buffer (omega (arith, code-room .1)) in
-        let same : next - 12 ≡ st .at = omega arith in
-        let head : take (next - 12) (take next buffer) ≡ b = take-take (next - 12) next buffer (omega arith) ∙ ap (λ (k : ℕ). take k buffer) same in
-        let tail : drop (next - 12) (take next buffer) ≡ bytes = ap (λ (k : ℕ). drop k (take next buffer)) same ∙ drop-take (st .at) came buffer in
+        let x = behind 12 twelve in
         let bits : bitCount (take next buffer) ≡ n = two-take 2 next buffer (omega (arith, code-room .0)) ∙ sym told in
         let few : bitCount b ≤ 512 = header-held b (due-settings .0 .begun .header) .room in
         let own : bitCount b ≡ n = two-take 2 (st .at) buffer (omega (arith, code-room .0)) ∙ sym told in
@@ -283,5 +286,5 @@ module _ (buffer : List ℕ) (long : length buffer ≡ 10260) (st : State) (came
         (entered buffer next _ out refl refl (record {
           kept = l;
           fits = omega (arith, code-room .1);
-          due = record { code = rw head (due-settings .0); set = rw tail (record { twelve = counted ∙ twelve; sound = e }); want = rw bits };
+          due = record { code = rw (x .0) (due-settings .0); set = rw (x .1) (record { twelve = counted ∙ twelve; sound = e }); want = rw bits };
         }))

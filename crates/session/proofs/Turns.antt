@@ -1,19 +1,18 @@
 -- The turns of the program's loop write what document 01 says. Assumes nothing.
-use mathlib.Core.Path.{_≡_, refl, sym, ap, subst, _∙_}
+use mathlib.Core.Path.{_≡_, refl, sym, ap, _∙_}
 use mathlib.Core.Bool.{Bool, true, false}
 use mathlib.Core.List.{List, [], _++_, append-nil, append-assoc}
-use Prim.Native.Nat.{ℕ, zero, suc, _+_, _≤_, _<_}
+use Prim.Native.Nat.{ℕ, _+_, _≤_, _<_}
 use native.Mathlib.Omega.{arith}
 use lib.Dec.{ltb}
 use lib.ListN.{length, take, drop, length-take, length-drop}
 use borrow.Author.Tests.{ltb-true, ltb-false}
-use Rattle.model.specs.Records.{bitCount}
 use Rattle.model.specs.Frames.{frames}
 use Rattle.model.proofs.FrameBytes.{opened-degree}
 use Rattle.session.specs.declared.State.{State}
 use Rattle.session.specs.declared.Part.{Part}
 use Rattle.session.specs.declared.Part.the-variants.{Header, Check, Indices, Settings, Frame, Over}
-use Rattle.session.specs.Session.{start, isOver, toWrite, Due, Held, Stepped, Turns, Program}
+use Rattle.session.specs.Session.{start, isOver, toWrite, Due, Held, Turns, Program}
 use Rattle.session.specs.Session.Turns.{none, turn}
 
 pub start-held : Held start []

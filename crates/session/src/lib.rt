@@ -149,9 +149,9 @@ fn keep(at: usize, left: usize, triples: usize, buffer: &[u8; 10260], out: &mut 
             written: 0,
         };
     }
-    let cause = stream::judge_code(&bytes[..at]);
-    if cause != 0 {
-        return refuse(cause, out);
+    let judged = stream::judge_code(&bytes[..at]);
+    if judged != 0 {
+        return refuse(judged, out);
     }
     let next = State {
         part: Part::Settings,

@@ -1,5 +1,5 @@
 -- `session::answer` meets its contract: the decoder refuses nothing, and its answer makes the line. Assumes nothing.
-use mathlib.Core.Path.{_≡_, sym, _∙_}
+use mathlib.Core.Path.{_∙_}
 use native.Mathlib.Omega.{arith}
 use lib.ListN.{length-take}
 use Rattle.lines.proofs.Text.{lent, counted}

@@ -1,5 +1,4 @@
 -- `session::refuse` meets its contract. Assumes nothing.
-use native.Mathlib.Omega.{arith}
 use Rattle.lines.proofs.Text.{lent, counted}
 use borrow.Author.Needs.{needs}
 use Rattle.session.proofs.refuse.Statement.{statement}
