@@ -1,22 +1,21 @@
 -- A record of the frame program is judged and read by its own bytes. Assumes nothing.
-use mathlib.Core.Path.{_≡_, refl, ap, _∙_}
-use mathlib.Core.Bool.{Bool, true, false, cond}
+use mathlib.Core.Path.{_≡_, refl, sym, ap, _∙_}
+use mathlib.Core.Bool.{Bool, true, false, not}
 use mathlib.Core.List.{List, [], _∷_}
 use Prim.Native.Nat.{ℕ, zero, suc, _+_, _-_, _*_, _≤_, _<_}
 use native.Mathlib.Nat.{zero-add, suc-add}
 use native.Mathlib.Omega.{arith}
-use lib.Dec.{ltb}
-use lib.ListN.{length, take, drop, length-take}
-use lib.Seq.{take-nil, getD-take, getD-drop, drop-drop}
+use lib.Dec.{ltb, eqb}
+use lib.ListN.{length, take, drop, length-take, length-drop}
+use lib.Seq.{take-nil, take-all, length-take-le, getD-take, getD-drop, drop-drop}
 use borrow.Author.Tests.{ltb-true, ltb-false, lt-ltb, le-ltb}
-use Rattle.model.specs.Causes.{short}
+use Rattle.model.specs.Causes.{_if_, firstOf, short, outside}
 use Rattle.model.specs.Code.{tripleCount}
 use Rattle.model.specs.Records.{twoBytes, numbers, degree, indices, judgeHeader, judgeIndices, judgeCheck}
-use Rattle.model.specs.Calls.{wild}
 use Rattle.model.specs.Frames.{judgeHeldHeader, judgeHeldCheck, settingsOf, judgeSettings, frameSize, costsOf, judgeWhole, judgeFrame}
-use Rattle.model.specs.FrameClaims.{checkSize, OwnBytes}
+use Rattle.model.specs.FrameClaims.{Opened}
 use Rattle.model.proofs.Accepted.{length-numbers}
-use Rattle.model.proofs.Frames.{settings-sound}
+use Rattle.model.proofs.Causes.{within}
 
 -- ---- the first bytes: lengths up to j, and numbers within, are those of the whole
 pub short-take : (k j : ℕ) (s : List ℕ) → k ≤ j → short k (take j s) ≡ short k s
@@ -57,12 +56,12 @@ unfolding judgeHeader
 header-take j s h =
     rw (short-take 2 j s (omega arith), short-take 4 j s (omega arith), short-take 6 j s (omega arith), two-take 0 j s (omega arith), two-take 2 j s (omega arith), two-take 4 j s (omega arith))
 
-held-header-take : (s : List ℕ) → judgeHeldHeader (take 6 s) ≡ judgeHeldHeader s
+pub held-header-take : (j : ℕ) (s : List ℕ) → 6 ≤ j → judgeHeldHeader (take j s) ≡ judgeHeldHeader s
 unfolding judgeHeldHeader
-held-header-take s = rw (header-take 6 s (omega arith), two-take 2 6 s (omega arith))
+held-header-take j s h = rw (header-take j s h, two-take 2 j s (omega arith))
 
 -- ---- the settings record
-settings-take : (s : List ℕ) → judgeSettings (take 12 s) ≡ judgeSettings s
+pub settings-take : (s : List ℕ) → judgeSettings (take 12 s) ≡ judgeSettings s
 unfolding judgeSettings
 settings-take s =
     rw (
@@ -77,20 +76,14 @@ settings-take s =
       two-take 6 12 s (omega arith),
     )
 
-fields-take : (j : ℕ) (s : List ℕ) → 12 ≤ j → settingsOf (take j s) ≡ settingsOf s
+pub fields-take : (j : ℕ) (s : List ℕ) → 12 ≤ j → settingsOf (take j s) ≡ settingsOf s
 unfolding settingsOf
 fields-take j s h =
     let low : twoBytes (drop 2 (drop 8 (take j s))) ≡ twoBytes (drop 2 (drop 8 s)) = rw (drop-drop 2 8 s, drop-drop 2 8 (take j s)) (two-take 10 j s (omega arith)) in
     rw (two-take 2 j s (omega arith), two-take 4 j s (omega arith), two-take 6 j s (omega arith), two-take 8 j s (omega arith), low)
 
--- those of a buffer whose first bytes are accepted
-pub settings-left : (j : ℕ) (s : List ℕ) → judgeSettings (take j s) ≡ 0 → wild (settingsOf s) ≡ false
-settings-left j s h =
-    let x = settings-sound (take j s) h in
-    rw (← fields-take j s (omega (arith, x .room, length-take j s))) (x .within)
-
 -- ---- a frame record
-costs-take : (n : ℕ) (s : List ℕ) → costsOf n (take (frameSize n) s) ≡ costsOf n s
+pub costs-take : (n : ℕ) (s : List ℕ) → costsOf n (take (frameSize n) s) ≡ costsOf n s
 unfolding costsOf
 costs-take n s = rw (drop-take 2 (2 * n) s, numbers-take n (2 * n) (drop 2 s) (omega arith))
 
@@ -98,7 +91,7 @@ whole-take : (n : ℕ) (s : List ℕ) → judgeWhole n (take (frameSize n) s) �
 unfolding judgeWhole
 whole-take n s = rw (short-take 2 (frameSize n) s (omega arith), short-take (frameSize n) (frameSize n) s (omega arith), two-take 0 (frameSize n) s (omega arith))
 
-frame-take : (n : ℕ) (s : List ℕ) → judgeFrame n (take (frameSize n) s) ≡ judgeFrame n s
+pub frame-take : (n : ℕ) (s : List ℕ) → judgeFrame n (take (frameSize n) s) ≡ judgeFrame n s
 unfolding judgeFrame
 frame-take n s = rw (whole-take n s, costs-take n s)
 
@@ -114,37 +107,73 @@ unfolding judgeCheck
 check-take n j s h =
     rw (short-take 2 j s (omega arith), short-take 3 j s (omega arith), two-take 0 j s (omega arith), degree-take j s (omega arith), drop-within 3 j s (omega arith), indices-take n (degree s) 0 (j - 3) (drop 3 s) (omega arith))
 
--- where the degree is above 32, a cause comes before the indices
-wide-take : (n j : ℕ) (s : List ℕ) → 3 ≤ j → 32 < degree s → judgeCheck n (take j s) ≡ judgeCheck n s
-unfolding judgeCheck
-wide-take n j s k h =
-    let wide : ltb 32 (degree s) ≡ true = lt-ltb 32 (degree s) h in
-    let late : ltb (degree s) 3 ≡ false = le-ltb (degree s) 3 (omega arith) in
-    rw (short-take 2 j s (omega arith), short-take 3 j s (omega arith), two-take 0 j s (omega arith), degree-take j s (omega arith), late, wide)
-
 -- a check's triples are told by its degree alone
-count-take : (j : ℕ) (s : List ℕ) → 3 ≤ j → tripleCount (indices (take j s)) ≡ tripleCount (indices s)
+pub count-take : (j : ℕ) (s : List ℕ) → 3 ≤ j → tripleCount (indices (take j s)) ≡ tripleCount (indices s)
 count-take j s h = rw (length-numbers (degree (take j s)) (drop 3 (take j s)), length-numbers (degree s) (drop 3 s), degree-take j s h)
 
-held-take : (n t : ℕ) (s : List ℕ) → judgeHeldCheck n t (take (checkSize s) s) ≡ judgeHeldCheck n t s
+pub held-take : (n t j : ℕ) (s : List ℕ) → 3 + 2 * degree s ≤ j → judgeHeldCheck n t (take j s) ≡ judgeHeldCheck n t s
 unfolding judgeHeldCheck
-held-take n t s = rw (judged (ltb 32 (degree s)) refl, count-take (checkSize s) s (omega arith))
-  where
-    judged : (w : Bool) → ltb 32 (degree s) ≡ w → judgeCheck n (take (3 + 2 * cond w 0 (degree s)) s) ≡ judgeCheck n s
-    judged true e = wide-take n 3 s (omega arith) (ltb-true 32 (degree s) e)
-    judged false e = check-take n (3 + 2 * degree s) s (omega arith)
+held-take n t j s h = rw (check-take n j s h, count-take j s (omega arith))
 
--- ---- all of it
-pub own-bytes : (s : List ℕ) → OwnBytes s
-own-bytes s = record {
-  header = held-header-take s;
-  bits = two-take 2 6 s (omega arith);
-  checks = two-take 4 6 s (omega arith);
-  degree-told = degree-take 3 s (omega arith);
-  check = λ n t. held-take n t s;
-  settings = settings-take s;
-  fields = fields-take 12 s (omega arith);
-  whole = λ n. whole-take n s;
-  frame = λ n. frame-take n s;
-  costs = λ n. costs-take n s;
-}
+-- ---- the mark and the degree of a check record, its first three bytes
+abbrev wrong : List ℕ → Bool
+wrong s = not (eqb (twoBytes s) 0x4C43)
+
+abbrev outer : List ℕ → Bool
+outer s = outside 3 32 (degree s)
+
+-- the cause in them, and 1 where that is only their end
+abbrev opening : Bool → Bool → ℕ
+opening v w = firstOf (2 if v ∷ 4 if w ∷ 1 ∷ [])
+
+-- indices of which no byte is there
+none-there : (n d : ℕ) (s : List ℕ) → length s ≡ 0 → 1 ≤ d → judgeIndices n d 0 s ≡ 1
+unfolding judgeIndices
+none-there n zero s e h = absurd (omega arith)
+none-there n (suc d) s e h = rw (lt-ltb (length s) 2 (omega arith))
+
+module _ (n t : ℕ) (s : List ℕ) (long : 3 ≤ length s) where
+  judged : (v w : Bool) → wrong s ≡ v → outer s ≡ w → judgeCheck n s ≡ firstOf (2 if v ∷ 4 if w ∷ judgeIndices n (degree s) 0 (drop 3 s) ∷ [])
+  unfolding judgeCheck
+  judged v w e f = rw (le-ltb (length s) 2 (omega arith), le-ltb (length s) 3 (omega arith), e, f)
+
+  three-bytes : length s ≡ 3 → judgeHeldCheck n t s ≡ opening (wrong s) (outer s)
+  unfolding judgeHeldCheck
+  three-bytes l = by (wrong s) (outer s) refl refl
+    where
+      by : (v w : Bool) → wrong s ≡ v → outer s ≡ w → judgeHeldCheck n t s ≡ opening v w
+      by true w e f = rw (judged true w e f)
+      by false true e f = rw (judged false true e f)
+      by false false e f =
+          let d = within 3 32 (degree s) f in
+          rw (judged false false e f, none-there n (degree s) (drop 3 s) (omega (arith, length-drop 3 s)) (omega (arith, d .0)))
+
+  whole-record : (opening (wrong s) (outer s) ≡ 1 → ⊥) → judgeHeldCheck n t s ≡ opening (wrong s) (outer s)
+  unfolding judgeHeldCheck
+  whole-record h = by (wrong s) (outer s) refl refl
+    where
+      by : (v w : Bool) → wrong s ≡ v → outer s ≡ w → judgeHeldCheck n t s ≡ opening v w
+      by true w e f = rw (judged true w e f)
+      by false true e f = rw (judged false true e f)
+      by false false e f = absurd (h (rw (e, f)))
+
+-- a cause in them that is not their end is the whole record's
+pub three-judged : (n t : ℕ) (s : List ℕ) → (judgeHeldCheck n t (take 3 s) ≡ 1 → length (take 3 s) < 3) → judgeHeldCheck n t (take 3 s) ≡ judgeHeldCheck n t s
+three-judged n t s h = by (ltb (length s) 3) refl
+  where
+    by : (u : Bool) → ltb (length s) 3 ≡ u → judgeHeldCheck n t (take 3 s) ≡ judgeHeldCheck n t s
+    by true e = ap (judgeHeldCheck n t) (take-all 3 s (omega (arith, ltb-true (length s) 3 e)))
+    by false e =
+        let long = ltb-false (length s) 3 e in
+        let l : length (take 3 s) ≡ 3 = length-take-le 3 s long in
+        let first : judgeHeldCheck n t (take 3 s) ≡ opening (wrong s) (outer s) = three-bytes n t (take 3 s) (omega arith) l ∙ rw (two-take 0 3 s (omega arith), degree-take 3 s (omega arith)) in
+        first ∙ sym (whole-record n t s long (λ z. absurd (omega (arith, h (first ∙ z)))))
+
+-- what is known of a check of which these are sound
+pub opened-degree : (n t : ℕ) (b : List ℕ) → Opened n t b → (3 ≤ degree b) × (degree b ≤ 32)
+opened-degree n t b o = within 3 32 (degree b) (by (wrong b) (outer b) (sym (three-bytes n t b (omega (arith, o .three)) (o .three)) ∙ o .cut))
+  where
+    by : (v w : Bool) → opening v w ≡ 1 → w ≡ false
+    by true w e = absurd (omega arith)
+    by false true e = absurd (omega arith)
+    by false false e = refl

@@ -2,51 +2,32 @@
 use mathlib.Core.Path.{_≡_, refl, sym, ap, _∙_}
 use mathlib.Core.Bool.{Bool, true, false}
 use mathlib.Core.List.{List, _++_, append-nil}
-use Prim.Native.Nat.{ℕ, zero, suc, _*_, _≤_}
+use Prim.Native.Nat.{ℕ, _*_, _≤_}
 use native.Mathlib.Omega.{arith}
 use lib.Dec.{eqb}
 use lib.IntN.{ℤ}
-use lib.ListN.{length, take, drop, length-append, length-drop}
+use lib.ListN.{length, take, drop}
 use lib.Seq.{take-at, drop-nil}
 use borrow.Author.Tests.{le-ltb, eq-eqb, eqb-true}
 use Rattle.lists.specs.Entries.{some}
-use Rattle.lists.specs.Tabulated.{written}
 use Rattle.lists.proofs.Tabulated.{length-tab}
 use Rattle.quotient.specs.Quotient.{quotient}
 use Rattle.model.specs.declared.Settings.{Settings}
 use Rattle.model.specs.Causes.{accepted}
 use Rattle.model.specs.Code.{Code, triples, variables}
-use Rattle.model.specs.Records.{codeOf, judge}
+use Rattle.model.specs.Records.{codeOf}
 use Rattle.model.specs.Splitting.{systemOf}
-use Rattle.model.specs.Iteration.{at, countsOf}
+use Rattle.model.specs.Iteration.{at}
 use Rattle.model.specs.Run.{Ended, run}
 use Rattle.model.specs.Words.{bitOf, wordOf, outcome}
 use Rattle.model.specs.Calls.{wild, forbidden, Lists, Answer, noRoom, decoderCause, decodedBy}
 use Rattle.model.specs.Frames.{line, noLists, frameLine}
-use Rattle.model.specs.FrameClaims.{Room, HeldFrame}
+use Rattle.model.specs.FrameClaims.{HeldCode, Room, HeldFrame}
 use Rattle.model.proofs.Accepted as Accepted
 use Rattle.model.proofs.Sound.{variables-most}
 use Rattle.model.proofs.Entry.{ran-is}
 
 -- ---- the lists
-written-least : {A : Type 0} (new old : List A) → length old ≤ length (written new old)
-written-least new old = omega (arith, length-append new (drop (length new) old), length-drop (length new) old)
-
-kept : (c : ℕ) (new old : List ℕ) → length old ≤ length (accepted c (written new old) old)
-kept zero new old = written-least new old
-kept (suc c) new old = omega arith
-
-room-left : (k : Code) (e : Ended) (l : Lists) → Room l → Room (decodedBy k e l .lists)
-unfolding decodedBy
-room-left k e l r = record {
-  triples = omega (arith, r .triples, written-least (systemOf k .members) (l .triples));
-  counts = omega (arith, r .counts, written-least (countsOf (systemOf k)) (l .counts));
-  sums = omega (arith, r .sums, written-least (e .last .sums) (l .sums));
-  values = omega (arith, r .values, written-least (e .last .values) (l .values));
-  rows = omega (arith, r .rows, written-least (e .last .rows) (l .rows));
-  word = omega (arith, r .word, kept (outcome k (e .last .values) .number) (wordOf k (e .last .values)) (l .word));
-}
-
 enough : (k : Code) (l : Lists) → Room l → k .bits ≤ 512 → triples k ≤ 1024 → variables k ≤ 1536 → noRoom k l ≡ false
 enough k l r n t v =
     rw (
@@ -78,13 +59,13 @@ line-left k e l =
     line-of (decodedBy k e l .answer) _ _ (λ (z : outcome k (e .last .values) .number ≡ 0). rw z (take-at w (drop (length w) (l .word)) (k .bits) (word-long k (e .last .values)) ∙ sym (ap (λ (r : List ℕ). w ++ r) (drop-nil (length w)) ∙ append-nil w)))
 
 -- ---- the call
-module _ (b : List ℕ) (o : Settings) (costs : List ℤ) (l : Lists) (sound : judge b ≡ 0) (bits : codeOf b .bits ≤ 512) (few : triples (codeOf b) ≤ 1024)
+module _ (b : List ℕ) (o : Settings) (costs : List ℤ) (l : Lists) (held : HeldCode b)
     (within : wild o ≡ false) (fits : length costs ≡ codeOf b .bits) (allowed : some forbidden costs ≡ false) (room : Room l) where
   no-cause : decoderCause b o costs l ≡ 0
   unfolding decoderCause
   no-cause =
-      let most = variables-most (codeOf b) (Accepted.accepted b sound) in
-      rw (sound, within, eq-eqb (length costs) (codeOf b .bits) fits, allowed, enough (codeOf b) l room bits few (omega (arith, most)))
+      let most = variables-most (codeOf b) (Accepted.accepted b (held .sound)) in
+      rw (held .sound, within, eq-eqb (length costs) (codeOf b .bits) fits, allowed, enough (codeOf b) l room (held .bits) (held .triples) (omega (arith, most)))
 
   pub held-frame : HeldFrame b o costs l
   unfolding frameLine
@@ -93,5 +74,4 @@ module _ (b : List ℕ) (o : Settings) (costs : List ℤ) (l : Lists) (sound : j
       record {
         accepted = no-cause;
         prints = rw (ran-is b o costs l no-cause) (line-left (codeOf b) e l);
-        room = rw (ran-is b o costs l no-cause) (room-left (codeOf b) e l room);
       }

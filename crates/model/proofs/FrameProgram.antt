@@ -1,70 +1,97 @@
--- What the frame program does, told by the contracts of its calls, is the definition. Assumes nothing.
-use mathlib.Core.Path.{_≡_, refl, sym, ap, _∙_}
-use mathlib.Core.Bool.{Bool, true, false, cond, not}
-use mathlib.Core.List.{List, [], _∷_, _++_, append-nil, append-assoc}
-use Prim.Native.Nat.{ℕ, zero, suc, _+_, _-_, _*_, _≤_}
+-- What the frame program is yet to write, by the bytes that it keeps: nothing but a refusal where the next record is refused, and frame by frame once code and
+-- settings are accepted. Assumes nothing.
+use mathlib.Core.Path.{_≡_, refl, sym, _∙_}
+use mathlib.Core.Bool.{Bool, true, false, cond, not, _&&_, _||_}
+use mathlib.Core.List.{List, [], _∷_, _++_, append-nil}
+use Prim.Native.Nat.{ℕ, zero, suc, _+_, _≤_, _<_}
 use native.Mathlib.Omega.{arith}
-use lib.Dec.{eqb}
-use lib.IntN.{ℤ}
-use lib.ListN.{length, take, drop, length-take}
-use lib.Seq.{take-take, take-add}
-use borrow.Author.Tests.{le-ltb, eq-eqb, ne-eqb, eqb-true, eqb-false}
+use lib.Dec.{ltb, eqb}
+use lib.ListN.{length, take, drop, length-take, length-drop, length-append}
+use lib.Seq.{take-at, drop-at}
+use borrow.Author.Tests.{lt-ltb, eq-eqb, ne-eqb, eqb-true, eqb-false}
 use Rattle.model.specs.declared.Settings.{Settings}
-use Rattle.lists.specs.Tabulated.{written}
-use Rattle.model.specs.Causes as Causes
-use Rattle.model.specs.Causes.{_if_, firstOf}
-use Rattle.model.specs.Code.{Code, tripleCount, triples}
-use Rattle.model.specs.Records.{bitCount, checkCount, degree, indices, afterCheck, afterChecks, codeOf, covered, judge}
-use Rattle.model.specs.Calls.{wild, Lists, Decoded, decoder}
-use Rattle.model.specs.Frames.{judgeHeldHeader, judgeHeldCheck, judgeHeldChecks, settingsOf, judgeSettings, frameSize, costsOf, judgeWhole, judgeFrame, refusal, line, frameLine, frameLines, frames}
-use Rattle.model.specs.FrameClaims.{checkSize, checksSize, codeBytes, Room, readChecks, readCode, steps, program, ProgramIsFrames}
-use Rattle.model.proofs.Causes.{clear, only}
-use Rattle.model.proofs.Accepted.{record-sound, length-numbers}
-use Rattle.model.proofs.Frames.{check-held, settings-sound, frame-sound, length-costs, costs-left}
-use Rattle.model.proofs.FrameBytes.{degree-take, own-bytes}
-use Rattle.model.proofs.FrameCode.{held-code}
-use Rattle.model.proofs.FrameLines.{held-frame}
+use Rattle.model.specs.Causes.{_if_, firstOf, accepted}
+use Rattle.model.specs.Code.{Code}
+use Rattle.model.specs.Records.{twoBytes, bitCount, afterChecks, codeOf, covered, judge}
+use Rattle.model.specs.Frames.{judgeHeldHeader, judgeHeldCheck, judgeHeldChecks, settingsOf, judgeSettings, frameSize, judgeWhole, judgeFrame, refusal, frameLines, frames}
+use Rattle.model.specs.FrameClaims.{Begun, Coded, Set, frameText, goesOn}
+use Rattle.model.proofs.FrameBytes.{held-header-take, settings-take, fields-take, costs-take, frame-take}
+use Rattle.model.proofs.FrameCode.{header-more, bits-more, count-more, code-more, judged}
 
--- ---- the checks
-module _ (n t m : ℕ) (code s : List ℕ) where
-  refused : (c : ℕ) → judgeHeldCheck n t s ≡ suc c → readChecks n t (suc m) code s ≡ record { cause = suc c; code = code; rest = s }
-  unfolding readChecks
-  refused c h = rw (own-bytes s .check n t, h)
+-- ---- the code records
+pub header-refused : (s : List ℕ) (c : ℕ) → (c ≡ 0 → ⊥) → c ≡ judgeHeldHeader (take 6 s) → frames s ≡ refusal c
+unfolding frames
+header-refused s zero h e = absurd (h refl)
+header-refused s (suc c) h e = rw (← held-header-take 6 s (omega arith), ← e)
 
-  held : judgeHeldCheck n t s ≡ 0 → readChecks n t (suc m) code s ≡ readChecks n (t + tripleCount (indices s)) m (code ++ take (3 + 2 * degree s) s) (afterCheck s)
-  unfolding readChecks
-  held h =
-      let r = record-sound n s (check-held n t s h .sound) in
-      let d = degree s in
-      let size : checkSize s ≡ 3 + 2 * d = rw (le-ltb 32 d (r .most)) in
-      let count : d - 2 ≡ tripleCount (indices s) = omega (arith, r .least, length-numbers d (drop 3 s)) in
-      rw (own-bytes s .check n t, h, size, degree-take (3 + 2 * d) s (omega arith), take-take (3 + 2 * d) (3 + 2 * d) s (omega arith), count)
+module _ (left t : ℕ) (b s : List ℕ) (g : Begun left t b) where
+  abbrev later : List ℕ
+  later = afterChecks left s
 
-checks-cause : (n t m : ℕ) (code s : List ℕ) → readChecks n t m code s .cause ≡ judgeHeldChecks n t m s
-unfolding judgeHeldChecks readChecks
-checks-cause n t zero code s = refl
-checks-cause n t (suc m) code s = by (judgeHeldCheck n t s) refl (checks-cause n (t + tripleCount (indices s)) m (code ++ take (3 + 2 * degree s) s) (afterCheck s))
-  where
-    later : ℕ
-    later = judgeHeldChecks n (t + tripleCount (indices s)) m (afterCheck s)
+  abbrev cause : ℕ
+  cause = firstOf (judgeHeldChecks (bitCount b) t left s ∷ 8 if not (covered (codeOf (b ++ s))) ∷ judgeSettings later ∷ [])
 
-    by : (c : ℕ) → judgeHeldCheck n t s ≡ c → readChecks n (t + tripleCount (indices s)) m (code ++ take (3 + 2 * degree s) s) (afterCheck s) .cause ≡ later
-        → readChecks n t (suc m) code s .cause ≡ firstOf (judgeHeldCheck n t s ∷ later ∷ [])
-    by zero e ih = rw (held n t m code s e, e, ih) (sym (only later))
-    by (suc c) e ih = rw (refused n t m code s c e, e)
+  begun-frames : frames (b ++ s) ≡ accepted cause (frameLines (length (b ++ s)) (codeOf (b ++ s)) (settingsOf later) (drop 12 later)) (refusal cause)
+  unfolding frames
+  begun-frames = rw (header-more b s (g .header), bits-more b s (g .header), count-more b s (g .header), g .checks s, g .after s)
 
-checks-held : (n t m : ℕ) (code s : List ℕ) → judgeHeldChecks n t m s ≡ 0 → readChecks n t m code s ≡ record { cause = 0; code = code ++ take (checksSize m s) s; rest = afterChecks m s }
-unfolding judgeHeldChecks readChecks checksSize afterChecks
-checks-held n t zero code s h = rw (append-nil code)
-checks-held n t (suc m) code s h =
-    let more = t + tripleCount (indices s) in
-    let size = 3 + 2 * degree s in
-    let left = checksSize m (afterCheck s) in
-    let x = clear (judgeHeldCheck n t s ∷ judgeHeldChecks n more m (afterCheck s) ∷ []) h in
-    let seam : (code ++ take size s) ++ take left (afterCheck s) ≡ code ++ take (size + left) s = append-assoc code (take size s) (take left (afterCheck s)) ∙ ap (λ (r : List ℕ). code ++ r) (sym (take-add size left s)) in
-    held n t m code s (x .0) ∙ checks-held n more m (code ++ take size s) (afterCheck s) (x .1 .0) ∙ rw seam
+pub check-refused : (left t : ℕ) (b s : List ℕ) → Begun (suc left) t b → (c : ℕ) → (c ≡ 0 → ⊥) → c ≡ judgeHeldCheck (bitCount b) t s → frames (b ++ s) ≡ refusal c
+unfolding judgeHeldChecks
+check-refused left t b s g zero h e = absurd (h refl)
+check-refused left t b s g (suc c) h e = rw (begun-frames (suc left) t b s g, ← e)
+
+module _ (t : ℕ) (b : List ℕ) (g : Begun 0 t b) (s : List ℕ) where
+  abbrev next : ℕ
+  next = firstOf (judge b ∷ judgeSettings s ∷ [])
+
+  coded-frames : frames (b ++ s) ≡ accepted next (frameLines (length (b ++ s)) (codeOf b) (settingsOf s) (drop 12 s)) (refusal next)
+  unfolding judgeHeldChecks afterChecks
+  coded-frames = rw (begun-frames 0 t b s g, code-more t b g s, judged t b g)
+
+  pub code-refused : (c : ℕ) → (c ≡ 0 → ⊥) → c ≡ judge b → frames (b ++ s) ≡ refusal c
+  code-refused zero h e = absurd (h refl)
+  code-refused (suc c) h e = rw (coded-frames, ← e)
+
+-- ---- the settings record
+pub settings-refused : (t : ℕ) (b s : List ℕ) → Coded t b → (c : ℕ) → (c ≡ 0 → ⊥) → c ≡ judgeSettings (take 12 s) → frames (b ++ s) ≡ refusal c
+settings-refused t b s k zero h e = absurd (h refl)
+settings-refused t b s k (suc c) h e = rw (coded-frames t b (k .begun) s, k .sound, ← settings-take s, ← e)
+
+module _ (t : ℕ) (b r s : List ℕ) (k : Coded t b) (o : Set r) where
+  own : take 12 (r ++ s) ≡ r
+  own = take-at r s 12 (o .twelve)
+
+  set-frames : frames (b ++ (r ++ s)) ≡ frameLines (length (b ++ (r ++ s))) (codeOf b) (settingsOf r) s
+  set-frames =
+      let sound : judgeSettings (r ++ s) ≡ 0 = sym (settings-take (r ++ s)) ∙ rw own (o .sound) in
+      let fields : settingsOf (r ++ s) ≡ settingsOf r = sym (fields-take 12 (r ++ s) (omega arith)) ∙ rw own in
+      rw (coded-frames t b (k .begun) (r ++ s), k .sound, sound, fields, drop-at r s 12 (o .twelve))
 
 -- ---- the frames
+module _ (k : Code) (o : Settings) where
+  -- as many as the bytes that are left, or more, are enough
+  enough : (f g : ℕ) (s : List ℕ) → length s ≤ f → length s ≤ g → frameLines f k o s ≡ frameLines g k o s
+  unfolding frameLines
+  enough zero zero s x y = refl
+  enough zero (suc g) s x y = rw (eq-eqb (length s) 0 (omega arith))
+  enough (suc f) zero s x y = rw (eq-eqb (length s) 0 (omega arith))
+  enough (suc f) (suc g) s x y =
+      let l = length-drop (frameSize (k .bits)) s in
+      rw (enough f g (drop (frameSize (k .bits)) s) (omega arith) (omega arith))
+
+  -- one frame, and what follows it
+  first-frame : (s more : List ℕ) → frameLines (length s) k o (drop (frameSize (k .bits)) s) ≡ more
+      → frameLines (suc (length s)) k o s ≡ frameText k o s ++ cond (goesOn (k .bits) s) more []
+  unfolding frameLines
+  first-frame s more h = by (eqb (length s) 0) refl (eqb (judgeFrame (k .bits) s) 0) refl (eqb (judgeFrame (k .bits) s) 13) refl
+    where
+      by : (u : Bool) → eqb (length s) 0 ≡ u → (v : Bool) → eqb (judgeFrame (k .bits) s) 0 ≡ v → (w : Bool) → eqb (judgeFrame (k .bits) s) 13 ≡ w
+          → frameLines (suc (length s)) k o s ≡ frameText k o s ++ cond (goesOn (k .bits) s) more []
+      by true e v f w g = rw e
+      by false e true f w g = rw (e, f, h)
+      by false e false f true g = rw (e, f, g, h)
+      by false e false f false g = rw (e, f, g) (sym (append-nil (refusal (judgeFrame (k .bits) s))))
+
 -- nothing came exactly where nothing is left
 came-none : (j : ℕ) (s : List ℕ) → 1 ≤ j → eqb (length (take j s)) 0 ≡ eqb (length s) 0
 came-none j s h = by (eqb (length s) 0) refl
@@ -73,117 +100,35 @@ came-none j s h = by (eqb (length s) 0) refl
     by true e = eq-eqb (length (take j s)) 0 (omega (arith, eqb-true (length s) 0 e, length-take j s))
     by false e = ne-eqb (length (take j s)) 0 (λ z. eqb-false (length s) 0 e (omega (arith, z, length-take j s)))
 
-module _ (code : List ℕ) (o : Settings) (sound : judge code ≡ 0) (bits : codeOf code .bits ≤ 512) (few : triples (codeOf code) ≤ 1024) (within : wild o ≡ false) where
-  abbrev n : ℕ
-  n = codeOf code .bits
+pub text-take : (k : Code) (o : Settings) (s : List ℕ) → frameText k o (take (frameSize (k .bits)) s) ≡ frameText k o s
+text-take k o s = rw (came-none (frameSize (k .bits)) s (omega arith), frame-take (k .bits) s, costs-take (k .bits) s)
 
-  abbrev rest : List ℕ → List ℕ
-  rest s = drop (frameSize n) s
+pub goes-take : (n : ℕ) (s : List ℕ) → goesOn n (take (frameSize n) s) ≡ goesOn n s
+goes-take n s = rw (came-none (frameSize n) s (omega arith), frame-take n s)
 
-  -- a frame, whose line or refusal comes before the lines of the rest
-  module _ (most : ℕ) (costs : List ℤ) (l : Lists) (s : List ℕ) (r : Room l)
-      (ih : (costs : List ℤ) (l : Lists) → Room l → steps most n code o costs l (rest s) ≡ frameLines most (codeOf code) o (rest s)) where
-    abbrev c : ℕ
-    c = judgeFrame n s
+-- of an input that begins with an accepted code and accepted settings: what the bytes of its first frame make, then what an input with the frames after it makes
+pub frame-after-frame : (t : ℕ) (b r s : List ℕ) → Coded t b → Set r → let n = codeOf b .bits in let came = take (frameSize n) s in
+    frames (b ++ (r ++ s)) ≡ frameText (codeOf b) (settingsOf r) came ++ cond (goesOn n came) (frames (b ++ (r ++ drop (frameSize n) s))) []
+frame-after-frame t b r s k o =
+    let n = codeOf b .bits in
+    let d = drop (frameSize n) s in
+    let l = length-drop (frameSize n) s in
+    let whole = length-append b (r ++ s) in
+    let rest = length-append r s in
+    let whole' = length-append b (r ++ d) in
+    let rest' = length-append r d in
+    let more : frameLines (length s) (codeOf b) (settingsOf r) d ≡ frames (b ++ (r ++ d)) =
+    enough (codeOf b) (settingsOf r) (length s) (length (b ++ (r ++ d))) d (omega arith) (omega arith) ∙ sym (set-frames t b r d k o) in
+    set-frames t b r s k o ∙ enough (codeOf b) (settingsOf r) (length (b ++ (r ++ s))) (suc (length s)) s (omega arith) (omega arith)
+    ∙ first-frame (codeOf b) (settingsOf r) s (frames (b ++ (r ++ d))) more ∙ rw (← text-take (codeOf b) (settingsOf r) s, ← goes-take n s)
 
-    abbrev buffer : List ℤ
-    buffer = Causes.accepted (judgeWhole n s) (written (costsOf n s) costs) costs
-
-    abbrev d : Decoded
-    d = decoder code o (take n buffer) l
-
-    abbrev more : List ℕ
-    more = frameLines most (codeOf code) o (rest s)
-
-    costs-held : c ≡ 0 → take n buffer ≡ costsOf n s
-    costs-held h = costs-left n s costs buffer h refl
-
-    answered : c ≡ 0 → line (d .answer) (take n (d .lists .word)) ++ steps most n code o buffer (d .lists) (rest s) ≡ frameLine (codeOf code) o (costsOf n s) ++ more
-    answered h =
-        let f = held-frame code o (costsOf n s) l sound bits few within (length-costs n s) (frame-sound n s h .allowed) r in
-        rw (costs-held h) (rw (f .prints, ih buffer (decoder code o (costsOf n s) l .lists) (f .room)))
-
-    going-on : (t : Bool) → refusal c ++ cond t (steps most n code o buffer l (rest s)) [] ≡ cond t (refusal c ++ more) (refusal c)
-    going-on true = rw (ih buffer l r)
-    going-on false = append-nil (refusal c)
-
-    one-frame : (t : Bool) → eqb c 0 ≡ t
-        → cond t (line (d .answer) (take n (d .lists .word)) ++ steps most n code o buffer (d .lists) (rest s)) (refusal c ++ cond (eqb c 13) (steps most n code o buffer l (rest s)) [])
-        ≡ cond t (frameLine (codeOf code) o (costsOf n s) ++ more) (cond (eqb c 13) (refusal c ++ more) (refusal c))
-    one-frame true e = answered (eqb-true c 0 e)
-    one-frame false e = going-on (eqb c 13)
-
-  steps-are : (most : ℕ) (costs : List ℤ) (l : Lists) (s : List ℕ) → Room l → steps most n code o costs l s ≡ frameLines most (codeOf code) o s
-  unfolding steps frameLines
-  steps-are zero costs l s r = refl
-  steps-are (suc most) costs l s r =
-      let first = one-frame most costs l s r (λ e m q. steps-are most e m (rest s) q) (eqb (judgeFrame n s) 0) refl in
-      rw (came-none (frameSize n) s (omega arith), own-bytes s .frame n, own-bytes s .whole n, own-bytes s .costs n, first)
-
--- ---- the whole
-bits-of : (s : List ℕ) → codeOf s .bits ≡ bitCount s
-unfolding codeOf
-bits-of s = refl
-
-module _ (costs : List ℤ) (l : Lists) (room : Room l) (s : List ℕ) where
-  abbrev m : ℕ
-  m = checkCount s
-
-  abbrev settings : List ℕ
-  settings = afterChecks m (drop 6 s)
-
-  header-refused : (c : ℕ) → judgeHeldHeader s ≡ suc c → program costs l s ≡ frames s
-  unfolding program readCode frames
-  header-refused c h = rw (own-bytes s .header, h)
-
-  checks-refused : (c : ℕ) → judgeHeldHeader s ≡ 0 → judgeHeldChecks (bitCount s) 0 m (drop 6 s) ≡ suc c → program costs l s ≡ frames s
-  unfolding program readCode frames
-  checks-refused c h k = rw (own-bytes s .header, own-bytes s .bits, own-bytes s .checks, h, checks-cause (bitCount s) 0 m (take 6 s) (drop 6 s), k)
-
-  -- the code is held
-  module _ (h : judgeHeldHeader s ≡ 0) (k : judgeHeldChecks (bitCount s) 0 m (drop 6 s) ≡ 0) where
-    collected : readChecks (bitCount s) 0 m (take 6 s) (drop 6 s) ≡ record { cause = 0; code = codeBytes s; rest = settings }
-    collected = checks-held (bitCount s) 0 m (take 6 s) (drop 6 s) k ∙ rw (take-add 6 (checksSize m (drop 6 s)) s)
-
-    read : readCode s ≡ record { cause = 8 if not (covered (codeOf s)); code = codeBytes s; rest = settings }
-    unfolding readCode
-    read = rw (own-bytes s .header, own-bytes s .bits, own-bytes s .checks, h, collected, held-code s h k .judged, only (8 if not (covered (codeOf s))))
-
-    uncovered : covered (codeOf s) ≡ false → program costs l s ≡ frames s
-    unfolding program frames
-    uncovered e = rw (read, h, k, e)
-
-    settings-refused : (c : ℕ) → covered (codeOf s) ≡ true → judgeSettings settings ≡ suc c → program costs l s ≡ frames s
-    unfolding program frames
-    settings-refused c e j = rw (read, h, k, e, own-bytes settings .settings, j)
-
-    decoded : covered (codeOf s) ≡ true → judgeSettings settings ≡ 0 → program costs l s ≡ frames s
-    unfolding program frames
-    decoded e j =
-        let f = held-code s h k in
-        let sound : judge (codeBytes s) ≡ 0 = f .judged ∙ rw e in
-        let o = settingsOf settings in
-        let each = steps-are (codeBytes s) o sound (rw (f .code) (f .bits-most)) (rw (f .code) (f .triples-most)) (settings-sound settings j .within) (length s) costs l (drop 12 settings) room in
-        let after = drop 12 settings in
-        let bits = ap (λ (k : Code). k .bits) (f .code) ∙ bits-of s in
-        rw (read, h, k, e, own-bytes settings .settings, j, own-bytes settings .fields, own-bytes s .bits)
-        (ap (λ (n : ℕ). steps (length s) n (codeBytes s) o costs l after) (sym bits) ∙ each ∙ ap (λ (k : Code). frameLines (length s) k o after) (f .code))
-
-  sound-code : judgeHeldHeader s ≡ 0 → judgeHeldChecks (bitCount s) 0 m (drop 6 s) ≡ 0 → program costs l s ≡ frames s
-  sound-code h k = by (covered (codeOf s)) refl (judgeSettings settings) refl
-    where
-      by : (t : Bool) → covered (codeOf s) ≡ t → (c : ℕ) → judgeSettings settings ≡ c → program costs l s ≡ frames s
-      by false e c j = uncovered h k e
-      by true e zero j = decoded h k e j
-      by true e (suc c) j = settings-refused h k c e j
-
-  pub program-is : program costs l s ≡ frames s
-  program-is = by (judgeHeldHeader s) refl (judgeHeldChecks (bitCount s) 0 m (drop 6 s)) refl
-    where
-      by : (c : ℕ) → judgeHeldHeader s ≡ c → (d : ℕ) → judgeHeldChecks (bitCount s) 0 m (drop 6 s) ≡ d → program costs l s ≡ frames s
-      by (suc c) h d k = header-refused c h
-      by zero h (suc d) k = checks-refused d h k
-      by zero h zero k = sound-code h k
-
-pub program-is-frames : ProgramIsFrames
-program-is-frames = record { writes = program-is }
+-- a frame that is cut ends the program
+pub cut-ends : (n : ℕ) (b : List ℕ) → length b < frameSize n → goesOn n b ≡ false
+unfolding judgeFrame judgeWhole
+cut-ends n b h = by (ltb (length b) 2) refl (not (eqb (twoBytes b) 0x4C46)) refl (eqb (length b) 0)
+  where
+    by : (u : Bool) → ltb (length b) 2 ≡ u → (v : Bool) → not (eqb (twoBytes b) 0x4C46) ≡ v → (w : Bool) → (not w && (eqb (judgeFrame n b) 0 || eqb (judgeFrame n b) 13)) ≡ false
+    by u e v f true = refl
+    by true e v f false = rw e
+    by false e true f false = rw (e, f)
+    by false e false f false = rw (e, f, lt-ltb (length b) (frameSize n) h)

@@ -76,6 +76,3 @@ take-costs n s old = take-at (costsOf n s) (drop (length (costsOf n s)) old) n (
 -- what a sound frame leaves in a buffer of costs
 pub costs-left : (n : ℕ) (s : List ℕ) (old new : List ℤ) → judgeFrame n s ≡ 0 → new ≡ accepted (judgeWhole n s) (written (costsOf n s) old) old → take n new ≡ costsOf n s
 costs-left n s old new h e = rw (e, frame-sound n s h .whole) (take-costs n s old)
-
-pub left-allowed : (n : ℕ) (s : List ℕ) (old new : List ℤ) → judgeFrame n s ≡ 0 → new ≡ accepted (judgeWhole n s) (written (costsOf n s) old) old → some forbidden (take n new) ≡ false
-left-allowed n s old new h e = rw (costs-left n s old new h e) (frame-sound n s h .allowed)

@@ -1,39 +1,83 @@
--- `frames::main` meets its contract: the code lies within its array, and is accepted. Assumes nothing.
+-- `frames::main` is safe and ends: before each read the state holds what `session::advance` requires of it. Assumes nothing.
+use mathlib.Core.Path.{_≡_, sym}
 use native.Mathlib.Omega.{arith}
-use lib.ListN.{length-take}
+use lib.Seq.{length-take-le}
+use lib.ListN.{length, take}
 use borrow.Author.Needs.{needs}
+use Rattle.session.specs.Session.{Held}
+use Rattle.session.proofs.Turns.{start-held}
+use Rattle.session.proofs.Steps.{sent-held}
 use Rattle.frames.proofs.main.Statement.{statement}
 use Rattle.frames.proofs.main.Tie as tie
 
-slice-aggregate-read-code : tie.Need-slice-aggregate-read-code
-slice-aggregate-read-code c = search needs
+abbrev Inv-loop : tie.InvT-loop
+Inv-loop buffer₀ costs₀ triples₀ counts₀ sums₀ values₀ rows₀ word₀ out₀ state₀ turns₀ buffer costs triples counts sums values rows word out state turns =
+    (length buffer ≡ 10260) × Held state (take (state .at) buffer)
 
-read-code-requires : tie.Need-read-code-requires
-read-code-requires c κs = search needs
+abbrev μ-loop : tie.MeasureT-loop
+μ-loop buffer₀ costs₀ triples₀ counts₀ sums₀ values₀ rows₀ word₀ out₀ state₀ turns₀ buffer costs triples counts sums values rows word out state turns = turns
 
-array-share-prefix-code : tie.Need-array-share-prefix-code
-array-share-prefix-code c = search needs
+start-requires : tie.Need-start-requires Inv-loop μ-loop
+start-requires c κs = search needs
 
-slice-aggregate-decode : tie.Need-slice-aggregate-decode
-slice-aggregate-decode c = simp length-take (omega arith)
+loop-holds : tie.Need-loop-holds Inv-loop μ-loop
+loop-holds c = (search needs, rw (c .start .ensures) start-held)
 
-decode-requires : tie.Need-decode-requires
-decode-requires c κs = (c .before .before .before .read-code .ensures .2 (c .before .if1 .taken), search needs)
+slice-aggregate-read : tie.Need-slice-aggregate-read Inv-loop μ-loop
+slice-aggregate-read c = sym (c .before .before .before .before .loop .inv .0)
 
-returns : tie.Need-returns
+read-requires : tie.Need-read-requires Inv-loop μ-loop
+read-requires c κs = omega (arith, c .before .before .before .before .loop .inv .0, c .before .before .before .before .loop .inv .1 .fits)
+
+advance-requires : tie.Need-advance-requires Inv-loop μ-loop
+advance-requires c κs =
+    let e = c .before .before .before .before .before .before .before .before .before .before .read .ensures in
+    record { held = rw (e .1) (c .before .before .before .before .before .before .before .before .before .before .before .before .before .before .before .loop .inv .1); most = e .0 }
+
+array-share-prefix-out : tie.Need-array-share-prefix-out Inv-loop μ-loop
+array-share-prefix-out c = c .advance .ensures .within
+
+slice-aggregate-write-all : tie.Need-slice-aggregate-write-all Inv-loop μ-loop
+slice-aggregate-write-all c = sym (length-take-le _ _ (c .before .advance .ensures .within))
+
+write-all-requires : tie.Need-write-all-requires Inv-loop μ-loop
+write-all-requires c κs = search needs
+
+sent-requires : tie.Need-sent-requires Inv-loop μ-loop
+sent-requires c κs = search needs
+
+sub-turns : tie.Need-sub-turns Inv-loop μ-loop
+sub-turns c = omega (arith, c .before .before .before .before .before .before .before .before .before .before .before .before .before .before .before .before .before .before .loop-test .taken)
+
+loop-less : tie.Need-loop-less Inv-loop μ-loop
+loop-less c = omega (arith, c .before .before .before .before .before .before .before .before .before .before .before .before .before .before .before .before .before .before .loop-test .taken)
+
+loop-again : tie.Need-loop-again Inv-loop μ-loop
+loop-again c = (search needs, sent-held _ _ _ (c .before .write-all .result) (c .sent .ensures) (c .before .before .before .advance .ensures .stepped .holds))
+
+returns : tie.Need-returns Inv-loop μ-loop
 returns c = search needs
 
-returns-2 : tie.Need-returns-2
+returns-2 : tie.Need-returns-2 Inv-loop μ-loop
 returns-2 c = search needs
 
 pub main-spec : {M : Type 1} → statement M
 main-spec =
     tie.close
     (tie.spec
-    slice-aggregate-read-code
-    read-code-requires
-    array-share-prefix-code
-    slice-aggregate-decode
-    decode-requires
+    Inv-loop
+    μ-loop
+    start-requires
+    loop-holds
+    slice-aggregate-read
+    read-requires
+    advance-requires
+    array-share-prefix-out
+    slice-aggregate-write-all
+    write-all-requires
+    sent-requires
+    sub-turns
+    loop-less
+    loop-again
     returns
     returns-2)

@@ -1,0 +1,133 @@
+-- What the bytes of a frame lead to. Assumes nothing.
+use mathlib.Core.Path.{_≡_, refl, sym, ap, subst, _∙_}
+use mathlib.Core.Bool.{true, false, cond}
+use mathlib.Core.List.{List, [], _++_, append-assoc}
+use Prim.Native.Nat.{ℕ, _+_, _-_, _≤_}
+use native.Mathlib.Omega.{arith}
+use lib.Dec.{eqb}
+use lib.IntN.{ℤ}
+use lib.ListN.{length, take, drop, length-drop, take-append-drop}
+use lib.Seq.{length-take-le, take-take}
+use borrow.Author.Tests.{eq-eqb, ne-eqb}
+use Rattle.lists.specs.Entries.{some}
+use Rattle.model.specs.declared.Settings as Model
+use Rattle.model.specs.Code.{Code}
+use Rattle.model.specs.Records.{bitCount, codeOf}
+use Rattle.model.specs.Calls.{wild, forbidden, Lists, Answer, decoder}
+use Rattle.model.specs.Frames.{settingsOf, frameSize, costsOf, judgeFrame, refusal, line, frameLine, frames}
+use Rattle.model.specs.FrameClaims.{Coded, Set, HeldCode, Room, frameText, goesOn}
+use Rattle.model.proofs.Accepted.{bytes-sound}
+use Rattle.model.proofs.Frames.{settings-sound}
+use Rattle.model.proofs.FrameBytes.{two-take, drop-within}
+use Rattle.model.proofs.FrameCode.{code-held}
+use Rattle.model.proofs.FrameLines.{held-frame}
+use Rattle.model.proofs.FrameProgram.{frame-after-frame, cut-ends}
+use Rattle.session.specs.declared.State.{State}
+use Rattle.session.specs.declared.Part.the-variants.{Frame}
+use Rattle.session.specs.Session.{over, isOver, AtFrame, Due, Asked, Told}
+use Rattle.session.proofs.Steps.{over-held}
+use Rattle.session.proofs.Records.{counted}
+
+-- ---- the call of the decoder
+pub answered : (b : List ℕ) (o : Model.Settings) (costs : List ℤ) (before after : Lists) (a : Answer)
+    → HeldCode b → wild o ≡ false → length costs ≡ codeOf b .bits → some forbidden costs ≡ false → Room before
+    → record { answer = a; lists = after } ≡ decoder b o costs before → line a (take (length costs) (after .word)) ≡ frameLine (codeOf b) o costs
+answered b o costs before after a held within fits allowed room e =
+    rw fits (ap (λ d. line (d .answer) (take (codeOf b .bits) (d .lists .word))) e ∙ held-frame b o costs before held within fits allowed room .prints)
+
+-- ---- what is written, and whether the program goes on
+module _ (k : Code) (o : Model.Settings) (b : List ℕ) where
+  pub none : length b ≡ 0 → ([] ≡ frameText k o b) × (false ≡ goesOn (k .bits) b)
+  none h = let e = eq-eqb (length b) 0 h in (rw e, rw e)
+
+  module _ (h : length b ≡ 0 → ⊥) (c : ℕ) (e : c ≡ judgeFrame (k .bits) b) where
+    pub frame-refused : (c ≡ 0 → ⊥) → (refusal c ≡ frameText k o b) × (eqb c 13 ≡ goesOn (k .bits) b)
+    frame-refused z = let x = ne-eqb (length b) 0 h in let y = ne-eqb c 0 z in (rw (x, ← e, y), rw (x, ← e, y))
+
+    pub frame-sound : c ≡ 0 → (frameLine k o (costsOf (k .bits) b) ≡ frameText k o b) × (true ≡ goesOn (k .bits) b)
+    frame-sound z = let x = ne-eqb (length b) 0 h in let y = eq-eqb c 0 z in (rw (x, ← e, y), rw (x, ← e, y))
+
+pub bits-of : (b : List ℕ) → codeOf b .bits ≡ bitCount b
+unfolding codeOf
+bits-of b = refl
+
+pub code-long : (b : List ℕ) → HeldCode b → 6 ≤ length b
+code-long b h = bytes-sound b (h .sound) .header .room
+
+-- ---- the state
+module _ (buffer : List ℕ) (long : length buffer ≡ 10260) (st : State) (came : ℕ) (a : Asked st came buffer) (p : st .part ≡ Frame) where
+  -- the bytes that are kept: the code and the settings record; those that came
+  abbrev b : List ℕ
+  b = take (st .at) buffer
+
+  abbrev size : ℕ
+  size = st .at - 12
+
+  abbrev bytes : List ℕ
+  bytes = take came (drop (st .at) buffer)
+
+  abbrev due : AtFrame st b
+  due = subst (λ q. Due q st b) p (a .held .due)
+
+  pub behind : 12 ≤ st .at
+  behind = let l = length-drop size b in let k = a .held .kept in omega (arith, due .set .twelve)
+
+  code-is : take size b ≡ take size buffer
+  code-is = take-take size (st .at) buffer (omega arith)
+
+  set-is : drop size b ≡ take (st .at - size) (drop size buffer)
+  set-is = drop-within size (st .at) buffer (omega arith)
+
+  pub coded : Coded (st .triples) (take size buffer)
+  coded = rw code-is at (due .code)
+
+  pub set : Set (take (st .at - size) (drop size buffer))
+  set = rw set-is at (due .set)
+
+  pub held : HeldCode (take size buffer)
+  held = code-held (st .triples) (take size buffer) (coded .begun) (coded .sound)
+
+  pub within : wild (settingsOf (take (st .at - size) (drop size buffer))) ≡ false
+  within = settings-sound _ (set .sound) .within
+
+  abbrev code : List ℕ
+  code = take size buffer
+
+  abbrev r : List ℕ
+  r = take (st .at - size) (drop size buffer)
+
+  abbrev n : ℕ
+  n = codeOf code .bits
+
+  split : b ≡ code ++ r
+  split = rw (← code-is, ← set-is) (sym (take-append-drop size b))
+
+  want-is : st .want ≡ frameSize n
+  want-is =
+      let six : 6 ≤ size = omega (arith, code-long code held, length-take-le size buffer (omega (arith, a .held .fits))) in
+      let same : bitCount b ≡ bitCount code = two-take 2 (st .at) buffer (omega arith) ∙ sym (two-take 2 size buffer (omega arith)) in
+      due .want ∙ ap frameSize (same ∙ sym (bits-of code))
+
+  next : (s : List ℕ) → bytes ≡ take (st .want) s
+      → frames (b ++ s) ≡ frameText (codeOf code) (settingsOf r) bytes ++ cond (goesOn n bytes) (frames (b ++ drop (st .want) s)) []
+  next s e = rw (split, append-assoc code r s, append-assoc code r (drop (st .want) s), e, want-is) (frame-after-frame (st .triples) code r s coded set)
+
+  going : isOver (st .part) ≡ false
+  going = ap isOver p
+
+  module _ (w : ℕ) (out : List ℕ) (text : take w out ≡ frameText (codeOf code) (settingsOf r) bytes) (most : w ≤ length out) where
+    pub goes-on : true ≡ goesOn n bytes → Told buffer st came (record { state = st; written = w }) out
+    goes-on g = record {
+      stepped = record {
+        writes = λ s e. rw (going, text) (next s e ∙ rw (← g));
+        ends = λ h. (let z : _≡_ {A = ℕ} 0 1 = cc (g ∙ cut-ends n bytes (omega (arith, counted buffer long st came a, want-is))) in absurd (omega arith));
+        holds = a .held;
+      };
+      within = most;
+    }
+
+    pub stops : {after : State} → after ≡ over → false ≡ goesOn n bytes → Told buffer st came (record { state = after; written = w }) out
+    stops z g = record {
+      stepped = record { writes = λ s e. rw (going, text, z) (next s e ∙ rw (← g)); ends = λ h. rw z; holds = rw z (over-held buffer) };
+      within = most;
+    }

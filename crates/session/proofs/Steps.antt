@@ -1,0 +1,64 @@
+-- From one state to the next: a refusal, and bytes that are kept. Assumes nothing.
+use mathlib.Core.Path.{_≡_, refl, sym, ap}
+use mathlib.Core.Bool.{Bool, true, false, cond}
+use mathlib.Core.List.{List, _++_, append-nil, append-assoc}
+use Prim.Native.Nat.{ℕ, _+_}
+use native.Mathlib.Omega.{arith}
+use lib.ListN.{take, drop, take-append-drop}
+use lib.Seq.{take-add}
+use Rattle.model.specs.Frames.{refusal, frames}
+use Rattle.session.specs.declared.State.{State}
+use Rattle.session.specs.declared.Step.{Step}
+use Rattle.session.specs.declared.Part.the-variants.{Over}
+use Rattle.session.specs.Session.{over, isOver, Held, Asked, Told, Entered, Refused}
+
+pub over-held : (buffer : List ℕ) → Held over (take 0 buffer)
+over-held buffer = record { kept = refl; fits = omega arith; due = refl }
+
+module _ (buffer : List ℕ) (st : State) (came : ℕ) (going : isOver (st .part) ≡ false) where
+  abbrev kept : List ℕ
+  kept = take (st .at) buffer
+
+  -- the bytes that came
+  abbrev pub bytes : List ℕ
+  bytes = take came (drop (st .at) buffer)
+
+  pub refused : {c : ℕ} {r : Step} {out : List ℕ} → Refused c r out → ((s : List ℕ) → bytes ≡ take (st .want) s → frames (kept ++ s) ≡ refusal c) → Told buffer st came r out
+  refused {c} f h = record {
+    stepped = record {
+      writes = λ s e. rw (going, f .ends, f .line, h s e) (sym (append-nil (refusal c)));
+      ends = λ _. rw (f .ends);
+      holds = rw (f .ends) (over-held buffer);
+    };
+    within = f .within;
+  }
+
+  more : (s : List ℕ) → bytes ≡ take (st .want) s → kept ++ s ≡ take (st .at + came) buffer ++ drop (st .want) s
+  more s e = sym (rw (take-add (st .at) came buffer, e, append-assoc kept (take (st .want) s) (drop (st .want) s), take-append-drop (st .want) s))
+
+  pub kept-too : {r : Step} {out : List ℕ} → came ≡ st .want → Entered buffer (st .at + came) r out → Told buffer st came r out
+  kept-too all f = record {
+    stepped = record {
+      writes = λ s e. rw (going, more s e) (f .writes (drop (st .want) s));
+      ends = λ h. absurd (omega arith);
+      holds = f .holds;
+    };
+    within = f .within;
+  }
+
+module _ (buffer : List ℕ) (at : ℕ) where
+  pub entered : (after : State) (out : List ℕ) → isOver (after .part) ≡ false → after .at ≡ at → Held after (take (after .at) buffer) → Entered buffer at (record { state = after; written = 0 }) out
+  entered after out g e h = record { writes = λ s. rw (g, e); holds = h; within = omega arith }
+
+  pub entry-refused : {c : ℕ} {r : Step} {out : List ℕ} → Refused c r out → ((s : List ℕ) → frames (take at buffer ++ s) ≡ refusal c) → Entered buffer at r out
+  entry-refused {c} f h = record { writes = λ s. rw (f .ends, f .line, h s) (sym (append-nil (refusal c))); holds = rw (f .ends) (over-held buffer); within = f .within }
+
+-- the program is over
+pub stays : (buffer : List ℕ) (st : State) (came : ℕ) (out : List ℕ) → Asked st came buffer → st .part ≡ Over → Told buffer st came (record { state = st; written = 0 }) out
+stays buffer st came out a p =
+    let z : isOver (st .part) ≡ true = ap isOver p in
+    record { stepped = record { writes = λ s e. rw z; ends = λ h. z; holds = a .held }; within = omega arith }
+
+pub sent-held : (buffer : List ℕ) (st after : State) (whole : Bool) → after ≡ cond whole st over → Held st (take (st .at) buffer) → Held after (take (after .at) buffer)
+sent-held buffer st after true e h = rw e h
+sent-held buffer st after false e h = rw e (over-held buffer)

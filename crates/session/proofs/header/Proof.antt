@@ -1,0 +1,47 @@
+-- `session::header` meets its contract: a refusal, or a header that is kept. Assumes nothing.
+use mathlib.Core.Path.{_≡_, sym, _∙_}
+use native.Mathlib.Omega.{arith}
+use lib.ListN.{length}
+use lib.Seq.{length-take-le}
+use Rattle.session.proofs.Records.{header-refused, header-kept}
+use borrow.Author.Needs.{needs}
+use Rattle.session.proofs.header.Statement.{statement}
+use Rattle.session.proofs.header.Tie as tie
+
+long : (c : tie.After-bytes) → length (c .before .args .buffer .now) ≡ 10260
+long c = search needs
+
+slice-aggregate-judge-header : tie.Need-slice-aggregate-judge-header
+slice-aggregate-judge-header c = let a = c .before .before .pre .0 in sym (length-take-le _ _ (omega (arith, a .most, a .held .fits)))
+
+judge-header-requires : tie.Need-judge-header-requires
+judge-header-requires c κs = search needs
+
+refuse-requires : tie.Need-refuse-requires
+refuse-requires c κs = search needs
+
+returns : tie.Need-returns
+returns c =
+    let q = c .before .before .before .before .before in
+    let s = q .before in
+    header-refused _ (long q) _ _ (s .pre .0) (s .pre .1) (c .before .before .before .judge-header .ensures) (c .before .before .if1 .taken) (c .refuse .ensures)
+
+two-bytes-requires : tie.Need-two-bytes-requires
+two-bytes-requires c κs = search needs
+
+returns-2 : tie.Need-returns-2
+returns-2 c =
+    let q = c .before .before .before .before in
+    let s = q .before in
+    header-kept _ (long q) _ _ (s .pre .0) (s .pre .1) _ _ (sym (c .before .before .judge-header .ensures) ∙ c .before .if1 .left) (c .two-bytes .ensures .0)
+
+pub header-spec : {M : Type 1} → statement M
+header-spec =
+    tie.close
+    (tie.spec
+    slice-aggregate-judge-header
+    judge-header-requires
+    refuse-requires
+    returns
+    two-bytes-requires
+    returns-2)

@@ -1,0 +1,51 @@
+-- `session::keep` meets its contract: the next check, a refusal, or the settings. Assumes nothing.
+use mathlib.Core.Path.{_≡_, sym, _∙_}
+use native.Mathlib.Omega.{arith}
+use lib.ListN.{length}
+use lib.Seq.{length-take-le}
+use Rattle.session.proofs.Records.{next-check, code-refused, code-kept}
+use borrow.Author.Needs.{needs}
+use Rattle.session.proofs.keep.Statement.{statement}
+use Rattle.session.proofs.keep.Tie as tie
+
+long : (c : tie.After-bytes) → length (c .before .args .buffer .now) ≡ 10260
+long c = search needs
+
+returns : tie.Need-returns
+returns c = let s = c .before .before in next-check _ (long (c .before)) _ _ _ (s .pre .0) (s .pre .1) (c .if1 .taken) _
+
+slice-aggregate-judge-code : tie.Need-slice-aggregate-judge-code
+slice-aggregate-judge-code c = sym (length-take-le _ _ (omega (arith, c .before .before .before .pre .1)))
+
+judge-code-requires : tie.Need-judge-code-requires
+judge-code-requires c κs = search needs
+
+refuse-requires : tie.Need-refuse-requires
+refuse-requires c κs = search needs
+
+returns-2 : tie.Need-returns-2
+returns-2 c =
+    let j = c .before .before .before in
+    let e = j .before .before in
+    let q = e .before in
+    let s = q .before in
+    code-refused _ (long q) _ _ _ (s .pre .0) (s .pre .1) (e .if1 .left) (j .judge-code .ensures) (c .before .before .if2 .taken) (c .refuse .ensures)
+
+returns-3 : tie.Need-returns-3
+returns-3 c =
+    let j = c .before in
+    let e = j .before .before in
+    let q = e .before in
+    let s = q .before in
+    code-kept _ (long q) _ _ _ (s .pre .0) (s .pre .1) (e .if1 .left) (sym (j .judge-code .ensures) ∙ c .if2 .left) _
+
+pub keep-spec : {M : Type 1} → statement M
+keep-spec =
+    tie.close
+    (tie.spec
+    returns
+    slice-aggregate-judge-code
+    judge-code-requires
+    refuse-requires
+    returns-2
+    returns-3)

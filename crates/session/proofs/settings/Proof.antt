@@ -1,0 +1,78 @@
+-- `session::settings` meets its contract: a refusal, or settings that are kept. Assumes nothing.
+use mathlib.Core.Path.{_≡_, sym, _∙_}
+use Prim.Native.Nat.{_+_, _-_}
+use native.Mathlib.Omega.{arith}
+use lib.ListN.{length, take, drop}
+use Rattle.model.specs.Frames.{judgeSettings}
+use Rattle.session.proofs.Records.{settings-refused, settings-kept}
+use borrow.Author.Needs.{needs}
+use Rattle.session.proofs.settings.Statement.{statement}
+use Rattle.session.proofs.settings.Tie as tie
+
+long : (c : tie.After-bytes) → length (c .before .args .buffer .now) ≡ 10260
+long c = search needs
+
+judged : (j : tie.After-judge-settings)
+    → let s = j .before .before .before .args in
+    j .judge-settings .result ≡ judgeSettings (take (s .came) (drop (s .state .at) (s .buffer .now)))
+judged j =
+    let s = j .before .before .before .args in
+    let size : s .state .at + s .came - s .state .at ≡ s .came = omega arith in
+    j .judge-settings .ensures ∙ rw size
+
+add-end : tie.Need-add-end
+add-end c = search needs
+
+sub-judge-settings : tie.Need-sub-judge-settings
+sub-judge-settings c = search needs
+
+part-judge-settings-start : tie.Need-part-judge-settings-start
+part-judge-settings-start c = search needs
+
+part-judge-settings-end : tie.Need-part-judge-settings-end
+part-judge-settings-end c = search needs
+
+judge-settings-requires : tie.Need-judge-settings-requires
+judge-settings-requires c κs = search needs
+
+refuse-requires : tie.Need-refuse-requires
+refuse-requires c κs = search needs
+
+returns : tie.Need-returns
+returns c =
+    let j = c .before .before .before in
+    let q = j .before .before in
+    let s = q .before in
+    settings-refused _ (long q) _ _ (s .pre .0) (s .pre .1) (judged j) (c .before .before .if1 .taken) (c .refuse .ensures)
+
+two-bytes-requires : tie.Need-two-bytes-requires
+two-bytes-requires c κs = search needs
+
+mul-t13 : tie.Need-mul-t13
+mul-t13 c = search needs
+
+add-t19 : tie.Need-add-t19
+add-t19 c = search needs
+
+returns-2 : tie.Need-returns-2
+returns-2 c =
+    let j = c .before .before in
+    let q = j .before .before in
+    let s = q .before in
+    settings-kept _ (long q) _ _ (s .pre .0) (s .pre .1) _ _ (sym (judged j) ∙ c .before .if1 .left) (c .two-bytes .ensures .0)
+
+pub settings-spec : {M : Type 1} → statement M
+settings-spec =
+    tie.close
+    (tie.spec
+    add-end
+    sub-judge-settings
+    part-judge-settings-start
+    part-judge-settings-end
+    judge-settings-requires
+    refuse-requires
+    returns
+    two-bytes-requires
+    mul-t13
+    add-t19
+    returns-2)
