@@ -29,7 +29,7 @@ returns c =
     let line = c .line .ensures in
     let d = c .before .before .before .before .before in
     let s = c .before .before .before .before .before .before .before .before .before .before .before .before .before in
-    (lent line ∙ answered _ _ _ _ _ _ (s .pre .0) (s .pre .1) (s .pre .2) (s .pre .3) (room (d .before)) (d .decode .ensures), counted line .0)
+    (lent line ∙ answered _ _ _ _ _ _ (s .pre .0) (s .pre .1) (s .pre .2) (s .pre .3) (room (d .before)) (d .decode .ensures .0 .equation), counted line .0)
 
 pub answer-spec : {M : Type 1} → statement M
 answer-spec = tie.close (tie.spec decode-requires slice-aggregate-line line-requires returns)

@@ -1,7 +1,6 @@
 -- `stream::judge_code` meets its contract: the reader's number. Assumes nothing.
-use mathlib.Core.Path.{sym, ap, _∙_}
+use mathlib.Core.Path.{sym}
 use borrow.Author.Needs.{needs}
-use Rattle.model.specs.Calls.{readingTold}
 use Rattle.records.proofs.Answers.{told-code, told-refused}
 use Rattle.stream.proofs.judge_code.Statement.{statement}
 use Rattle.stream.proofs.judge_code.Tie as tie
@@ -17,14 +16,13 @@ enum-known-reading-2 c = search needs
 
 returns : tie.Need-returns
 returns c =
-    let s = c .before .before .before .before .before .args .code .now in
-    sym (told-refused s (c .before .reading .given .0 .0) (ap readingTold (sym (c .before .reading .given .1)) ∙ c .before .before .before .read .ensures) .0)
+    let g = c .before .reading .given in
+    sym (told-refused _ (g .0 .0) _ (g .1) (c .before .before .before .read .ensures) .0)
 
 returns-2 : tie.Need-returns-2
 returns-2 c =
-    let s = c .before .before .before .before .before .args .code .now in
     let g = c .before .reading2 .given in
-    sym (told-code s (g .0 .0) (g .0 .1 .0) (g .0 .1 .1 .0) (ap readingTold (sym (g .1)) ∙ c .before .before .before .read .ensures) .judged)
+    sym (told-code _ (g .0 .0) (g .0 .1 .0) (g .0 .1 .1 .0) _ (g .1) (c .before .before .before .read .ensures) .judged)
 
 pub judge-code-spec : {M : Type 1} → statement M
 judge-code-spec = tie.close (tie.spec read-requires enum-known-reading enum-known-reading-2 returns returns-2)
