@@ -113,7 +113,9 @@ fn write_auxiliaries(s: &[u8], next: usize, point: &mut [u8])
     requires { ⌜ SoundCheck next (indices (now s)) ⌝ }
     requires { ⌜ next ≤ 12288 ⌝ }
     requires { ⌜ next + turns (indices (now s)) ≤ length (now point) ⌝ }
-    ensures { λ _. ⌜ now (point .exit) ≡ points.extend (queue (turns (indices (now (s .entry)))) (indices (now (s .entry))) next) (take next (now (point .entry))) ++ drop (next + turns (indices (now (s .entry)))) (now (point .entry)) ⌝ }
+    ensures { λ _. ⌜ now (point .exit)
+        ≡ points.extend (queue (turns (indices (now (s .entry)))) (indices (now (s .entry))) next) (take next (now (point .entry)))
+        ++ drop (next + turns (indices (now (s .entry)))) (now (point .entry)) ⌝ }
 {
     let d = records::degree(s);
     for t in 0..d - 3 {

@@ -20,7 +20,8 @@ lane s t k = tab 4 (λ r. row s (t + r) k)
 -- l with four fours, turned, in place of its own from triple t on
 abbrev pub stored : List ℤ → ℕ → List (List ℤ) → List ℤ
 stored l t q =
-    sets (sets (sets (sets l (4 * t) (tab 4 (λ k. entry q k 0))) (4 * (t + 1)) (tab 4 (λ k. entry q k 1))) (4 * (t + 2)) (tab 4 (λ k. entry q k 2))) (4 * (t + 3)) (tab 4 (λ k. entry q k 3))
+    sets (sets (sets (sets l (4 * t) (tab 4 (λ k. entry q k 0))) (4 * (t + 1)) (tab 4 (λ k. entry q k 1)))
+    (4 * (t + 2)) (tab 4 (λ k. entry q k 2))) (4 * (t + 3)) (tab 4 (λ k. entry q k 3))
 
 -- the first triples, as many as are over when T are put in fours, keep their places; after them entry i of a four stands where its turned one does
 unfoldable pub place : ℕ → ℕ → ℕ

@@ -79,7 +79,9 @@ fn load_all(rows: &[i32], t: usize) -> [[i32; 4]; 4]
 
 fn store_all(rows: &mut [i32], t: usize, q: [[i32; 4]; 4])
     requires { ⌜ (t ≤ 8188) × (4 * t + 15 < length (now rows)) × ((k j : ℕ) → natAbs (entry q k j) ≤ 131072000) ⌝ }
-    ensures { λ _. ⌜ now (rows .exit) ≡ sets (sets (sets (sets (now (rows .entry)) (4 * t) (tab 4 (entry q 0))) (4 * (t + 1)) (tab 4 (entry q 1))) (4 * (t + 2)) (tab 4 (entry q 2))) (4 * (t + 3)) (tab 4 (entry q 3)) ⌝ }
+    ensures { λ _. ⌜ now (rows .exit)
+        ≡ sets (sets (sets (sets (now (rows .entry)) (4 * t) (tab 4 (entry q 0))) (4 * (t + 1)) (tab 4 (entry q 1)))
+        (4 * (t + 2)) (tab 4 (entry q 2))) (4 * (t + 3)) (tab 4 (entry q 3)) ⌝ }
 {
     store(rows, t, q[0]);
     store(rows, t + 1, q[1]);

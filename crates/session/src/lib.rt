@@ -232,7 +232,8 @@ fn answer(
     out: &mut [u8; 640],
 ) -> usize
     requires { ⌜ HeldCode (now code) × (wild settings ≡ false) × (length (now costs) ≡ codeOf (now code) .bits) × (some forbidden (now costs) ≡ false) ⌝ }
-    ensures { λ r. ⌜ (take r (now (out .exit)) ≡ Frames.frameLine (codeOf (now (code .entry))) settings (now (costs .entry))) × (r ≤ length (now (out .exit))) ⌝ }
+    ensures { λ r. ⌜ (take r (now (out .exit)) ≡ Frames.frameLine (codeOf (now (code .entry))) settings (now (costs .entry)))
+        × (r ≤ length (now (out .exit))) ⌝ }
 {
     let decoding = decoder::decode(
         code,

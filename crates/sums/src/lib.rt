@@ -109,7 +109,8 @@ fn give_group(
     requires { ⌜ ((i : ℕ) → i < n → (natAbs (at (now x) i) ≤ 524288000) × (natAbs (at (now y) i) ≤ 524288000) × (natAbs (at (now z) i) ≤ 524288000)) ⌝ }
     requires { ⌜ ((i : ℕ) → i < length (now triples) → getD (now triples) i 0 < length (now sums)) × ((v : ℕ) → natAbs (at (now sums) v) ≤ 2 ^ 58) ⌝ }
     ensures { λ _. ⌜ now (sums .exit) ≡ tab (length (now (sums .entry))) (λ u. at (now (sums .entry)) u
-        +ℤ sumℤ n (λ i. sumℤ 3 (λ p. entry (now (x .entry) ∷ now (y .entry) ∷ now (z .entry) ∷ []) p i when eqb (member (now (triples .entry)) (t + i) p) u))) ⌝ }
+        +ℤ sumℤ n (λ i. sumℤ 3 (λ p.
+        entry (now (x .entry) ∷ now (y .entry) ∷ now (z .entry) ∷ []) p i when eqb (member (now (triples .entry)) (t + i) p) u))) ⌝ }
 {
     let mut i = 0;
     while i < n {
