@@ -96,7 +96,8 @@ fn begin(letter: u8, ending: Ending, out: &mut [u8]) -> usize
 // The line of an answer with a place.
 fn place_line(letter: u8, place: usize, ending: Ending, out: &mut [u8]) -> usize
     requires { ⌜ 128 ≤ length (now out) ⌝ }
-    ensures { λ r. ⌜ Appended 0 (Frames.opening letter (ending .k) (ending .settled) ++ (Frames.decimal place ++ (10 ∷ []))) (now (out .entry)) (now (out .exit)) r ⌝ }
+    ensures { λ r. ⌜ Appended 0 (Frames.opening letter (ending .k) (ending .settled) ++ (Frames.decimal place ++ (10 ∷ [])))
+        (now (out .entry)) (now (out .exit)) r ⌝ }
 {
     let next = begin(letter, ending, out);
     put_field(place, b'\n', out, next)
@@ -105,7 +106,8 @@ fn place_line(letter: u8, place: usize, ending: Ending, out: &mut [u8]) -> usize
 // The line of a word.
 fn word_line(word: &[u8], ending: Ending, out: &mut [u8]) -> usize
     requires { ⌜ 128 + length (now word) ≤ length (now out) ⌝ }
-    ensures { λ r. ⌜ Appended 0 (Frames.opening 87 (ending .k) (ending .settled) ++ (map Frames.glyph (now (word .entry)) ++ (10 ∷ []))) (now (out .entry)) (now (out .exit)) r ⌝ }
+    ensures { λ r. ⌜ Appended 0 (Frames.opening 87 (ending .k) (ending .settled) ++ (map Frames.glyph (now (word .entry)) ++ (10 ∷ [])))
+        (now (out .entry)) (now (out .exit)) r ⌝ }
 {
     let next = begin(b'W', ending, out);
     let last = put_bits(word, out, next);
@@ -115,7 +117,9 @@ fn word_line(word: &[u8], ending: Ending, out: &mut [u8]) -> usize
 // The line of an answer, by its number.
 fn answer_line(number: u32, place: usize, ending: Ending, word: &[u8], out: &mut [u8]) -> usize
     requires { ⌜ 128 + length (now word) ≤ length (now out) ⌝ }
-    ensures { λ r. ⌜ Appended 0 (Frames.line (record { number = number; place = place; k = ending .k; settled = ending .settled }) (now (word .entry))) (now (out .entry)) (now (out .exit)) r ⌝ }
+    ensures { λ r. ⌜ Appended 0
+        (Frames.line (record { number = number; place = place; k = ending .k; settled = ending .settled }) (now (word .entry)))
+        (now (out .entry)) (now (out .exit)) r ⌝ }
 {
     if number == 0 {
         return word_line(word, ending, out);

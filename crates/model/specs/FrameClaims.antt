@@ -1,4 +1,5 @@
--- The frame program between two reads: what the bytes are that it keeps, and what it writes for the bytes of a frame. Contracts of `session` cite these. Definitions only.
+-- The frame program between two reads: what the bytes are that it keeps, and what it writes for the bytes of a frame, as contracts of `session` cite it.
+-- Definitions only.
 use mathlib.Core.Bool.{Bool, cond, not, _&&_, _||_}
 use mathlib.Core.List.{List, [], _++_}
 use mathlib.Core.Path.{_≡_}
@@ -68,8 +69,8 @@ pub record Room (l : Lists) : Type 0 where
   pub rows : 4096 ≤ length (l .rows)
   pub word : 512 ≤ length (l .word)
 
--- of an accepted code b, accepted settings and a sound frame: the decoder refuses nothing, so that the frame's line, from its answer and the first n entries of the
--- word list, whatever stood there, is the definition's
+-- of an accepted code b, accepted settings and a sound frame: the decoder refuses nothing, so that the frame's line, from its answer and the first n entries
+-- of the word list, whatever stood there, is the definition's
 pub record HeldFrame (b : List ℕ) (o : Settings) (costs : List ℤ) (l : Lists) : Type 0 where
   pub accepted : decoderCause b o costs l ≡ 0
   pub prints : line (decoder b o costs l .answer) (take (codeOf b .bits) (decoder b o costs l .lists .word)) ≡ frameLine (codeOf b) o costs
