@@ -117,7 +117,8 @@ fn word_line(word: &[u8], ending: Ending, out: &mut [u8]) -> usize
 // The line of an answer, by its number.
 fn answer_line(number: u32, place: usize, ending: Ending, word: &[u8], out: &mut [u8]) -> usize
     requires { ⌜ 128 + length (now word) ≤ length (now out) ⌝ }
-    ensures { λ r. ⌜ Appended 0 (Frames.line (record { number = number; place = place; k = ending .k; settled = ending .settled }) (now (word .entry)))
+    ensures { λ r. ⌜ Appended 0
+        (Frames.line (record { number = number; place = place; k = ending .k; settled = ending .settled }) (now (word .entry)))
         (now (out .entry)) (now (out .exit)) r ⌝ }
 {
     if number == 0 {

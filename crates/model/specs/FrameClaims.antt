@@ -1,4 +1,4 @@
--- The frame program between two reads: what the bytes are that it keeps, and what it writes for the bytes of a frame. Contracts of `session` cite these.
+-- The frame program between two reads: what the bytes are that it keeps, and what it writes for the bytes of a frame, as contracts of `session` cite it.
 -- Definitions only.
 use mathlib.Core.Bool.{Bool, cond, not, _&&_, _||_}
 use mathlib.Core.List.{List, [], _++_}

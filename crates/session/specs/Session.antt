@@ -29,8 +29,8 @@ isOver Over = true
 
 -- ---- what a state means
 
--- what is yet to be written, b being the bytes that are kept and s the input from there on: what the program writes for an input of those bytes and s,
--- since each frame that was answered is gone and left no trace
+-- what is yet to be written, b being the bytes that are kept and s the input from there on: what is written for an input of b and s. A frame that was answered
+-- is not kept.
 abbrev pub toWrite : State → List ℕ → List ℕ → List ℕ
 toWrite st b s = cond (isOver (st .part)) [] (frames (b ++ s))
 
@@ -96,8 +96,8 @@ pub record Refused (cause : ℕ) (r : Step) (out : List ℕ) : Type 0 where
 
 -- ---- the loop
 
--- after n turns on the input s: the state, the bytes that are kept, the input that is left, and all that was written. A turn reads behind the bytes that
--- are kept and leaves those as they are; what comes is the next bytes of the input; a write is whole.
+-- after n turns on the input s: the state, the bytes that are kept, the input that is left, and all that was written. A turn reads behind the bytes that are
+-- kept and leaves those as they are; what comes is the next bytes of the input; a write is whole.
 pub data Turns (s : List ℕ) : ℕ → State → List ℕ → List ℕ → List ℕ → Type 0 where
   none : Turns s 0 start [] s []
   turn : {n : ℕ} {st : State} {b rest out : List ℕ} → Turns s n st b rest out → 0 < st .want

@@ -1,7 +1,7 @@
 // The frame program (document 01, 'The frame program') between a read and a write: a state, and what follows when the bytes that it asks for came.
 ghost use mathlib.Core.Path.{_≡_};
 ghost use mathlib.Core.Bool.{false, cond};
-ghost use Prim.Native.Nat.{_+_, _≤_};
+ghost use Prim.Native.Nat.{_≤_};
 ghost use lib.ListN.{length, take};
 ghost use Rattle.lists.specs.Entries.{some};
 ghost use Rattle.model.specs.Records.{codeOf};
@@ -231,7 +231,8 @@ fn answer(
     word: &mut [u8; 512],
     out: &mut [u8; 640],
 ) -> usize
-    requires { ⌜ HeldCode (now code) × (wild settings ≡ false) × (length (now costs) ≡ codeOf (now code) .bits) × (some forbidden (now costs) ≡ false) ⌝ }
+    requires { ⌜ HeldCode (now code) × (wild settings ≡ false)
+        × (length (now costs) ≡ codeOf (now code) .bits) × (some forbidden (now costs) ≡ false) ⌝ }
     ensures { λ r. ⌜ (take r (now (out .exit)) ≡ Frames.frameLine (codeOf (now (code .entry))) settings (now (costs .entry)))
         × (r ≤ length (now (out .exit))) ⌝ }
 {

@@ -23,6 +23,11 @@ impl Compiled {
             program: env::var_os("WIDAGBE_FRAMES").map_or_else(default, PathBuf::from),
         }
     }
+
+    /// The frame program's file.
+    pub fn program(&self) -> &Path {
+        &self.program
+    }
 }
 
 impl Default for Compiled {

@@ -24,7 +24,7 @@ returns c =
 judged : (f : tie.After-read-frame)
     → let a = f .before .before .before .before .before .before .args in
     f .read-frame .result ≡ judgeFrame (codeOf (a .code .now) .bits) (a .bytes .now)
-judged f = f .read-frame .ensures .0 ∙ rw (bits (f .before .before))
+judged f = f .read-frame .ensures .0 ∙ ap (λ n. judgeFrame n (f .before .before .before .before .before .before .args .bytes .now)) (bits (f .before .before))
 
 two-bytes-requires : tie.Need-two-bytes-requires
 two-bytes-requires c κs = omega (arith, code-long _ (c .before .before .before .pre .0))
