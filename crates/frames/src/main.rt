@@ -1,4 +1,5 @@
 // The frame program (document 01): a turn is one read, one call and one write. What is read, what is written and when the program is over is told by `session`.
+// Not proved, but read and tested: that `advance` is handed the bytes that come from standard input, and that what it tells goes to standard output.
 ghost use mathlib.Core.Path.{_≡_};
 ghost use Prim.Native.Nat.{_+_, _≤_};
 ghost use lib.ListN.{length, take};
