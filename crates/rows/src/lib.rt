@@ -69,12 +69,12 @@ fn signed(r: usize, p: usize, x: i32) -> i32
     if SIGNS[r][p] < 0 { -x } else { x }
 }
 
-// What rows of sizes a, b, c and d give the variable at position p.
+// What rows of sizes a, b, c and d give the variable at position p. Added in this order the compiler keeps a register more for the sums.
 fn share(p: usize, a: i32, b: i32, c: i32, d: i32) -> i32
     requires { ⌜ (p < 3) × (natAbs a ≤ 131072000) × (natAbs b ≤ 131072000) × (natAbs c ≤ 131072000) × (natAbs d ≤ 131072000) ⌝ }
     ensures { λ z. ⌜ z ≡ sign 0 p *ℤ a +ℤ sign 1 p *ℤ b +ℤ sign 2 p *ℤ c +ℤ sign 3 p *ℤ d ⌝ }
 {
-    signed(0, p, a) + signed(1, p, b) + signed(2, p, c) + signed(3, p, d)
+    signed(3, p, d) + signed(2, p, c) + signed(1, p, b) + signed(0, p, a)
 }
 
 // What the four rows give each of the three variables.

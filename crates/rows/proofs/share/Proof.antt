@@ -7,6 +7,7 @@ use lib.IntN.{ℤ, natAbs, _+ℤ_, _*ℤ_}
 use lib.Signed.{mag}
 use mir.Syntax.{w32}
 use mir.Val.{hbits}
+use Rattle.integers.proofs.Linear.{split, toℕ}
 use Rattle.integers.proofs.Machine.{Worth, fits, stored, local, held, plus}
 use Rattle.model.specs.Iteration.{sign}
 use Rattle.model.proofs.Rows.{signed-abs}
@@ -32,25 +33,28 @@ given s r x z h k f e =
     local w32 131072000 f (e ∙ ap (λ (y : ℤ). sign r (s .args .p) *ℤ y) (held w32 x 131072000 tt k .is)) (omega (arith, signed-abs r (s .args .p) x h (s .pre .0)))
 
 two : (c : tie.After-signed2) → let s = c .before .before in let p = s .args .p in
-    Worth (raw (c .before .signed .result) +ℤ raw (c .signed2 .result)) (sign 0 p *ℤ s .args .a +ℤ sign 1 p *ℤ s .args .b) 262144000
+    Worth (raw (c .before .signed .result) +ℤ raw (c .signed2 .result)) (sign 3 p *ℤ s .args .d +ℤ sign 2 p *ℤ s .args .c) 262144000
 two c =
     let s = c .before .before in
-    plus (given s 0 (s .args .a) _ (omega arith) (s .pre .1) (c .before .signed .ok) (c .before .signed .ensures))
-    (given s 1 (s .args .b) _ (omega arith) (s .pre .2) (c .signed2 .ok) (c .signed2 .ensures))
+    plus (given s 3 (s .args .d) _ (omega arith) (s .pre .4) (c .before .signed .ok) (c .before .signed .ensures))
+    (given s 2 (s .args .c) _ (omega arith) (s .pre .3) (c .signed2 .ok) (c .signed2 .ensures))
 
 three : (c : tie.After-signed3) → let s = c .before .before .before in let p = s .args .p in
     Worth (raw (raw (c .before .before .signed .result) +ℤ raw (c .before .signed2 .result)) +ℤ raw (c .signed3 .result))
-    (sign 0 p *ℤ s .args .a +ℤ sign 1 p *ℤ s .args .b +ℤ sign 2 p *ℤ s .args .c) 393216000
+    (sign 3 p *ℤ s .args .d +ℤ sign 2 p *ℤ s .args .c +ℤ sign 1 p *ℤ s .args .b) 393216000
 three c =
     let s = c .before .before .before in
-    plus (stored (two (c .before)) w32 tt) (given s 2 (s .args .c) _ (omega arith) (s .pre .3) (c .signed3 .ok) (c .signed3 .ensures))
+    plus (stored (two (c .before)) w32 tt) (given s 1 (s .args .b) _ (omega arith) (s .pre .2) (c .signed3 .ok) (c .signed3 .ensures))
 
 all : (c : tie.After-signed4) → let s = c .before .before .before .before in let p = s .args .p in
     Worth (raw (raw (raw (c .before .before .before .signed .result) +ℤ raw (c .before .before .signed2 .result)) +ℤ raw (c .before .signed3 .result)) +ℤ raw (c .signed4 .result))
-    (sign 0 p *ℤ s .args .a +ℤ sign 1 p *ℤ s .args .b +ℤ sign 2 p *ℤ s .args .c +ℤ sign 3 p *ℤ s .args .d) 524288000
+    (sign 3 p *ℤ s .args .d +ℤ sign 2 p *ℤ s .args .c +ℤ sign 1 p *ℤ s .args .b +ℤ sign 0 p *ℤ s .args .a) 524288000
 all c =
     let s = c .before .before .before .before in
-    plus (stored (three (c .before)) w32 tt) (given s 3 (s .args .d) _ (omega arith) (s .pre .4) (c .signed4 .ok) (c .signed4 .ensures))
+    plus (stored (three (c .before)) w32 tt) (given s 0 (s .args .a) _ (omega arith) (s .pre .1) (c .signed4 .ok) (c .signed4 .ensures))
+
+reversed : (w x y z : ℤ) → w +ℤ x +ℤ y +ℤ z ≡ z +ℤ y +ℤ x +ℤ w
+reversed w x y z = rw (split w, split x, split y, split z) (simp toℕ (omega arith))
 
 add-result : tie.Need-add-result
 add-result c = fits (two c) w32 tt
@@ -62,7 +66,10 @@ add-result-3 : tie.Need-add-result-3
 add-result-3 c = fits (all c) w32 tt
 
 returns : tie.Need-returns
-returns c = stored (all c) w32 tt .is
+returns c =
+    let a = c .before .before .before .before .args in
+    let x : ℕ → ℤ → ℤ = λ r z. sign r (a .p) *ℤ z in
+    stored (all c) w32 tt .is ∙ reversed (x 3 (a .d)) (x 2 (a .c)) (x 1 (a .b)) (x 0 (a .a))
 
 pub share-spec : {M : Type 1} → statement M
 share-spec =
