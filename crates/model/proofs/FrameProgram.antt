@@ -100,10 +100,10 @@ came-none j s h = by (eqb (length s) 0) refl
     by true e = eq-eqb (length (take j s)) 0 (omega (arith, eqb-true (length s) 0 e, length-take j s))
     by false e = ne-eqb (length (take j s)) 0 (λ z. eqb-false (length s) 0 e (omega (arith, z, length-take j s)))
 
-pub text-take : (k : Code) (o : Settings) (s : List ℕ) → frameText k o (take (frameSize (k .bits)) s) ≡ frameText k o s
+text-take : (k : Code) (o : Settings) (s : List ℕ) → frameText k o (take (frameSize (k .bits)) s) ≡ frameText k o s
 text-take k o s = rw (came-none (frameSize (k .bits)) s (omega arith), frame-take (k .bits) s, costs-take (k .bits) s)
 
-pub goes-take : (n : ℕ) (s : List ℕ) → goesOn n (take (frameSize n) s) ≡ goesOn n s
+goes-take : (n : ℕ) (s : List ℕ) → goesOn n (take (frameSize n) s) ≡ goesOn n s
 goes-take n s = rw (came-none (frameSize n) s (omega arith), frame-take n s)
 
 -- of an input that begins with an accepted code and accepted settings: what the bytes of its first frame make, then what an input with the frames after it makes

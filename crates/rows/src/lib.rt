@@ -137,7 +137,7 @@ fn square(x: i64) -> u64
     (x * x) as u64
 }
 
-// The square of the change from a to b, neither below 0.
+// The square of the change from the part of a above 0 to that of b.
 fn change(a: i32, b: i32) -> u64
     requires { ⌜ (natAbs a ≤ 131072000) × (natAbs b ≤ 131072000) ⌝ }
     ensures { λ n. ⌜ n ≡ squareOfChange (multiplier a) (multiplier b) ⌝ }
