@@ -6,7 +6,7 @@ use Prim.Native.Nat.{ℕ, zero, suc, _≤_}
 use native.Mathlib.Omega.{arith}
 use lib.Dec.{T, ltb}
 use borrow.Author.Tests.{ltb-false, le-ltb}
-use Rattle.model.specs.Causes.{_if_, firstOf, outside}
+use Rattle.model.specs.Causes.{_if_, firstOf, outside, accepted}
 
 -- the last cause decides alone
 pub only : (c : ℕ) → firstOf (c ∷ []) ≡ c
@@ -24,6 +24,11 @@ pub first-end : (l m : List ℕ) → firstOf (l ++ (firstOf m ∷ [])) ≡ first
 first-end [] m = only (firstOf m)
 first-end (zero ∷ l) m = first-end l m
 first-end (suc c ∷ l) m = refl
+
+-- what is not accepted stays
+pub stays : {A : Type 0} (c : ℕ) (x y : A) → (c ≡ 0 → ⊥) → accepted c x y ≡ y
+stays zero x y h = absurd (h refl)
+stays (suc c) x y h = refl
 
 -- none of the causes holds
 abbrev pub Clear : List ℕ → Type 0

@@ -31,7 +31,7 @@ use Rattle.model.specs.Claims.{ReflectedRun}
 use Rattle.model.specs.Order.{runCauses, Follows, Refusal, Ordered, oneToNine}
 use Rattle.model.specs.Told.{Refuses}
 use Rattle.model.specs.Entry.{inputCauses, runOf, iterateOf, Refused, Ran, Course, Iterated, Small, ReflectedCalls}
-use Rattle.model.proofs.Causes.{Clear, clear, unless, or-false, within}
+use Rattle.model.proofs.Causes.{stays, Clear, clear, unless, or-false, within}
 use Rattle.model.proofs.Order.{nil, cons, next, no-more, whole-follows, refuses, after-records, then-more, outcome-order}
 use Rattle.model.proofs.Runs.{stops, goes-on}
 use Rattle.model.proofs.Bounds.{rows-after, values-after}
@@ -100,10 +100,6 @@ module _ (b : List ℕ) (o : Settings) (costs : List ℤ) (l : Lists) where
         outcome-is (codeOf b) c (λ x. (x .number ≡ 0) ⊎ ((x .number ≡ 16) ⊎ (x .number ≡ 17))) (λ k. inr (inl refl))
         (λ k. tested-is (codeOf b) (wordOf (codeOf b) c) (λ x. (x .number ≡ 0) ⊎ ((x .number ≡ 16) ⊎ (x .number ≡ 17))) (λ k. inr (inr refl)) (λ k. inl refl))
 
-    left : (c : ℕ) → (c ≡ 0 → ⊥) → (x y : List ℕ) → accepted c x y ≡ y
-    left zero h x y = absurd (h refl)
-    left (suc c) h x y = refl
-
     pub ran : Ran b o costs l (decoder b o costs l)
     unfolding decodedBy
     ran =
@@ -122,7 +118,7 @@ module _ (b : List ℕ) (o : Settings) (costs : List ℤ) (l : Lists) where
           codeword = λ n.
               subst (Codeword k) (sym (ap (take (k .bits)) (taken n) ∙ take-at (wordOf k z) _ (k .bits) (outcome-claims k z .word .long)))
               (outcome-claims k z .codeword n);
-          kept = λ n. left (outcome k z .number) n new (l .word);
+          kept = stays (outcome k z .number) new (l .word);
         })
 
   -- the number, with the outcomes of a run as the last causes

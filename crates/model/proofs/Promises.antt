@@ -34,7 +34,7 @@ use Rattle.model.specs.ChannelClaims.{Costed, ofSingles}
 use Rattle.model.specs.WordClaims.{Tested, PointOf}
 use Rattle.model.specs.Entry.{Refused, Ran, Iterated, Small, ReflectedCalls}
 use Rattle.model.specs.Promises.{ReaderCall, SplitterCall, FrontCall, ReflectorCall, TestCall, ExtensionCall, DecoderCall}
-use Rattle.model.proofs.Causes.{clear, unless, first-in}
+use Rattle.model.proofs.Causes.{stays, clear, unless, first-in}
 use Rattle.model.proofs.Accepted as Accepted
 use Rattle.model.proofs.Order.{Listed, nil, cons, next, no-more, whole-follows, ordered, refuses, after-records, records-ordered, word-order}
 use Rattle.model.proofs.RecordClaims.{record-claims}
@@ -252,10 +252,6 @@ module _ (b w : List ℕ) where
         let x = answer-codeword b w no-room room-listed h in
         sym (take-at (pointOf k w) (drop (length (pointOf k w)) p) (variables k) (point k (Accepted.accepted b (x .0)) w (x .2) .point .long))
 
-    left : (c : ℕ) (x y : List ℕ) → (c ≡ 0 → ⊥) → accepted c x y ≡ y
-    left zero x y h = absurd (h refl)
-    left (suc c) x y h = refl
-
     pub extension-call : (a : Extended) → a ≡ extension b w p → ExtensionCall b w p a
     unfolding extension
     extension-call a meets =
@@ -283,7 +279,7 @@ module _ (b w : List ℕ) where
           only = λ h x q f. points k (Accepted.accepted b (code h .0)) .only w x q f ∙ taken h ∙ ap (take (variables k)) (sym (written-point h));
           odd = answer-odd b w no-room room-listed;
           place = answer-place b w no-room room-listed;
-          untouched = left _ (written (pointOf k w) p) p;
+          untouched = stays _ (written (pointOf k w) p) p;
         })
 
 -- ---- the decoder

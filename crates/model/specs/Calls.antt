@@ -3,7 +3,7 @@
 -- `..Told` gives the number and the values of every case of an answer. Definitions only.
 use mathlib.Core.Bool.{Bool, false, not, _||_}
 use mathlib.Core.List.{List, [], _∷_, _++_, map}
-use Prim.Native.Nat.{ℕ, suc, _*_}
+use Prim.Native.Nat.{ℕ, suc, _*_, _≤_}
 use lib.Dec.{ltb, eqb}
 use lib.Ieee.{Float}
 use lib.IntN.{ℤ, pos, negsuc}
@@ -141,6 +141,15 @@ decodingTold (Decoding.Refused c) = record { number = c; place = 0; k = 0; settl
 pub record Decoded : Type 0 where
   pub answer : Answer
   pub lists : Lists
+
+-- lists with room for T triples, so many variables and n bits
+pub record HasRoom (T variables n : ℕ) (l : Lists) : Type 0 where
+  pub triples : 3 * T ≤ length (l .triples)
+  pub counts : variables ≤ length (l .counts)
+  pub sums : variables ≤ length (l .sums)
+  pub values : variables ≤ length (l .values)
+  pub rows : 4 * T ≤ length (l .rows)
+  pub word : n ≤ length (l .word)
 
 -- 10: 3T, V, V, V, 4T and n entries
 abbrev pub noRoom : Code → Lists → Bool

@@ -10,7 +10,7 @@ use lib.ListN.{length, take, drop}
 use Rattle.model.specs.declared.Settings.{Settings}
 use Rattle.model.specs.Code.{Code, triples}
 use Rattle.model.specs.Records.{bitCount, checkCount, afterChecks, codeOf, judge}
-use Rattle.model.specs.Calls.{Lists, decoderCause, decoder}
+use Rattle.model.specs.Calls.{Lists, HasRoom, decoderCause, decoder}
 use Rattle.model.specs.Frames.{judgeHeldHeader, judgeHeldCheck, judgeHeldChecks, judgeSettings, costsOf, judgeFrame, refusal, line, frameLine}
 
 -- ---- the bytes kept, which the input begins with
@@ -61,13 +61,8 @@ pub record HeldCode (b : List ℕ) : Type 0 where
   pub triples : triples (codeOf b) ≤ 1024
 
 -- what the lists that are lent to the decoder hold at least: 1,024 triples and 512 bits need no more
-pub record Room (l : Lists) : Type 0 where
-  pub triples : 3072 ≤ length (l .triples)
-  pub counts : 1536 ≤ length (l .counts)
-  pub sums : 1536 ≤ length (l .sums)
-  pub values : 1536 ≤ length (l .values)
-  pub rows : 4096 ≤ length (l .rows)
-  pub word : 512 ≤ length (l .word)
+abbrev pub Room : Lists → Type 0
+Room l = HasRoom 1024 1536 512 l
 
 -- of an accepted code b, accepted settings and a sound frame: the decoder refuses nothing, so that the frame's line, from its answer and the first n entries
 -- of the word list, whatever stood there, is the definition's

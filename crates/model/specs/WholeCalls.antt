@@ -7,12 +7,11 @@ use mathlib.Core.List.{List, [], _∷_}
 use Prim.Native.Nat.{ℕ, suc, _≤_}
 use lib.Ieee.{Float, nan, inf, fin}
 use lib.IntN.{ℤ, pos}
-use lib.ListN.{length}
 use Rattle.lists.specs.Tabulated.{written}
 use Rattle.model.specs.declared.Settings.{Settings}
 use Rattle.model.specs.declared.Channel.the-variants.{Gaussian, Hard, Erasing}
 use Rattle.model.specs.Channel.{scaleInRange, floorInRange, inRange}
-use Rattle.model.specs.Calls.{wild, Lists, decoder, reader}
+use Rattle.model.specs.Calls.{wild, Lists, HasRoom, decoder, reader}
 use Rattle.model.specs.Table.{−_, settings, by-hand}
 
 -- "Code n = 3 with check (0,1,2)": its records
@@ -20,13 +19,8 @@ abbrev pub listed : List ℕ
 listed = 0x4C ∷ 0x48 ∷ 0 ∷ 3 ∷ 0 ∷ 1 ∷ 0x4C ∷ 0x43 ∷ 3 ∷ 0 ∷ 0 ∷ 0 ∷ 1 ∷ 0 ∷ 2 ∷ []
 
 -- lists in which a call with this code has room
-pub record Room (l : Lists) : Type 0 where
-  pub triples : 3 ≤ length (l .triples)
-  pub counts : 3 ≤ length (l .counts)
-  pub sums : 3 ≤ length (l .sums)
-  pub values : 3 ≤ length (l .values)
-  pub rows : 4 ≤ length (l .rows)
-  pub word : 3 ≤ length (l .word)
+abbrev pub Room : Lists → Type 0
+Room l = HasRoom 1 3 3 l
 
 -- what a call with this code leaves in the lists l: its triples and counts, S, c and s, and a word
 abbrev pub leaves : Lists → List ℤ → List ℤ → List ℤ → List ℕ → Lists
