@@ -15,7 +15,7 @@ use Rattle.model.specs.Records.{checkCount, indices, afterCheck, codeOf, judge}
 use Rattle.model.specs.Sound.{SoundCheck}
 use Rattle.model.specs.Splitting.{queue, triplesFrom, systemOf, member}
 use Rattle.model.specs.TripleRule.{items, TripleRule}
-use Rattle.model.specs.Words.{entry}
+use Rattle.model.specs.Words.{bitAt}
 use Rattle.model.specs.Points.{extend, pointOf}
 use Rattle.model.proofs.Points.{extend-made, extend-kept}
 use Rattle.model.proofs.Sound.{rising-below}
@@ -66,18 +66,18 @@ module _ (c : List ℕ) (a : ℕ) (sound : SoundCheck a c) where
 
   module _ (old point : List ℕ) (t : ℕ) (room : a + turns c ≤ length old) (m : Made c a old point t) where
     pub made-next : (x y v : ℕ) → t < turns c → x ≡ getD (items c a) (2 * t) 0 → y ≡ getD (items c a) (2 * t + 1) 0
-        → v ≡ (entry point x + entry point y) % 2 → Made c a old (set point (a + t) v) (t + 1)
+        → v ≡ (bitAt point x + bitAt point y) % 2 → Made c a old (set point (a + t) v) (t + 1)
     made-next x y v h p q e =
         let ts = queue (turns c) c a in
         let k = a + t in
         let n : a + (t + 1) ≡ suc k = omega arith in
-        let first : entry (take k point) x ≡ entry point x = getD-take k point x 0 (omega (arith, item-below (2 * t) t (omega arith) (omega arith))) in
-        let second : entry (take k point) y ≡ entry point y = getD-take k point y 0 (omega (arith, item-below (2 * t + 1) t (omega arith) (omega arith))) in
+        let first : bitAt (take k point) x ≡ bitAt point x = getD-take k point x 0 (omega (arith, item-below (2 * t) t (omega arith) (omega arith))) in
+        let second : bitAt (take k point) y ≡ bitAt point y = getD-take k point y 0 (omega (arith, item-below (2 * t + 1) t (omega arith) (omega arith))) in
         let third : member ts t 2 ≡ k = rule .thirds t (omega arith) ∙ rw (lt-ltb t (turns c) h) in
         let d : drop (3 * t) ts ≡ x ∷ y ∷ k ∷ drop (3 * (t + 1)) ts
         = drop-triple ts t (omega (arith, rule .long)) ∙ rw (rule .firsts t (omega arith) ∙ sym p, rule .seconds t (omega arith) ∙ sym q, third) in
         let step = extend-made x y k (drop (3 * (t + 1)) ts) (take k point) (length-take-le k point (omega (arith, m .long))) in
-        let new : (entry (take k point) x + entry (take k point) y) % 2 ≡ v = rw (first, second) (sym e) in
+        let new : (bitAt (take k point) x + bitAt (take k point) y) % 2 ≡ v = rw (first, second) (sym e) in
         record {
           long = length-set point k v ∙ m .long;
           kept = rw (n, drop-set-lt (suc k) point k v (omega arith), ← add-one k) (kept-more k 1 point old (m .kept));

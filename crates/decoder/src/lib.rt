@@ -27,8 +27,8 @@ use model::Settings;
 // ---- the causes
 
 // 11: a setting out of its range.
-fn wild(settings: Settings) -> bool
-    ensures { λ r. ⌜ r ≡ Calls.wild settings ⌝ }
+fn out_of_range(settings: Settings) -> bool
+    ensures { λ r. ⌜ r ≡ Calls.outOfRange settings ⌝ }
 {
     ((settings.weight < 1) | (65535 < settings.weight))
         | ((1023 < settings.ratio) | ((settings.limit < 1) | (1000 < settings.limit)))
@@ -59,11 +59,11 @@ fn no_room(bits: usize, total: usize, variables: usize, room: Room) -> bool
 // The first of 11, 12, 13 and 10, or 0.
 fn cause(settings: Settings, costs: &[i16], bits: usize, short: bool) -> u32
     ensures { λ r. ⌜ r ≡ firstOf (
-        11 if Calls.wild settings ∷ 12 if unequal (now (costs .entry)) bits ∷
+        11 if Calls.outOfRange settings ∷ 12 if unequal (now (costs .entry)) bits ∷
         13 if some forbidden (now (costs .entry)) ∷ 10 if short ∷ []) ⌝ }
     ensures { λ r. ⌜ (r ≡ 0 → Small (now (costs .entry))) ⌝ }
 {
-    if wild(settings) {
+    if out_of_range(settings) {
         return 11;
     }
     if costs.len() != bits {
@@ -91,7 +91,7 @@ fn run_system(
     rows: &mut [i32],
 ) -> Ending
     requires { ⌜ (judge (now code) ≡ 0) × (total ≡ Code.triples (codeOf (now code))) × (variables ≡ Code.variables (codeOf (now code))) ⌝ }
-    requires { ⌜ (Calls.wild settings ≡ false) × (length (now costs) ≡ codeOf (now code) .bits) × Small (now costs) ⌝ }
+    requires { ⌜ (Calls.outOfRange settings ≡ false) × (length (now costs) ≡ codeOf (now code) .bits) × Small (now costs) ⌝ }
     requires { ⌜ (3 * total ≤ length (now triples)) × (variables ≤ length (now counts)) ⌝ }
     requires { ⌜ (variables ≤ length (now sums)) × (variables ≤ length (now values)) × (4 * total ≤ length (now rows)) ⌝ }
     ensures { λ _. ⌜ (let g = systemOf (codeOf (now (code .entry))) in
@@ -132,7 +132,7 @@ fn decode_accepted(
 ) -> Decoding
     requires { ⌜ (judge (now code) ≡ 0) × (bits ≡ codeOf (now code) .bits) × (checks ≡ length (codeOf (now code) .checks))
         × (total ≡ Code.triples (codeOf (now code))) × (variables ≡ Code.variables (codeOf (now code))) ⌝ }
-    requires { ⌜ (Calls.wild settings ≡ false) × (length (now costs) ≡ codeOf (now code) .bits) × Small (now costs) ⌝ }
+    requires { ⌜ (Calls.outOfRange settings ≡ false) × (length (now costs) ≡ codeOf (now code) .bits) × Small (now costs) ⌝ }
     requires { ⌜ (3 * total ≤ length (now triples)) × (variables ≤ length (now counts)) ⌝ }
     requires { ⌜ (variables ≤ length (now sums)) × (variables ≤ length (now values)) × (4 * total ≤ length (now rows)) × (bits ≤ length (now word)) ⌝ }
     ensures { λ d. ⌜ (let k = codeOf (now (code .entry)) in

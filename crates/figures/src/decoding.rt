@@ -175,20 +175,20 @@ fn tolerances() {
 
 fn refused() {
     let plain = settings(256, 0, 2, 0);
-    let wild = settings(0, 0, 2, 0);
+    let out_of_range = settings(0, 0, 2, 0);
     example(b"two costs", plain, &[1, 2]);
     example(b"four costs", plain, &[1, 2, 3, 4]);
     example(b"a cost of -32768", plain, &[1, 2, -32768]);
     example(b"a cost of -32767", plain, &[1, 2, -32767]);
-    example(b"11 before 12", wild, &[1, 2]);
-    example(b"11 before 13", wild, &[1, 2, -32768]);
+    example(b"11 before 12", out_of_range, &[1, 2]);
+    example(b"11 before 13", out_of_range, &[1, 2, -32768]);
     example(b"12 before 13", plain, &[1, -32768]);
     let code = code();
-    short(b"11 before 10", &code, wild, &[1, 2, 3]);
+    short(b"11 before 10", &code, out_of_range, &[1, 2, 3]);
     short(b"12 before 10", &code, plain, &[1, 2]);
     short(b"13 before 10", &code, plain, &[1, 2, -32768]);
     let other = b"LH\0\x03\0\x01LX\x03\0\0\0\x01\0\x02";
-    short(b"2 before 11, 12, 13 and 10", other, wild, &[1, -32768]);
+    short(b"2 before 11, 12, 13 and 10", other, out_of_range, &[1, -32768]);
 }
 
 // Frame 3, into lists of so many entries.

@@ -20,7 +20,7 @@ use borrow.Author.Tests.{ltb-false}
 use Rattle.model.specs.Causes.{_if_, outside}
 use Rattle.model.specs.Code.{Code}
 use Rattle.model.specs.Sound.{Sound}
-use Rattle.model.specs.Calls.{wild}
+use Rattle.model.specs.Calls.{outOfRange}
 use Rattle.model.specs.Splitting.{System, systemOf, member}
 use Rattle.model.specs.Iteration.{at, row, sign, rowSum, sumAt, slack, multiplier, share, _when_, sumOf, occurrences, numerator, divisor, renewed, State, sumsOf, valueOf, valuesOf, rowsOf, iterate}
 use Rattle.model.specs.Run.{squareOfChange, changes, start, after}
@@ -183,7 +183,7 @@ values-after g o costs zero v = rw (none (g .variables) v) (omega arith)
 values-after g o costs (suc n) v = values g o costs (after quotient g o costs n (start g)) v
 
 -- ---- an accepted code, settings and costs are ready
-pub ready : (k : Code) → Sound k → (o : Settings) → wild o ≡ false → (costs : List ℤ) → length costs ≡ k .bits → ((v : ℕ) → natAbs (at costs v) ≤ 32767) → Ready (systemOf k) o costs
+pub ready : (k : Code) → Sound k → (o : Settings) → outOfRange o ≡ false → (costs : List ℤ) → length costs ≡ k .bits → ((v : ℕ) → natAbs (at costs v) ≤ 32767) → Ready (systemOf k) o costs
 unfolding systemOf
 ready k s o h costs e small =
     let a = or-false (outside 1 65535 (o .weight)) _ h in

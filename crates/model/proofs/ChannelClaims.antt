@@ -12,14 +12,14 @@ use Rattle.lists.specs.Entries.{every, some}
 use Rattle.lists.proofs.Entries.{every-some}
 use Rattle.model.specs.declared.Channel.{Channel}
 use Rattle.model.specs.Causes.{_if_, firstOf, short, accepted}
-use Rattle.model.specs.Reflection.{turned}
+use Rattle.model.specs.Reflection.{negatedIf}
 use Rattle.model.specs.Channel.{finite, inRange, product, costOfBits, costOf}
 use Rattle.model.specs.Calls.{channelFront}
 use Rattle.model.specs.ChannelClaims.{Costed, ChannelClaims, ofSingles}
 use Rattle.model.proofs.Products.{product-number, product-single, cost-negated}
 use Rattle.model.proofs.Values.{cost-rounded}
 
-infinite : (s : Bool) → costOfBits (toBits binary32 (inf s)) ≡ turned (1 if s) (pos 32767)
+infinite : (s : Bool) → costOfBits (toBits binary32 (inf s)) ≡ negatedIf (1 if s) (pos 32767)
 unfolding costOfBits toBits
 infinite true = refl
 infinite false = refl

@@ -24,20 +24,20 @@ use Rattle.model.specs.Sound.{Sound}
 use Rattle.model.specs.Splitting.{systemOf}
 use Rattle.model.specs.Iteration.{at}
 use Rattle.model.specs.Run.{runFrom}
-use Rattle.model.specs.Words.{entry, bitOf, wordOf, firstUndecided, odd, firstOdd, tested, outcome}
+use Rattle.model.specs.Words.{bitAt, bitOf, wordOf, firstUndecided, odd, firstOdd, tested, outcome}
 use Rattle.model.specs.Points.{Codeword, pointOf}
-use Rattle.model.specs.Reflection.{turned, reflect, sumOfWords}
+use Rattle.model.specs.Reflection.{negatedIf, reflect, sumOfWords}
 use Rattle.model.specs.Claims.{Reflection, Demand3}
 use Rattle.model.proofs.Accepted.{accepted}
 use Rattle.model.proofs.Points.{totals-bits, point-begins, point-even, point-binary, points}
 use Rattle.model.proofs.Reflection.{turned-zero, unique, injective, opposite, begun, each, ends}
 
 -- ---- from values to word
-turned-undecided : (b : ℕ) (z : ℤ) → eqb (natAbs (turned b z)) 0 ≡ eqb (natAbs z) 0
+turned-undecided : (b : ℕ) (z : ℤ) → eqb (natAbs (negatedIf b z)) 0 ≡ eqb (natAbs z) 0
 turned-undecided zero z = refl
 turned-undecided (suc b) z = rw (abs-neg z)
 
-turned-bit : (b : ℕ) (z : ℤ) → b < 2 → eqb (natAbs z) 0 ≡ false → bitOf (turned b z) ≡ (b + bitOf z) % 2
+turned-bit : (b : ℕ) (z : ℤ) → b < 2 → eqb (natAbs z) 0 ≡ false → bitOf (negatedIf b z) ≡ (b + bitOf z) % 2
 turned-bit zero z h e = by (ltZ (pos 0) z)
   where
     by : (t : Bool) → 1 if t ≡ (0 + 1 if t) % 2
@@ -52,24 +52,24 @@ total-sum : (x y : ℕ → ℕ) (c : List ℕ) → total (λ i. (x i + y i) % 2)
 total-sum x y [] = refl
 total-sum x y (i ∷ c) = omega (arith, total-sum x y c)
 
-sum-entry : (w u : List ℕ) (i : ℕ) → i < length w → entry (sumOfWords w u) i ≡ (entry w i + entry u i) % 2
+sum-entry : (w u : List ℕ) (i : ℕ) → i < length w → bitAt (sumOfWords w u) i ≡ (bitAt w i + bitAt u i) % 2
 unfolding sumOfWords
-sum-entry w u i h = getD-tab (length w) (λ i. (entry w i + entry u i) % 2) i 0 h
+sum-entry w u i h = getD-tab (length w) (λ i. (bitAt w i + bitAt u i) % 2) i 0 h
 
 module _ (k : Code) (s : Sound k) (w : List ℕ) (c : Codeword k w) where
   -- two lists of values, one reflected by the word
-  module _ (z z′ : List ℤ) (turns : (v : ℕ) → v < k .bits → at z′ v ≡ turned (entry w v) (at z v)) where
+  module _ (z z′ : List ℤ) (turns : (v : ℕ) → v < k .bits → at z′ v ≡ negatedIf (bitAt w v) (at z v)) where
     undecided-same : firstUndecided k z′ ≡ firstUndecided k z
     unfolding firstUndecided
-    undecided-same = first-same (k .bits) (λ v. eqb (natAbs (at z′ v)) 0) (λ v. eqb (natAbs (at z v)) 0) (λ v h. rw (turns v h) (turned-undecided (entry w v) (at z v)))
+    undecided-same = first-same (k .bits) (λ v. eqb (natAbs (at z′ v)) 0) (λ v. eqb (natAbs (at z v)) 0) (λ v h. rw (turns v h) (turned-undecided (bitAt w v) (at z v)))
 
     word-turned : k .bits ≤ firstUndecided k z → wordOf k z′ ≡ sumOfWords w (wordOf k z)
     unfolding firstUndecided wordOf sumOfWords
     word-turned decided =
         rw (c .word .long)
-        (tab-same (k .bits) (λ v. bitOf (at z′ v)) (λ i. (entry w i + entry (wordOf k z) i) % 2) (λ v h.
+        (tab-same (k .bits) (λ v. bitOf (at z′ v)) (λ i. (bitAt w i + bitAt (wordOf k z) i) % 2) (λ v h.
         rw (turns v h, getD-tab (k .bits) (λ v. bitOf (at z v)) v 0 h)
-        (turned-bit (entry w v) (at z v) (c .word .binary v) (first-before (k .bits) (λ v. eqb (natAbs (at z v)) 0) v (omega arith)))))
+        (turned-bit (bitAt w v) (at z v) (c .word .binary v) (first-before (k .bits) (λ v. eqb (natAbs (at z v)) 0) v (omega arith)))))
 
     odd-same : k .bits ≤ firstUndecided k z → firstOdd k (wordOf k z′) ≡ firstOdd k (wordOf k z)
     unfolding firstOdd
@@ -77,12 +77,12 @@ module _ (k : Code) (s : Sound k) (w : List ℕ) (c : Codeword k w) where
         let u = wordOf k z in
         first-same (length (k .checks)) (λ j. odd (wordOf k z′) (getD (k .checks) j [])) (λ j. odd u (getD (k .checks) j [])) (λ j h.
         let check = getD (k .checks) j [] in
-        let e : total (entry (wordOf k z′)) check % 2 ≡ total (entry u) check % 2
-        = rw (word-turned decided) (ap (λ (n : ℕ). n % 2) (totals-bits (k .bits) (entry (sumOfWords w u)) (λ i. (entry w i + entry u i) % 2) (k .checks) (sum-at u) (s .checks) j)
-        ∙ total-sum (entry w) (entry u) check ∙ omega (arith, c .even j h)) in
+        let e : total (bitAt (wordOf k z′)) check % 2 ≡ total (bitAt u) check % 2
+        = rw (word-turned decided) (ap (λ (n : ℕ). n % 2) (totals-bits (k .bits) (bitAt (sumOfWords w u)) (λ i. (bitAt w i + bitAt u i) % 2) (k .checks) (sum-at u) (s .checks) j)
+        ∙ total-sum (bitAt w) (bitAt u) check ∙ omega (arith, c .even j h)) in
         ap (λ (n : ℕ). eqb n 1) e)
       where
-        sum-at : (u : List ℕ) (i : ℕ) → i < k .bits → entry (sumOfWords w u) i ≡ (entry w i + entry u i) % 2
+        sum-at : (u : List ℕ) (i : ℕ) → i < k .bits → bitAt (sumOfWords w u) i ≡ (bitAt w i + bitAt u i) % 2
         sum-at u i h = sum-entry w u i (omega (arith, c .word .long))
 
     outcome-same : outcome k z′ ≡ outcome k z
@@ -103,18 +103,18 @@ module _ (k : Code) (s : Sound k) (w : List ℕ) (c : Codeword k w) where
         by false e h = ltb-false (firstUndecided k z) (k .bits) e
 
   -- ---- the costs
-  costs-turned : (costs : List ℤ) → length costs ≡ k .bits → (v : ℕ) → at (reflect w costs) v ≡ turned (entry (pointOf k w) v) (at costs v)
+  costs-turned : (costs : List ℤ) → length costs ≡ k .bits → (v : ℕ) → at (reflect w costs) v ≡ negatedIf (bitAt (pointOf k w) v) (at costs v)
   unfolding reflect
   costs-turned costs h v = by (decLt v (k .bits))
     where
       f : ℕ → ℤ
-      f i = turned (entry w i) (at costs i)
+      f i = negatedIf (bitAt w i) (at costs i)
 
-      by : Dec (v < k .bits) → at (tab (length costs) f) v ≡ turned (entry (pointOf k w) v) (at costs v)
+      by : Dec (v < k .bits) → at (tab (length costs) f) v ≡ negatedIf (bitAt (pointOf k w) v) (at costs v)
       by (yes l) = getD-tab (length costs) f v (pos 0) (omega arith) ∙ rw (point-begins k s w (c .word .long) v l)
       by (no l) =
           let none : at costs v ≡ pos 0 = List·getD-eq-default costs (pos 0) (omega arith) in
-          List·getD-eq-default (tab (length costs) f) (pos 0) (omega (arith, length-tab (length costs) f)) ∙ rw none (sym (turned-zero (entry (pointOf k w) v)))
+          List·getD-eq-default (tab (length costs) f) (pos 0) (omega (arith, length-tab (length costs) f)) ∙ rw none (sym (turned-zero (bitAt (pointOf k w) v)))
 
   reflection : Reflection k w
   reflection =
@@ -132,7 +132,7 @@ module _ (k : Code) (s : Sound k) (w : List ℕ) (c : Codeword k w) where
             let e = ends g x bin even quotient quotient-odd o costs (reflect w costs) turns more done a b m in
             let z = runFrom quotient g o costs more done a .last .values in
             let z′ = runFrom quotient g o (reflect w costs) more done b .last .values in
-            let bits : (v : ℕ) → v < k .bits → at z′ v ≡ turned (entry w v) (at z v) = λ v l. e .last .values v ∙ rw (point-begins k s w (c .word .long) v l) in
+            let bits : (v : ℕ) → v < k .bits → at z′ v ≡ negatedIf (bitAt w v) (at z v) = λ v l. e .last .values v ∙ rw (point-begins k s w (c .word .long) v l) in
             record {
               each = each g x bin even quotient quotient-odd o costs (reflect w costs) turns a b m;
               count = e .k;

@@ -15,17 +15,18 @@ use Rattle.lists.specs.Tabulated.{written}
 use Rattle.lists.proofs.Tabulated.{length-tab, written-in}
 use Rattle.lists.proofs.Entries.{none-in-tab}
 use Rattle.quotient.specs.Quotient.{unit, quotient}
+use Rattle.model.specs.Limits.{mostIterations}
 use Rattle.model.specs.declared.Settings.{Settings}
 use Rattle.model.specs.Causes.{_if_, firstOf, outside, accepted}
 use Rattle.model.specs.Code.{Code, triples, variables}
 use Rattle.model.specs.Records.{codeOf, judge, wholeCauses, recordCauses}
 use Rattle.model.specs.Splitting.{System, systemOf}
 use Rattle.model.specs.Iteration.{at, slack, multiplier, sumOf, renewedAt, State, sumsOf, rowsOf, valueOf, valuesOf, iterate}
-use Rattle.model.specs.Run.{mostIterations, changes, settledBy, start, Ended, after, runFrom, run}
-use Rattle.model.specs.Words.{entry, wordOf, firstUndecided, firstOdd, Outcome, outcome}
+use Rattle.model.specs.Run.{changes, settledBy, start, Ended, after, runFrom, run}
+use Rattle.model.specs.Words.{bitAt, wordOf, firstUndecided, firstOdd, Outcome, outcome}
 use Rattle.model.specs.Points.{Codeword, pointOf}
-use Rattle.model.specs.Reflection.{turned, reflect, sumOfWords}
-use Rattle.model.specs.Calls.{wild, unequal, forbidden, Lists, Decoded, noRoom, decoderCauses, decoderCause, decodedBy, decoder}
+use Rattle.model.specs.Reflection.{negatedIf, reflect, sumOfWords}
+use Rattle.model.specs.Calls.{outOfRange, unequal, forbidden, Lists, Decoded, noRoom, decoderCauses, decoderCause, decodedBy, decoder}
 use Rattle.model.specs.Bounds.{RowsWithin}
 use Rattle.model.specs.Claims.{ReflectedRun}
 use Rattle.model.specs.Order.{runCauses, Follows, Refusal, Ordered, oneToNine}
@@ -49,7 +50,7 @@ module _ (b : List ℕ) (o : Settings) (costs : List ℤ) (l : Lists) where
   input-ordered =
       let T = oneToNine ++ (10 ∷ 11 ∷ 12 ∷ 13 ∷ []) in
       after-records (10 ∷ 11 ∷ 12 ∷ 13 ∷ []) b (decoderCauses (codeOf b) o costs l) (decoderCause b o costs l)
-      (cons T 11 (wild o) _ refl
+      (cons T 11 (outOfRange o) _ refl
       (cons T 12 (unequal costs (codeOf b .bits)) _ refl
       (cons T 13 (some forbidden costs) _ refl
       (cons T 10 (noRoom (codeOf b) l) _ refl (nil T)))))
@@ -138,7 +139,7 @@ module _ (b : List ℕ) (o : Settings) (costs : List ℤ) (l : Lists) where
       let c = runOf b o costs .last .values in
       let input = judge b ∷ decoderCauses k o costs l in
       after-records (10 ∷ 11 ∷ 12 ∷ 13 ∷ 16 ∷ 17 ∷ []) b (decoderCauses k o costs l ++ runCauses k c) _
-      (cons T 11 (wild o) _ refl
+      (cons T 11 (outOfRange o) _ refl
       (cons T 12 (unequal costs (k .bits)) _ refl
       (cons T 13 (some forbidden costs) _ refl
       (cons T 10 (noRoom k l) _ refl
@@ -151,7 +152,7 @@ module _ (b : List ℕ) (o : Settings) (costs : List ℤ) (l : Lists) where
       let k = codeOf b in
       let c = runOf b o costs .last .values in
       whole-follows b _
-      (next 3 10 (wild o) _ refl
+      (next 3 10 (outOfRange o) _ refl
       (next 4 11 (unequal costs (k .bits)) _ refl
       (next 5 12 (some forbidden costs) _ refl
       (next 6 9 (noRoom k l) _ refl
@@ -272,7 +273,7 @@ module _ (b : List ℕ) (o : Settings) (costs : List ℤ) (l : Lists) (h : decod
   some-step : 1 ≤ path .steps
   some-step =
       let c = clear-causes b o costs l h in
-      let t = or-false (outside 1 65535 (o .weight)) _ (unless 10 (wild o) (c .1 .0)) in
+      let t = or-false (outside 1 65535 (o .weight)) _ (unless 10 (outOfRange o) (c .1 .0)) in
       let u = or-false (ltb 1023 (o .ratio)) _ (t .1) in
       by (path .steps) (path .none) (path .early) (within 1 mostIterations (o .limit) (u .1) .0)
     where
@@ -311,7 +312,7 @@ module _ (b : List ℕ) (o : Settings) (costs : List ℤ) (l : Lists) (h : decod
 
 -- ---- reflected calls
 -- a cost that is negated is none of the forbidden ones either
-turned-allowed : (b : ℕ) (z : ℤ) → natAbs z ≤ 32767 → forbidden (turned b z) ≡ false
+turned-allowed : (b : ℕ) (z : ℤ) → natAbs z ≤ 32767 → forbidden (negatedIf b z) ≡ false
 turned-allowed zero (pos n) h = refl
 turned-allowed zero (negsuc n) h = ne-eqb (suc n) 32768 (λ q. omega arith)
 turned-allowed (suc b) (pos zero) h = refl
@@ -321,11 +322,11 @@ turned-allowed (suc b) (negsuc n) h = refl
 reflected-allowed : (w : List ℕ) (costs : List ℤ) → Small costs → some forbidden (reflect w costs) ≡ false
 unfolding reflect
 reflected-allowed w costs small =
-    none-in-tab forbidden (length costs) (λ i. turned (entry w i) (at costs i)) (λ i l. turned-allowed (entry w i) (at costs i) (small i))
+    none-in-tab forbidden (length costs) (λ i. negatedIf (bitAt w i) (at costs i)) (λ i l. turned-allowed (bitAt w i) (at costs i) (small i))
 
 pub length-reflect : (w : List ℕ) (costs : List ℤ) → length (reflect w costs) ≡ length costs
 unfolding reflect
-length-reflect w costs = length-tab (length costs) (λ i. turned (entry w i) (at costs i))
+length-reflect w costs = length-tab (length costs) (λ i. negatedIf (bitAt w i) (at costs i))
 
 no-cause : (j : ℕ) (s t u v : Bool) → j ≡ 0 → s ≡ false → t ≡ false → u ≡ false → v ≡ false → firstOf (j ∷ 11 if s ∷ 12 if t ∷ 13 if u ∷ 10 if v ∷ []) ≡ 0
 no-cause j s t u v a b c d e = rw (a, b, c, d, e)
@@ -353,9 +354,9 @@ module _ (b w : List ℕ) (o : Settings) (costs : List ℤ) (l m : Lists) where
     h′ : decoderCause b o (reflect w costs) m ≡ 0
     unfolding decoderCause
     h′ =
-        no-cause (judge b) (wild o) (unequal (reflect w costs) (code .bits)) (some forbidden (reflect w costs)) (noRoom code m)
+        no-cause (judge b) (outOfRange o) (unequal (reflect w costs) (code .bits)) (some forbidden (reflect w costs)) (noRoom code m)
         (none .0)
-        (unless 10 (wild o) (none .1 .0))
+        (unless 10 (outOfRange o) (none .1 .0))
         (ap (λ (n : ℕ). not (eqb n (code .bits))) (length-reflect w costs) ∙ unless 11 (unequal costs (code .bits)) (none .1 .1 .0))
         (reflected-allowed w costs small)
         room
@@ -384,9 +385,9 @@ module _ (b w : List ℕ) (o : Settings) (costs : List ℤ) (l m : Lists) where
           each = both .each;
           answer = same-answer;
           values = λ v k. in-list (end′ .last .values) (m .values) (variables code) v (long′ .values) k ∙ both .last .values v
-              ∙ ap (turned (entry x v)) (sym (in-list (end .last .values) (l .values) (variables code) v (long .values) k));
+              ∙ ap (negatedIf (bitAt x v)) (sym (in-list (end .last .values) (l .values) (variables code) v (long .values) k));
           sums = λ v k. in-list (end′ .last .sums) (m .sums) (variables code) v (long′ .sums) k ∙ both .last .sums v
-              ∙ ap (turned (entry x v)) (sym (in-list (end .last .sums) (l .sums) (variables code) v (long .sums) k));
+              ∙ ap (negatedIf (bitAt x v)) (sym (in-list (end .last .sums) (l .sums) (variables code) v (long .sums) k));
           rows = λ t r q i j k op. in-list (end′ .last .rows) (m .rows) (4 * triples code) (4 * t + q) (long′ .rows) (omega arith)
               ∙ both .last .rows t r q i j k op
               ∙ sym (in-list (end .last .rows) (l .rows) (4 * triples code) (4 * t + r) (long .rows) (omega arith));

@@ -20,7 +20,7 @@ use Rattle.model.specs.Splitting.{systemOf}
 use Rattle.model.specs.Iteration.{at}
 use Rattle.model.specs.Run.{Ended, run}
 use Rattle.model.specs.Words.{bitOf, wordOf, outcome}
-use Rattle.model.specs.Calls.{wild, forbidden, Lists, Answer, noRoom, decoderCause, decodedBy}
+use Rattle.model.specs.Calls.{outOfRange, forbidden, Lists, Answer, noRoom, decoderCause, decodedBy}
 use Rattle.model.specs.Frames.{line, noLists, frameLine}
 use Rattle.model.specs.FrameClaims.{HeldCode, Room, HeldFrame}
 use Rattle.model.proofs.Accepted as Accepted
@@ -60,7 +60,7 @@ line-left k e l =
 
 -- ---- the call
 module _ (b : List ℕ) (o : Settings) (costs : List ℤ) (l : Lists) (held : HeldCode b)
-    (within : wild o ≡ false) (fits : length costs ≡ codeOf b .bits) (allowed : some forbidden costs ≡ false) (room : Room l) where
+    (within : outOfRange o ≡ false) (fits : length costs ≡ codeOf b .bits) (allowed : some forbidden costs ≡ false) (room : Room l) where
   no-cause : decoderCause b o costs l ≡ 0
   unfolding decoderCause
   no-cause =

@@ -13,8 +13,8 @@ use Rattle.lists.specs.Tabulated.{written}
 use Rattle.model.specs.Causes.{_if_, short, outside, accepted}
 use Rattle.model.specs.Code.{tripleCount}
 use Rattle.model.specs.Records.{twoBytes, numbers, bitCount, indices, judgeHeader, judgeCheck}
-use Rattle.model.specs.Run.{mostIterations}
-use Rattle.model.specs.Calls.{wild, forbidden}
+use Rattle.model.specs.Limits.{mostIterations}
+use Rattle.model.specs.Calls.{outOfRange, forbidden}
 use Rattle.model.specs.Frames.{judgeHeldHeader, judgeHeldCheck, settingsOf, judgeSettings, twosComplement, costsOf, judgeWhole, judgeFrame}
 use Rattle.model.proofs.Causes.{clear, unless}
 use Rattle.model.proofs.Accepted.{length-numbers}
@@ -43,7 +43,7 @@ check-held n t s h =
 -- ---- the settings
 pub record SoundSettings (s : List ℕ) : Type 0 where
   pub room : 12 ≤ length s
-  pub within : wild (settingsOf s) ≡ false
+  pub within : outOfRange (settingsOf s) ≡ false
 
 pub settings-sound : (s : List ℕ) → judgeSettings s ≡ 0 → SoundSettings s
 unfolding judgeSettings settingsOf

@@ -24,7 +24,7 @@ use Rattle.model.specs.Records.{codeOf, judge}
 use Rattle.model.specs.Splitting.{System, systemOf, member}
 use Rattle.model.specs.Iteration.{at, sign, rowSum, row, slack, multiplier, _when_, sumOf, occurrences, numerator, divisor, State, iterate}
 use Rattle.model.specs.Run.{changes, settledBy, start}
-use Rattle.model.specs.Words.{entry}
+use Rattle.model.specs.Words.{bitAt}
 use Rattle.model.specs.Points.{centred}
 use Rattle.model.specs.Paper.{right, residual17}
 use Rattle.model.specs.PaperSystem.{matrix, times, Within, PaperSystem, Projection, residual12, normSquare, StartStop}
@@ -33,7 +33,7 @@ use Rattle.model.proofs.Accepted.{accepted}
 use Rattle.model.proofs.TripleRule.{member-below, occurs-some}
 use Rattle.model.proofs.Bounds.{divisor-above}
 use Rattle.model.proofs.Causes.{or-false}
-use Rattle.model.specs.Calls.{wild}
+use Rattle.model.specs.Calls.{outOfRange}
 use Rattle.model.proofs.Rows.{none}
 use Rattle.model.proofs.Paper.{right-is, paper}
 
@@ -127,8 +127,8 @@ pub paper-system : (g : System) → Within g → PaperSystem g
 paper-system g h = record {
   rows = times-rows g h;
   points = λ p b. (
-    λ q t r l k. rw (times-rows g h (λ v. pos (entry p v)) t r l) (entries _ _ _ r (b .binary _) (b .binary _) (b .binary _) k .0 (q .meets t r l k)),
-    λ q. record { point = b; meets = λ t r l k. entries _ _ _ r (b .binary _) (b .binary _) (b .binary _) k .1 (rw (times-rows g h (λ v. pos (entry p v)) t r l) at (q t r l k)) },
+    λ q t r l k. rw (times-rows g h (λ v. pos (bitAt p v)) t r l) (entries _ _ _ r (b .binary _) (b .binary _) (b .binary _) k .0 (q .meets t r l k)),
+    λ q. record { point = b; meets = λ t r l k. entries _ _ _ r (b .binary _) (b .binary _) (b .binary _) k .1 (rw (times-rows g h (λ v. pos (bitAt p v)) t r l) at (q t r l k)) },
   );
   centred = λ c t r l k. rw (times-rows g h (λ v. pos unit +ℤ at c v) t r l) (relaxed _ _ _ r k);
 }
@@ -275,7 +275,7 @@ module _ (b : List ℕ) (judged : judge b ≡ 0) (o : Settings) (costs : List �
   within = member-below (codeOf b) (accepted b judged)
 
   -- the divisors are above 0
-  accepted-projection : wild o ≡ false → (a : State) (v : ℕ) → v < variables (codeOf b) → Projection (systemOf (codeOf b)) o costs a v
+  accepted-projection : outOfRange o ≡ false → (a : State) (v : ℕ) → v < variables (codeOf b) → Projection (systemOf (codeOf b)) o costs a v
   unfolding systemOf
   accepted-projection w a v l =
       let t = or-false (outside 1 65535 (o .weight)) _ w in
@@ -283,7 +283,7 @@ module _ (b : List ℕ) (judged : judge b ≡ 0) (o : Settings) (costs : List �
       (divisor-above (occurrences (systemOf (codeOf b) .members) (systemOf (codeOf b) .triples) v) (o .ratio) (occurs-some (codeOf b) (accepted b judged) v l)
       (ltb-false 1023 (o .ratio) (or-false (ltb 1023 (o .ratio)) _ (t .1) .0)))
 
-  pub published : wild o ≡ false → Published b o costs
+  pub published : outOfRange o ≡ false → Published b o costs
   published w = record {
     system = paper-system (systemOf (codeOf b)) within;
     updates = λ i. paper (systemOf (codeOf b)) o costs (iterateOf b o costs i);

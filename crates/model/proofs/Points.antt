@@ -18,7 +18,7 @@ use Rattle.model.specs.Code.{Code, turns, tripleCount, triples}
 use Rattle.model.specs.Sound.{Rising, SoundCheck, SoundChecks, Sound}
 use Rattle.model.specs.Splitting.{queue, triplesFrom, systemOf, member}
 use Rattle.model.specs.Iteration.{sign, rowSum}
-use Rattle.model.specs.Words.{entry}
+use Rattle.model.specs.Words.{bitAt}
 use Rattle.model.specs.Points.{Bits, Codeword, centred, Point, extend, pointOf}
 use Rattle.model.specs.Claims.{Points}
 use Rattle.model.proofs.Queue.{by-turns, member-next}
@@ -95,19 +95,19 @@ along P more (x ∷ []) p h = h
 along P more (x ∷ y ∷ []) p h = h
 along P more (x ∷ y ∷ z ∷ ts) p h = along P more ts _ (by (eqb z (length p)))
   where
-    by : (t : Bool) → P (cond t (p ++ ((entry p x + entry p y) % 2 ∷ [])) p)
-    by true = more p ((entry p x + entry p y) % 2) (omega arith) h
+    by : (t : Bool) → P (cond t (p ++ ((bitAt p x + bitAt p y) % 2 ∷ [])) p)
+    by true = more p ((bitAt p x + bitAt p y) % 2) (omega arith) h
     by false = h
 
 extend-binary : (ts p : List ℕ) → Below 2 p → Below 2 (extend ts p)
 extend-binary = along (Below 2) (λ q v h b. below-snoc 2 v q h b)
 
-extend-begins : (ts p : List ℕ) (i : ℕ) → i < length p → entry (extend ts p) i ≡ entry p i
+extend-begins : (ts p : List ℕ) (i : ℕ) → i < length p → bitAt (extend ts p) i ≡ bitAt p i
 extend-begins ts p i h =
-    along (λ q. (i < length q) × (entry q i ≡ entry p i)) (λ q v l e. (simp length-append (omega (arith, e .0)), List·getD-append q (v ∷ []) 0 i (e .0) ∙ e .1)) ts p (h, refl) .1
+    along (λ q. (i < length q) × (bitAt q i ≡ bitAt p i)) (λ q v l e. (simp length-append (omega (arith, e .0)), List·getD-append q (v ∷ []) 0 i (e .0) ∙ e .1)) ts p (h, refl) .1
 
 -- a step over a triple whose third is the next auxiliary, and over one whose third is not
-pub extend-made : (x y a : ℕ) (ts p : List ℕ) → length p ≡ a → extend (x ∷ y ∷ a ∷ ts) p ≡ extend ts (p ++ ((entry p x + entry p y) % 2 ∷ []))
+pub extend-made : (x y a : ℕ) (ts p : List ℕ) → length p ≡ a → extend (x ∷ y ∷ a ∷ ts) p ≡ extend ts (p ++ ((bitAt p x + bitAt p y) % 2 ∷ []))
 unfolding extend
 extend-made x y a ts p h = rw (eq-eqb a (length p) (sym h))
 
@@ -116,28 +116,28 @@ unfolding extend
 extend-kept x y z ts p h = rw (ne-eqb z (length p) (λ e. omega arith))
 
 -- where the triples of a check are even at r, the extension follows r
-follows : (r : List ℕ) → ((i : ℕ) → entry r i < 2) → (rest : List ℕ) (n m : ℕ) (q : List ℕ) (a : ℕ) → length q ≡ 3 + m → Below a q → a + m ≤ length r
-    → Even (entry r) (queue m q a ++ rest) (suc m + n) → extend (queue m q a ++ rest) (take a r) ≡ extend rest (take (a + m) r)
+follows : (r : List ℕ) → ((i : ℕ) → bitAt r i < 2) → (rest : List ℕ) (n m : ℕ) (q : List ℕ) (a : ℕ) → length q ≡ 3 + m → Below a q → a + m ≤ length r
+    → Even (bitAt r) (queue m q a ++ rest) (suc m + n) → extend (queue m q a ++ rest) (take a r) ≡ extend rest (take (a + m) r)
 unfolding queue
 follows r binary rest n =
-    by-turns (λ m q a. Below a q → a + m ≤ length r → Even (entry r) (queue m q a ++ rest) (suc m + n) → extend (queue m q a ++ rest) (take a r) ≡ extend rest (take (a + m) r))
+    by-turns (λ m q a. Below a q → a + m ≤ length r → Even (bitAt r) (queue m q a ++ rest) (suc m + n) → extend (queue m q a ++ rest) (take a r) ≡ extend rest (take (a + m) r))
     (λ x y z a b l e. rw (add-zero a) (extend-kept x y z rest (take a r) (omega (arith, b 2, length-take-le a r (omega arith)))))
     (λ m x y q a ih b l e.
     let ts = queue m (q ++ (a ∷ [])) (suc a) ++ rest in
-    let first : entry (take a r) x ≡ entry r x = getD-take a r x 0 (b 0) in
-    let second : entry (take a r) y ≡ entry r y = getD-take a r y 0 (b 1) in
-    let new : (entry (take a r) x + entry (take a r) y) % 2 ≡ entry r a = omega (arith, first, second, e 0 (omega arith), binary a) in
+    let first : bitAt (take a r) x ≡ bitAt r x = getD-take a r x 0 (b 0) in
+    let second : bitAt (take a r) y ≡ bitAt r y = getD-take a r y 0 (b 1) in
+    let new : (bitAt (take a r) x + bitAt (take a r) y) % 2 ≡ bitAt r a = omega (arith, first, second, e 0 (omega arith), binary a) in
     let next : a + suc m ≡ suc a + m = omega arith in
     extend-made x y a ts (take a r) (length-take-le a r (omega arith))
     ∙ rw (new, ← take-suc r a 0 (omega arith), next)
-    (ih (below-turn a x y q b) (omega arith) (even-tail (entry r) x y a ts (suc m + n) (λ t k. e t (omega arith)))))
+    (ih (below-turn a x y q b) (omega arith) (even-tail (bitAt r) x y a ts (suc m + n) (λ t k. e t (omega arith)))))
 
 -- the extension over a check: m entries are added, which make its triples even where the check is even
 record Grown (rest : List ℕ) (m : ℕ) (q : List ℕ) (a : ℕ) (p : List ℕ) : Type 0 where
   grown : List ℕ
   long : length grown ≡ a + m
   is : extend (queue m q a ++ rest) p ≡ extend rest grown
-  even : (r : List ℕ) → r ≡ extend rest grown → total (entry r) q % 2 ≡ 0 → (n : ℕ) → Even (entry r) rest n → Even (entry r) (queue m q a ++ rest) (suc m + n)
+  even : (r : List ℕ) → r ≡ extend rest grown → total (bitAt r) q % 2 ≡ 0 → (n : ℕ) → Even (bitAt r) rest n → Even (bitAt r) (queue m q a ++ rest) (suc m + n)
 
 grow : (rest : List ℕ) (m : ℕ) (q : List ℕ) (a : ℕ) → length q ≡ 3 + m → Below a q → (p : List ℕ) → length p ≡ a → Grown rest m q a p
 unfolding queue
@@ -147,27 +147,27 @@ grow rest =
       grown = p;
       long = omega arith;
       is = extend-kept x y z rest p (omega (arith, b 2));
-      even = λ r e o n k t h. even-cons (entry r) x y z rest n (omega arith) k t (omega arith);
+      even = λ r e o n k t h. even-cons (bitAt r) x y z rest n (omega arith) k t (omega arith);
     })
     turn
   where
     turn : (m x y : ℕ) (q : List ℕ) (a : ℕ) → (Below (suc a) (q ++ (a ∷ [])) → (p : List ℕ) → length p ≡ suc a → Grown rest m (q ++ (a ∷ [])) (suc a) p)
         → Below a (x ∷ y ∷ q) → (p : List ℕ) → length p ≡ a → Grown rest (suc m) (x ∷ y ∷ q) a p
     turn m x y q a ih b p l =
-        let v = (entry p x + entry p y) % 2 in
+        let v = (bitAt p x + bitAt p y) % 2 in
         let ts = queue m (q ++ (a ∷ [])) (suc a) ++ rest in
         let i = ih (below-turn a x y q b) (p ++ (v ∷ [])) (length-append p (v ∷ []) ∙ omega arith) in
-        let seam : entry (p ++ (v ∷ [])) a ≡ v = subst (λ (i : ℕ). entry (p ++ (v ∷ [])) i ≡ v) l (getD-append-seam p v [] 0) in
+        let seam : bitAt (p ++ (v ∷ [])) a ≡ v = subst (λ (i : ℕ). bitAt (p ++ (v ∷ [])) i ≡ v) l (getD-append-seam p v [] 0) in
         record {
           grown = i .grown;
           long = omega (arith, i .long);
           is = extend-made x y a ts p l ∙ i .is;
           even = λ r e o n k t h.
-              let at : (j : ℕ) → j < suc a → entry r j ≡ entry (p ++ (v ∷ [])) j
-              = λ j g. ap (λ (r : List ℕ). entry r j) (e ∙ sym (i .is)) ∙ extend-begins ts (p ++ (v ∷ [])) j (simp length-append (omega arith)) in
-              let old : (j : ℕ) → j < a → entry r j ≡ entry p j = λ j g. at j (omega arith) ∙ List·getD-append p (v ∷ []) 0 j (omega arith) in
-              let three : (entry r x + entry r y + entry r a) % 2 ≡ 0 = omega (arith, old x (b 0), old y (b 1), at a (omega arith), seam) in
-              even-cons (entry r) x y a ts (suc m + n) three (i .even r e (omega (arith, total-append (entry r) q (a ∷ []), three)) n k) t (omega arith);
+              let at : (j : ℕ) → j < suc a → bitAt r j ≡ bitAt (p ++ (v ∷ [])) j
+              = λ j g. ap (λ (r : List ℕ). bitAt r j) (e ∙ sym (i .is)) ∙ extend-begins ts (p ++ (v ∷ [])) j (simp length-append (omega arith)) in
+              let old : (j : ℕ) → j < a → bitAt r j ≡ bitAt p j = λ j g. at j (omega arith) ∙ List·getD-append p (v ∷ []) 0 j (omega arith) in
+              let three : (bitAt r x + bitAt r y + bitAt r a) % 2 ≡ 0 = omega (arith, old x (b 0), old y (b 1), at a (omega arith), seam) in
+              even-cons (bitAt r) x y a ts (suc m + n) three (i .even r e (omega (arith, total-append (bitAt r) q (a ∷ []), three)) n k) t (omega arith);
         }
 
 -- ---- all checks
@@ -186,19 +186,19 @@ module _ (n : ℕ) (some-bit : 0 < n) where
       by o ih zero h = o
       by o ih (suc j) h = ih j (omega arith)
 
-  checks-follow : (r : List ℕ) → ((i : ℕ) → entry r i < 2) → (cs : List (List ℕ)) (a : ℕ) → n ≤ a → SoundChecks n cs → length r ≡ a + total turns cs
-      → Even (entry r) (triplesFrom cs a) (total tripleCount cs) → extend (triplesFrom cs a) (take a r) ≡ r
+  checks-follow : (r : List ℕ) → ((i : ℕ) → bitAt r i < 2) → (cs : List (List ℕ)) (a : ℕ) → n ≤ a → SoundChecks n cs → length r ≡ a + total turns cs
+      → Even (bitAt r) (triplesFrom cs a) (total tripleCount cs) → extend (triplesFrom cs a) (take a r) ≡ r
   unfolding triplesFrom extend
   checks-follow r binary [] a l s h e = take-all a r (omega arith)
   checks-follow r binary (c ∷ cs) a l s h e =
       let d : length c ≡ 3 + turns c = omega (arith, s .0 .least) in
-      let e′ : Even (entry r) (queue (turns c) c a ++ triplesFrom cs (a + turns c)) (suc (turns c) + total tripleCount cs) = λ t k. e t (omega arith) in
+      let e′ : Even (bitAt r) (queue (turns c) c a ++ triplesFrom cs (a + turns c)) (suc (turns c) + total tripleCount cs) = λ t k. e t (omega arith) in
       follows r binary (triplesFrom cs (a + turns c)) (total tripleCount cs) (turns c) c a d (below a c l (s .0)) (omega arith) e′
-      ∙ checks-follow r binary cs (a + turns c) (omega arith) (s .1) (omega arith) (check-even (entry r) (triplesFrom cs (a + turns c)) (total tripleCount cs) (turns c) c a d e′ .1)
+      ∙ checks-follow r binary cs (a + turns c) (omega arith) (s .1) (omega arith) (check-even (bitAt r) (triplesFrom cs (a + turns c)) (total tripleCount cs) (turns c) c a d e′ .1)
 
   checks-grow : (cs : List (List ℕ)) (a : ℕ) → n ≤ a → SoundChecks n cs → (p : List ℕ) → length p ≡ a
       → (length (extend (triplesFrom cs a) p) ≡ a + total turns cs)
-      × ((r : List ℕ) → r ≡ extend (triplesFrom cs a) p → ((j : ℕ) → j < length cs → total (entry r) (getD cs j []) % 2 ≡ 0) → Even (entry r) (triplesFrom cs a) (total tripleCount cs))
+      × ((r : List ℕ) → r ≡ extend (triplesFrom cs a) p → ((j : ℕ) → j < length cs → total (bitAt r) (getD cs j []) % 2 ≡ 0) → Even (bitAt r) (triplesFrom cs a) (total tripleCount cs))
   unfolding triplesFrom extend
   checks-grow [] a l s p h = (omega arith, λ r e o t k. absurd (omega arith))
   checks-grow (c ∷ cs) a l s p h =
@@ -223,16 +223,16 @@ module _ (k : Code) (s : Sound k) where
   some-bit : 0 < k .bits
   some-bit = omega (arith, s .bits-least)
 
-  pub point-begins : (w : List ℕ) → length w ≡ k .bits → (i : ℕ) → i < k .bits → entry (pointOf k w) i ≡ entry w i
+  pub point-begins : (w : List ℕ) → length w ≡ k .bits → (i : ℕ) → i < k .bits → bitAt (pointOf k w) i ≡ bitAt w i
   point-begins w h i l = extend-begins (systemOf k .members) w i (omega arith)
 
-  pub point-even : (w : List ℕ) → Codeword k w → Even (entry (pointOf k w)) (systemOf k .members) (systemOf k .triples)
+  pub point-even : (w : List ℕ) → Codeword k w → Even (bitAt (pointOf k w)) (systemOf k .members) (systemOf k .triples)
   unfolding systemOf
   point-even w c =
       checks-grow (k .bits) some-bit (k .checks) (k .bits) (omega arith) (s .checks) w (c .word .long) .1 (pointOf k w) refl
-      (λ j h. rw (totals-bits (k .bits) (entry (pointOf k w)) (entry w) (k .checks) (point-begins w (c .word .long)) (s .checks) j) (c .even j h))
+      (λ j h. rw (totals-bits (k .bits) (bitAt (pointOf k w)) (bitAt w) (k .checks) (point-begins w (c .word .long)) (s .checks) j) (c .even j h))
 
-  pub point-binary : (w : List ℕ) → Codeword k w → (i : ℕ) → entry (pointOf k w) i < 2
+  pub point-binary : (w : List ℕ) → Codeword k w → (i : ℕ) → bitAt (pointOf k w) i < 2
   point-binary w c = extend-binary (systemOf k .members) w (c .word .binary)
 
   pub point : (w : List ℕ) → Codeword k w → Point (systemOf k) (pointOf k w)
@@ -252,15 +252,15 @@ module _ (k : Code) (s : Sound k) where
       let long : length (take (k .bits) (pointOf k w)) ≡ length w = length-take-le (k .bits) (pointOf k w) (omega (arith, point w c .point .long)) ∙ sym n in
       ext-getD 0 (take (k .bits) (pointOf k w)) w long (λ i l. getD-take (k .bits) (pointOf k w) i 0 (omega arith) ∙ point-begins w n i (omega arith))
 
-  evened : (p : List ℕ) → Point (systemOf k) p → Even (entry p) (systemOf k .members) (systemOf k .triples)
+  evened : (p : List ℕ) → Point (systemOf k) p → Even (bitAt p) (systemOf k .members) (systemOf k .triples)
   evened p q t h = meets-even _ _ _ (q .point .binary _) (q .point .binary _) (q .point .binary _) (λ r l. q .meets t r h l)
 
   codeword : (w p : List ℕ) → Bits (k .bits) w → Point (systemOf k) p → take (k .bits) p ≡ w → Codeword k w
   unfolding systemOf
   codeword w p b q e = record {
     word = b;
-    even = λ j h. rw (totals-bits (k .bits) (entry w) (entry p) (k .checks) (λ i l. subst (λ (u : List ℕ). entry u i ≡ entry p i) e (getD-take (k .bits) p i 0 l)) (s .checks) j)
-        (checks-even (k .bits) some-bit (entry p) (k .checks) (k .bits) (s .checks) (evened p q) j h);
+    even = λ j h. rw (totals-bits (k .bits) (bitAt w) (bitAt p) (k .checks) (λ i l. subst (λ (u : List ℕ). bitAt u i ≡ bitAt p i) e (getD-take (k .bits) p i 0 l)) (s .checks) j)
+        (checks-even (k .bits) some-bit (bitAt p) (k .checks) (k .bits) (s .checks) (evened p q) j h);
   }
 
   pub points : Points k

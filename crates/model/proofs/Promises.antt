@@ -26,7 +26,7 @@ use Rattle.model.specs.Words.{firstOdd, Outcome, tested}
 use Rattle.model.specs.Points.{Codeword, pointOf}
 use Rattle.model.specs.Reflection.{reflect}
 use Rattle.model.specs.Channel.{finite, inRange, product, costOf}
-use Rattle.model.specs.Calls.{wild, unequal, forbidden, notBinary, ReaderAnswer, reader, Split, splitter, wordCauses, codewordTest}
+use Rattle.model.specs.Calls.{outOfRange, unequal, forbidden, notBinary, ReaderAnswer, reader, Split, splitter, wordCauses, codewordTest}
 use Rattle.model.specs.Calls.{Extended, extensionCauses, extension, Lists, Decoded, noRoom, decoderCause, decoder, Costs, frontCauses, channelFront, reflectorCauses, reflector}
 use Rattle.model.specs.Order.{oddCauses, Ordered, oneToNine}
 use Rattle.model.specs.Told.{Refuses}
@@ -302,7 +302,7 @@ module _ (b : List ℕ) (o : Settings) (costs : List ℤ) (l : Lists) (d : Decod
     refused = λ c h. subst (Refused b o costs l) (sym meets) (Entry.refused b o costs l c h);
     ran = λ h. subst (Ran b o costs l) (sym meets) (Entry.ran b o costs l h);
     iterated = λ h. subst (Iterated b o costs l) (sym meets) (Entry.iterated b o costs l h);
-    published = λ h. (let c = Entry.clear-causes b o costs l h in published b (c .0) o costs (unless 10 (wild o) (c .1 .0)));
+    published = λ h. (let c = Entry.clear-causes b o costs l h in published b (c .0) o costs (unless 10 (outOfRange o) (c .1 .0)));
     demand-3 = Demand3.demand-3 b;
     reflected = reflected;
     end-to-end = λ ended w t test passed old r call done m room e again.

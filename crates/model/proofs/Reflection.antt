@@ -17,28 +17,28 @@ use Rattle.model.specs.declared.Settings.{Settings}
 use Rattle.model.specs.Splitting.{System, member}
 use Rattle.model.specs.Iteration.{at, row, sign, rowSum, sumAt, slack, multiplier, share, _when_, sumOf, numerator, renewed, State, sumsOf, valueOf, valuesOf, rowsOf, iterate}
 use Rattle.model.specs.Run.{squareOfChange, changes, settledBy, start, after, Ended, runFrom}
-use Rattle.model.specs.Words.{entry}
-use Rattle.model.specs.Reflection.{turned, Opposite, Reflected}
+use Rattle.model.specs.Words.{bitAt}
+use Rattle.model.specs.Reflection.{negatedIf, Opposite, Reflected}
 use Rattle.model.proofs.Rows.{four, three, even-cases, none, row-renewed}
 
 -- ---- turning
-pub turned-zero : (b : ℕ) → turned b (pos 0) ≡ pos 0
+pub turned-zero : (b : ℕ) → negatedIf b (pos 0) ≡ pos 0
 turned-zero zero = refl
 turned-zero (suc b) = refl
 
-turned-mul : (b : ℕ) (m z : ℤ) → turned b m *ℤ z ≡ turned b (m *ℤ z)
+turned-mul : (b : ℕ) (m z : ℤ) → negatedIf b m *ℤ z ≡ negatedIf b (m *ℤ z)
 turned-mul zero m z = refl
 turned-mul (suc b) m z = neg-*ℤ m z
 
-turned-both : (b : ℕ) (m z : ℤ) → turned b m *ℤ turned b z ≡ m *ℤ z
+turned-both : (b : ℕ) (m z : ℤ) → negatedIf b m *ℤ negatedIf b z ≡ m *ℤ z
 turned-both zero m z = refl
 turned-both (suc b) m z = rw (split m, split z) (simp toℕ (omega arith))
 
-turned-sum : (b n : ℕ) (f : ℕ → ℤ) → sumℤ n (λ k. turned b (f k)) ≡ turned b (sumℤ n f)
+turned-sum : (b n : ℕ) (f : ℕ → ℤ) → sumℤ n (λ k. negatedIf b (f k)) ≡ negatedIf b (sumℤ n f)
 turned-sum zero n f = refl
 turned-sum (suc b) n f = sumℤ-neg n f
 
-turned-tab : (b n : ℕ) (f g : ℕ → ℤ) (v : ℕ) → g v ≡ turned b (f v) → at (tab n g) v ≡ turned b (at (tab n f) v)
+turned-tab : (b n : ℕ) (f g : ℕ → ℤ) (v : ℕ) → g v ≡ negatedIf b (f v) → at (tab n g) v ≡ negatedIf b (at (tab n f) v)
 turned-tab b zero f g v e = sym (turned-zero b)
 turned-tab b (suc n) f g zero e = e
 turned-tab b (suc n) f g (suc v) e = turned-tab b n (λ k. f (suc k)) (λ k. g (suc k)) v e
@@ -46,7 +46,7 @@ turned-tab b (suc n) f g (suc v) e = turned-tab b n (λ k. f (suc k)) (λ k. g (
 -- ---- where the rows of an even triple go
 -- row q has the signs of row r, turned at the three positions
 abbrev Turned : ℕ → ℕ → ℕ → ℕ → ℕ → Type 0
-Turned a b c r q = (sign q 0 ≡ turned a (sign r 0)) × (sign q 1 ≡ turned b (sign r 1)) × (sign q 2 ≡ turned c (sign r 2))
+Turned a b c r q = (sign q 0 ≡ negatedIf a (sign r 0)) × (sign q 1 ≡ negatedIf b (sign r 1)) × (sign q 2 ≡ negatedIf c (sign r 2))
 
 -- an exchange of the four rows
 record Exchange (a b c : ℕ) : Type 0 where
@@ -86,7 +86,7 @@ row-of = four (λ r. up (sign r 1) + 2 * up (sign r 2) ≡ r) refl refl refl ref
 same-row : (r q : ℕ) → r < 4 → q < 4 → ((p : ℕ) → p < 3 → sign r p ≡ sign q p) → r ≡ q
 same-row r q h l e = sym (row-of r h) ∙ rw (e 1 (lit< tt), e 2 (lit< tt)) (row-of q l)
 
-turned-back : (b : ℕ) (y z : ℤ) → turned b y ≡ turned b z → y ≡ z
+turned-back : (b : ℕ) (y z : ℤ) → negatedIf b y ≡ negatedIf b z → y ≡ z
 turned-back zero y z e = e
 turned-back (suc b) y z e = sym (negℤ-negℤ y) ∙ ap negℤ e ∙ negℤ-negℤ z
 
@@ -95,20 +95,20 @@ module _ (x ts : List ℕ) (t : ℕ) where
   unique r q q′ h l e f = same-row q q′ h l (λ p k. e p k ∙ sym (f p k))
 
   pub injective : (r r′ q : ℕ) → r < 4 → r′ < 4 → Opposite x ts t r q → Opposite x ts t r′ q → r ≡ r′
-  injective r r′ q h l e f = same-row r r′ h l (λ p k. turned-back (entry x (member ts t p)) (sign r p) (sign r′ p) (sym (e p k) ∙ f p k))
+  injective r r′ q h l e f = same-row r r′ h l (λ p k. turned-back (bitAt x (member ts t p)) (sign r p) (sign r′ p) (sym (e p k) ∙ f p k))
 
 -- ---- one iteration
-module _ (g : System) (x : List ℕ) (binary : (v : ℕ) → entry x v < 2)
-    (even : (t : ℕ) → t < g .triples → (entry x (member (g .members) t 0) + entry x (member (g .members) t 1) + entry x (member (g .members) t 2)) % 2 ≡ 0) where
+module _ (g : System) (x : List ℕ) (binary : (v : ℕ) → bitAt x v < 2)
+    (even : (t : ℕ) → t < g .triples → (bitAt x (member (g .members) t 0) + bitAt x (member (g .members) t 1) + bitAt x (member (g .members) t 2)) % 2 ≡ 0) where
   -- the point's entry at position p of triple t
   abbrev y : ℕ → ℕ → ℕ
-  y t p = entry x (member (g .members) t p)
+  y t p = bitAt x (member (g .members) t p)
 
   exchanged : (t : ℕ) → t < g .triples → Exchange (y t 0) (y t 1) (y t 2)
   exchanged t h = exchange (y t 0) (y t 1) (y t 2) (binary _) (binary _) (binary _) (even t h)
 
   opposed : (t r q : ℕ) → Turned (y t 0) (y t 1) (y t 2) r q → Opposite x (g .members) t r q
-  opposed t r q e = three (λ p. sign q p ≡ turned (y t p) (sign r p)) (e .0) (e .1) (e .2)
+  opposed t r q e = three (λ p. sign q p ≡ negatedIf (y t p) (sign r p)) (e .0) (e .1) (e .2)
 
   -- each row has its opposite
   pub opposite : (t r : ℕ) → t < g .triples → r < 4 → (q : ℕ) × (q < 4) × Opposite x (g .members) t r q
@@ -123,39 +123,39 @@ module _ (g : System) (x : List ℕ) (binary : (v : ℕ) → entry x v < 2)
   abbrev Exchanged : List ℤ → List ℤ → Type 0
   Exchanged s s′ = (t r q : ℕ) → t < g .triples → r < 4 → q < 4 → Opposite x (g .members) t r q → row s′ t q ≡ row s t r
 
-  share-turned : (s s′ : List ℤ) → Exchanged s s′ → (t p : ℕ) → t < g .triples → p < 3 → share s′ t p ≡ turned (y t p) (share s t p)
+  share-turned : (s s′ : List ℤ) → Exchanged s s′ → (t p : ℕ) → t < g .triples → p < 3 → share s′ t p ≡ negatedIf (y t p) (share s t p)
   unfolding share
   share-turned s s′ m t p h l =
       let size : ℤ → ℤ = λ z. pos (slack z + multiplier z) in
       let f : ℕ → ℤ = λ r. sign r p *ℤ size (row s t r) in
       let f′ : ℕ → ℤ = λ r. sign r p *ℤ size (row s′ t r) in
-      rows-sum t h (λ r. turned (y t p) (f r)) f′ (λ r q k j e. rw (e p l, m t r q h k j e) (turned-mul (y t p) (sign r p) (size (row s t r))))
+      rows-sum t h (λ r. negatedIf (y t p) (f r)) f′ (λ r q k j e. rw (e p l, m t r q h k j e) (turned-mul (y t p) (sign r p) (size (row s t r))))
       ∙ turned-sum (y t p) 4 f
 
-  when-turned : (i v : ℕ) (z z′ : ℤ) → z′ ≡ turned (entry x i) z → z′ when eqb i v ≡ turned (entry x v) (z when eqb i v)
+  when-turned : (i v : ℕ) (z z′ : ℤ) → z′ ≡ negatedIf (bitAt x i) z → z′ when eqb i v ≡ negatedIf (bitAt x v) (z when eqb i v)
   when-turned i v z z′ e = by (eqb i v) (eqb-true i v)
     where
-      by : (t : Bool) → (t ≡ true → i ≡ v) → z′ when t ≡ turned (entry x v) (z when t)
+      by : (t : Bool) → (t ≡ true → i ≡ v) → z′ when t ≡ negatedIf (bitAt x v) (z when t)
       by true f = rw (← f refl) e
-      by false f = sym (turned-zero (entry x v))
+      by false f = sym (turned-zero (bitAt x v))
 
-  sum-turned : (s s′ : List ℤ) → Exchanged s s′ → (v : ℕ) → sumOf (g .members) (g .triples) s′ v ≡ turned (entry x v) (sumOf (g .members) (g .triples) s v)
+  sum-turned : (s s′ : List ℤ) → Exchanged s s′ → (v : ℕ) → sumOf (g .members) (g .triples) s′ v ≡ negatedIf (bitAt x v) (sumOf (g .members) (g .triples) s v)
   unfolding sumOf
   sum-turned s s′ m v =
       let part : List ℤ → ℕ → ℕ → ℤ = λ s t p. share s t p when eqb (member (g .members) t p) v in
-      sumℤ-same (g .triples) (λ t. sumℤ 3 (part s′ t)) (λ t. turned (entry x v) (sumℤ 3 (part s t))) (λ t h.
-      sumℤ-same 3 (part s′ t) (λ p. turned (entry x v) (part s t p)) (λ p l. when-turned (member (g .members) t p) v (share s t p) (share s′ t p) (share-turned s s′ m t p h l))
-      ∙ turned-sum (entry x v) 3 (part s t))
-      ∙ turned-sum (entry x v) (g .triples) (λ t. sumℤ 3 (part s t))
+      sumℤ-same (g .triples) (λ t. sumℤ 3 (part s′ t)) (λ t. negatedIf (bitAt x v) (sumℤ 3 (part s t))) (λ t h.
+      sumℤ-same 3 (part s′ t) (λ p. negatedIf (bitAt x v) (part s t p)) (λ p l. when-turned (member (g .members) t p) v (share s t p) (share s′ t p) (share-turned s s′ m t p h l))
+      ∙ turned-sum (bitAt x v) 3 (part s t))
+      ∙ turned-sum (bitAt x v) (g .triples) (λ t. sumℤ 3 (part s t))
 
-  sumAt-turned : (c c′ : List ℤ) → ((v : ℕ) → at c′ v ≡ turned (entry x v) (at c v)) → (t r q : ℕ) → Opposite x (g .members) t r q → sumAt (g .members) c′ t q ≡ sumAt (g .members) c t r
+  sumAt-turned : (c c′ : List ℤ) → ((v : ℕ) → at c′ v ≡ negatedIf (bitAt x v) (at c v)) → (t r q : ℕ) → Opposite x (g .members) t r q → sumAt (g .members) c′ t q ≡ sumAt (g .members) c t r
   unfolding rowSum
   sumAt-turned c c′ e t r q f = ap₂ _+ℤ_ (ap₂ _+ℤ_ (part 0 (lit< tt)) (part 1 (lit< tt))) (part 2 (lit< tt))
     where
       part : (p : ℕ) → p < 3 → sign q p *ℤ at c′ (member (g .members) t p) ≡ sign r p *ℤ at c (member (g .members) t p)
       part p l = rw (f p l, e (member (g .members) t p)) (turned-both (y t p) (sign r p) (at c (member (g .members) t p)))
 
-  rows-turned : (s s′ c c′ : List ℤ) → Exchanged s s′ → ((v : ℕ) → at c′ v ≡ turned (entry x v) (at c v)) → Exchanged (rowsOf g s c) (rowsOf g s′ c′)
+  rows-turned : (s s′ c c′ : List ℤ) → Exchanged s s′ → ((v : ℕ) → at c′ v ≡ negatedIf (bitAt x v) (at c v)) → Exchanged (rowsOf g s c) (rowsOf g s′ c′)
   rows-turned s s′ c c′ m e t r q h k j f =
       row-renewed g s′ c′ t q h j ∙ ap₂ renewed (m t r q h k j f) (sumAt-turned c c′ e t r q f) ∙ sym (row-renewed g s c t r h k)
 
@@ -175,15 +175,15 @@ module _ (g : System) (x : List ℕ) (binary : (v : ℕ) → entry x v < 2)
   pub begun : Reflected g x (start g) (start g)
   unfolding start
   begun = record {
-    values = λ v. rw (none (g .variables) v) (sym (turned-zero (entry x v)));
-    sums = λ v. rw (none (g .variables) v) (sym (turned-zero (entry x v)));
+    values = λ v. rw (none (g .variables) v) (sym (turned-zero (bitAt x v)));
+    sums = λ v. rw (none (g .variables) v) (sym (turned-zero (bitAt x v)));
     rows = λ t r q h k j e. none (4 * g .triples) (4 * t + q) ∙ sym (none (4 * g .triples) (4 * t + r));
   }
 
   -- ---- the run, with costs that are turned, and a division that is odd
   module _ (div : ℤ → ℤ → ℤ) (odd : (n d : ℤ) → div (negℤ n) d ≡ negℤ (div n d)) (o : Settings) (costs costs′ : List ℤ)
-      (turns : (v : ℕ) → at costs′ v ≡ turned (entry x v) (at costs v)) where
-    value-turned : (b W : ℕ) (S L d : ℤ) → div (numerator W (turned b S) (turned b L)) d ≡ turned b (div (numerator W S L) d)
+      (turns : (v : ℕ) → at costs′ v ≡ negatedIf (bitAt x v) (at costs v)) where
+    value-turned : (b W : ℕ) (S L d : ℤ) → div (numerator W (negatedIf b S) (negatedIf b L)) d ≡ negatedIf b (div (numerator W S L) d)
     value-turned zero W S L d = refl
     value-turned (suc b) W S L d = ap (λ (z : ℤ). div z d) both ∙ odd (numerator W S L) d
       where
@@ -193,11 +193,11 @@ module _ (g : System) (x : List ℕ) (binary : (v : ℕ) → entry x v < 2)
     stepped : (a b : State) → Reflected g x a b → Reflected g x (iterate div g o costs a) (iterate div g o costs′ b)
     unfolding iterate sumsOf valuesOf
     stepped a b m =
-        let S : (v : ℕ) → at (sumsOf g (b .rows)) v ≡ turned (entry x v) (at (sumsOf g (a .rows)) v)
-        = λ v. turned-tab (entry x v) (g .variables) (sumOf (g .members) (g .triples) (a .rows)) (sumOf (g .members) (g .triples) (b .rows)) v (sum-turned (a .rows) (b .rows) (m .rows) v) in
-        let c : (v : ℕ) → at (iterate div g o costs′ b .values) v ≡ turned (entry x v) (at (iterate div g o costs a .values) v)
-        = λ v. turned-tab (entry x v) (g .variables) (valueOf div g o costs (sumsOf g (a .rows))) (valueOf div g o costs′ (sumsOf g (b .rows))) v
-        (rw (S v, turns v) (value-turned (entry x v) (o .weight) (at (sumsOf g (a .rows)) v) (at costs v) _)) in
+        let S : (v : ℕ) → at (sumsOf g (b .rows)) v ≡ negatedIf (bitAt x v) (at (sumsOf g (a .rows)) v)
+        = λ v. turned-tab (bitAt x v) (g .variables) (sumOf (g .members) (g .triples) (a .rows)) (sumOf (g .members) (g .triples) (b .rows)) v (sum-turned (a .rows) (b .rows) (m .rows) v) in
+        let c : (v : ℕ) → at (iterate div g o costs′ b .values) v ≡ negatedIf (bitAt x v) (at (iterate div g o costs a .values) v)
+        = λ v. turned-tab (bitAt x v) (g .variables) (valueOf div g o costs (sumsOf g (a .rows))) (valueOf div g o costs′ (sumsOf g (b .rows))) v
+        (rw (S v, turns v) (value-turned (bitAt x v) (o .weight) (at (sumsOf g (a .rows)) v) (at costs v) _)) in
         record { values = c; sums = S; rows = rows-turned (a .rows) (b .rows) _ _ (m .rows) c }
 
     pub each : (a b : State) → Reflected g x a b → (i : ℕ) → Reflected g x (after div g o costs i a) (after div g o costs′ i b)

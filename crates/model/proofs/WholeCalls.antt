@@ -22,7 +22,7 @@ use Rattle.model.specs.Splitting.{queue, triplesFrom, systemOf}
 use Rattle.model.specs.Iteration.{sign, rowSum, share, sumOf, occurrences, sumsOf, countsOf, valuesOf, rowsOf, iterate}
 use Rattle.model.specs.Run.{changes, settledBy, start, after, runFrom, run}
 use Rattle.model.specs.Words.{wordOf, firstUndecided, firstOdd, tested, outcome}
-use Rattle.model.specs.Calls.{wild, unequal, forbidden, Lists, Decoded, noRoom, decoderCause, decodedBy, decoder, reader}
+use Rattle.model.specs.Calls.{outOfRange, unequal, forbidden, Lists, Decoded, noRoom, decoderCause, decodedBy, decoder, reader}
 use Rattle.model.specs.Table.{settings, by-hand}
 use Rattle.model.specs.WholeCalls.{listed, Room, WholeCalls, InRange, RunEdges, ChannelEdges}
 use Rattle.model.specs.Channel.{scaleInRange, floorInRange, inRange}
@@ -62,7 +62,7 @@ whole-calls = record {
 }
 
 -- ---- settings
-in-range : (o : Settings) → (wild o ≡ false) ↔ InRange o
+in-range : (o : Settings) → (outOfRange o ≡ false) ↔ InRange o
 in-range o = (
   λ h.
       let a = or-false (outside 1 65535 (o .weight)) _ h in

@@ -21,7 +21,7 @@ use Rattle.model.specs.Code.{Code, turns, tripleCount}
 use Rattle.model.specs.Sound.{SoundChecks, Sound}
 use Rattle.model.specs.Splitting.{queue, triplesFrom, systemOf, member}
 use Rattle.model.specs.Iteration.{at}
-use Rattle.model.specs.Words.{entry, bitOf, wordOf, firstUndecided, odd, firstOdd, Outcome, tested, outcome}
+use Rattle.model.specs.Words.{bitAt, bitOf, wordOf, firstUndecided, odd, firstOdd, Outcome, tested, outcome}
 use Rattle.model.specs.Points.{Bits, Codeword, pointOf}
 use Rattle.model.specs.Calls.{unequal, notBinary, wordCauses}
 use Rattle.model.specs.WordClaims.{check, checkSum, Tested, Decided, firstAuxiliary, queued, PointOf}
@@ -99,9 +99,9 @@ module _ (k : Code) (c : List ℤ) where
       small true = omega arith
       small false = omega arith
 
-      by : (i : ℕ) → Dec (i < k .bits) → entry (tab (k .bits) bit) i < 2
+      by : (i : ℕ) → Dec (i < k .bits) → bitAt (tab (k .bits) bit) i < 2
       by i (yes l) = rw (getD-tab (k .bits) bit i 0 l) (small (ltZ (pos 0) (at c i)))
-      by i (no l) = let e : entry (tab (k .bits) bit) i ≡ 0 = List·getD-eq-default (tab (k .bits) bit) 0 (omega (arith, length-tab (k .bits) bit)) in rw e (omega arith)
+      by i (no l) = let e : bitAt (tab (k .bits) bit) i ≡ 0 = List·getD-eq-default (tab (k .bits) bit) 0 (omega (arith, length-tab (k .bits) bit)) in rw e (omega arith)
 
   abbrev silent : ℕ → Bool
   silent v = eqb (natAbs (at c v)) 0
@@ -114,7 +114,7 @@ module _ (k : Code) (c : List ℤ) where
   unfolding firstUndecided
   before v l = first-before (k .bits) silent v l
 
-  polar : (v : ℕ) → v < k .bits → v < firstUndecided k c → ((entry (wordOf k c) v ≡ 1) × (pos 0 <ℤ at c v)) ⊎ ((entry (wordOf k c) v ≡ 0) × (at c v <ℤ pos 0))
+  polar : (v : ℕ) → v < k .bits → v < firstUndecided k c → ((bitAt (wordOf k c) v ≡ 1) × (pos 0 <ℤ at c v)) ⊎ ((bitAt (wordOf k c) v ≡ 0) × (at c v <ℤ pos 0))
   unfolding wordOf
   polar v h l = rw (getD-tab (k .bits) (λ v. bitOf (at c v)) v 0 h) (polarity (at c v) (before v l))
 
@@ -127,7 +127,7 @@ module _ (k : Code) (c : List ℤ) where
       record {
         undecided = outcome-is (λ o. o .number ≡ 16 → (o .place < k .bits) × (at c (o .place) ≡ pos 0)) (λ l h. (l, there l)) (λ l h. absurd (untold h));
         lowest = outcome-is (λ o. o .number ≡ 16 → (v : ℕ) → v < o .place → at c v ≡ pos 0 → ⊥) (λ l h v m. something (at c v) (before v m)) (λ l h. absurd (untold h));
-        decided = outcome-is (λ o. (o .number ≡ 16 → ⊥) → (v : ℕ) → v < k .bits → ((entry (wordOf k c) v ≡ 1) × (pos 0 <ℤ at c v)) ⊎ ((entry (wordOf k c) v ≡ 0) × (at c v <ℤ pos 0)))
+        decided = outcome-is (λ o. (o .number ≡ 16 → ⊥) → (v : ℕ) → v < k .bits → ((bitAt (wordOf k c) v ≡ 1) × (pos 0 <ℤ at c v)) ⊎ ((bitAt (wordOf k c) v ≡ 0) × (at c v <ℤ pos 0)))
             (λ l h. absurd (h refl)) (λ l h v m. polar v m (omega arith));
         word = bits;
         tests = outcome-is (λ o. (o .number ≡ 16 → ⊥) → o ≡ tested k (wordOf k c)) (λ l h. absurd (h refl)) (λ l h. refl);
@@ -160,10 +160,10 @@ module _ (n : ℕ) where
 -- ---- the point of a codeword
 module _ (k : Code) (s : Sound k) (w : List ℕ) (c : Codeword k w) where
   auxiliary : (j i : ℕ) → j < length (k .checks) → i < turns (check k j)
-      → entry (pointOf k w) (firstAuxiliary k j + i) ≡ (entry (pointOf k w) (getD (queued k j) (2 * i) 0) + entry (pointOf k w) (getD (queued k j) (2 * i + 1) 0)) % 2
+      → bitAt (pointOf k w) (firstAuxiliary k j + i) ≡ (bitAt (pointOf k w) (getD (queued k j) (2 * i) 0) + bitAt (pointOf k w) (getD (queued k j) (2 * i + 1) 0)) % 2
   unfolding systemOf
   auxiliary j i h l =
-      let x : ℕ → ℕ = entry (pointOf k w) in
+      let x : ℕ → ℕ = bitAt (pointOf k w) in
       let t = total tripleCount (take j (k .checks)) + i in
       let r = triple-rule (k .bits) (firstAuxiliary k j) (check k j) (sound-at (k .bits) (k .checks) (s .checks) j h) (omega arith) in
       let m : (p : ℕ) → p < 3 → member (systemOf k .members) t p ≡ member (queue (turns (check k j)) (check k j) (firstAuxiliary k j)) i p
@@ -188,13 +188,13 @@ word-bits n w h =
     let none = unless 14 (some notBinary w) (x .1 .0) in
     record { long = eqb-true _ _ (not-false _ (unless 11 (unequal w n) (x .0))); binary = λ i. by none i (decLt i (length w)) }
   where
-    by : some notBinary w ≡ false → (i : ℕ) → Dec (i < length w) → entry w i < 2
-    by h i (yes l) = omega (arith, ltb-false 1 (entry w i) (some-at notBinary w i 0 h l))
-    by h i (no l) = let e : entry w i ≡ 0 = List·getD-eq-default w 0 (omega arith) in omega arith
+    by : some notBinary w ≡ false → (i : ℕ) → Dec (i < length w) → bitAt w i < 2
+    by h i (yes l) = omega (arith, ltb-false 1 (bitAt w i) (some-at notBinary w i 0 h l))
+    by h i (no l) = let e : bitAt w i ≡ 0 = List·getD-eq-default w 0 (omega arith) in omega arith
 
 -- and the other way round
 pub bits-pass : (n : ℕ) (w l : List ℕ) → Bits n w → firstOf (wordCauses n w ++ l) ≡ firstOf l
 bits-pass n w l b =
     let long : unequal w n ≡ false = rw (eq-eqb (length w) n (b .long)) in
-    let passes : some notBinary w ≡ false = none-in notBinary w 0 (λ i k. le-ltb 1 (entry w i) (omega (arith, b .binary i))) in
+    let passes : some notBinary w ≡ false = none-in notBinary w 0 (λ i k. le-ltb 1 (bitAt w i) (omega (arith, b .binary i))) in
     rw (long, passes)

@@ -7,7 +7,7 @@ use lib.ListN.{length, getD}
 use lib.Signed.{_≤ℤ_, _<ℤ_}
 use Rattle.quotient.specs.Quotient.{unit, quotient}
 use Rattle.model.specs.declared.Settings.{Settings}
-use Rattle.model.specs.Splitting.{System}
+use Rattle.model.specs.Splitting.{System, Named}
 use Rattle.model.specs.Iteration.{at, multiplier, slack, occurrences, numerator, divisor, State, countsOf, iterate}
 use Rattle.model.specs.Run.{changes}
 
@@ -35,7 +35,7 @@ pub record Lent (o : Settings) (ts counts : List ℕ) (costs : List ℤ) (T : �
   pub members : 3 * T ≡ length ts
   pub sums : length S ≡ length c
   pub rows : 4 * T ≡ length s
-  pub below : (i : ℕ) → i < length ts → getD ts i 0 < length c
+  pub below : Named ts (length c)
   pub counted : counts ≡ countsOf (held ts T c)
   pub ready : Ready (held ts T c) o costs
 

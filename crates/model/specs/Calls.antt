@@ -16,12 +16,13 @@ use Rattle.model.specs.declared.Channel as declared
 use Rattle.model.specs.declared.Reading.{Reading}
 use Rattle.model.specs.declared.Verdict.{Verdict}
 use Rattle.model.specs.declared.Decoding.{Decoding}
+use Rattle.model.specs.Limits.{mostIterations}
 use Rattle.model.specs.Causes.{_if_, firstOf, short, outside, accepted}
 use Rattle.model.specs.Code.{Code, triples, variables}
 use Rattle.model.specs.Records.{codeOf, judge}
 use Rattle.model.specs.Splitting.{systemOf}
 use Rattle.model.specs.Iteration.{countsOf}
-use Rattle.model.specs.Run.{mostIterations, Ended, run}
+use Rattle.model.specs.Run.{Ended, run}
 use Rattle.model.specs.Words.{Outcome, wordOf, tested, outcome}
 use Rattle.model.specs.Points.{pointOf}
 use Rattle.model.specs.Reflection.{reflect}
@@ -29,8 +30,8 @@ use Rattle.model.specs.Channel.{finite, inRange, costOf}
 
 -- ---- causes 11 to 15
 -- 11, of a run: "cost weight W (1 to 65,535), ratio A (0 to 1,023 …), iterations K (1 to 1,000), tolerance X (any 32-bit unsigned)"
-abbrev pub wild : Settings → Bool
-wild o = outside 1 65535 (o .weight) || (ltb 1023 (o .ratio) || outside 1 mostIterations (o .limit))
+abbrev pub outOfRange : Settings → Bool
+outOfRange o = outside 1 65535 (o .weight) || (ltb 1023 (o .ratio) || outside 1 mostIterations (o .limit))
 
 -- 12: "list lengths that must agree do not"
 abbrev pub unequal : {A : Type 0} → List A → ℕ → Bool
@@ -158,7 +159,7 @@ noRoom k l =
     || (short (variables k) (l .values) || (short (4 * triples k) (l .rows) || short (k .bits) (l .word)))))
 
 abbrev pub decoderCauses : Code → Settings → List ℤ → Lists → List ℕ
-decoderCauses k o costs l = 11 if wild o ∷ 12 if unequal costs (k .bits) ∷ 13 if some forbidden costs ∷ 10 if noRoom k l ∷ []
+decoderCauses k o costs l = 11 if outOfRange o ∷ 12 if unequal costs (k .bits) ∷ 13 if some forbidden costs ∷ 10 if noRoom k l ∷ []
 
 -- why a call is refused, 0 where it is not
 unfoldable pub decoderCause : List ℕ → Settings → List ℤ → Lists → ℕ

@@ -8,7 +8,7 @@ use Rattle.integers.specs.Nearest.{nearest}
 use Rattle.model.specs.declared.Channel.{Channel}
 use Rattle.model.specs.declared.Channel.the-variants.{Gaussian, Hard, Erasing}
 use Rattle.model.specs.Causes.{_if_}
-use Rattle.model.specs.Reflection.{turned}
+use Rattle.model.specs.Reflection.{negatedIf}
 
 -- ---- settings
 abbrev pub finite : Float → Bool
@@ -59,7 +59,7 @@ magnitude bits = units (bits % 2 ^ 31 / 2 ^ 23) (bits % 2 ^ 23)
 -- "the nearest whole number, halves away from zero, limited to −32,767..32,767; an infinite product goes to the limit"
 -- (the infinity's bits have the magnitude 2 ^ 277)
 unfoldable pub costOfBits : ℕ → ℤ
-costOfBits bits = turned (1 if leb (2 ^ 31) bits) (pos (min (nearest (magnitude bits) (2 ^ 149)) 32767))
+costOfBits bits = negatedIf (1 if leb (2 ^ 31) bits) (pos (min (nearest (magnitude bits) (2 ^ 149)) 32767))
 
 unfoldable pub costOf : Channel → Float → ℤ
 costOf setting x = costOfBits (toBits binary32 (product setting x))

@@ -11,7 +11,7 @@ use Rattle.lists.specs.Entries.{every}
 use Rattle.model.specs.declared.Channel.{Channel}
 use Rattle.model.specs.declared.Channel.the-variants.{Gaussian, Hard, Erasing}
 use Rattle.model.specs.Causes.{_if_}
-use Rattle.model.specs.Reflection.{turned}
+use Rattle.model.specs.Reflection.{negatedIf}
 use Rattle.model.specs.Channel.{finite, inRange, product, costOf}
 
 -- the setting's floats are f32 values, as those of every caller are: the type of a setting says so, and the front's contract relies on it
@@ -24,13 +24,13 @@ ofSingles (Erasing e) = fits binary32 (e .floor) && fits binary32 (e .weight)
 pub record NearestLimited (s : Bool) (n d : ℕ) (z : ℤ) : Type 0 where
   pub size : ℕ
   pub nearest : Nearest n d size
-  pub limited : z ≡ turned (1 if s) (pos (min size 32767))
+  pub limited : z ≡ negatedIf (1 if s) (pos (min size 32767))
 
 -- z is the cost of a product: "The cost is the nearest whole number, halves away from zero, limited to −32,767..32,767; an infinite product goes to the
 -- limit." A product is no NaN; fin s m e is ± m × 2 ^ e, and 2 ^ e is the fraction up e / down e.
 abbrev pub Costed : Float → ℤ → Type 0
 Costed nan z = ⊥
-Costed (inf s) z = z ≡ turned (1 if s) (pos 32767)
+Costed (inf s) z = z ≡ negatedIf (1 if s) (pos 32767)
 Costed (fin s m e) z = NearestLimited s (m * up e) (down e) z
 
 pub record ChannelClaims : Type 0 where

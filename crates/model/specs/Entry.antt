@@ -13,9 +13,9 @@ use Rattle.model.specs.Records.{codeOf, recordCauses}
 use Rattle.model.specs.Splitting.{System, systemOf}
 use Rattle.model.specs.Iteration.{at, row, slack, multiplier, State, countsOf}
 use Rattle.model.specs.Run.{settledBy, start, Ended, after, run}
-use Rattle.model.specs.Words.{entry, wordOf, outcome}
+use Rattle.model.specs.Words.{bitAt, wordOf, outcome}
 use Rattle.model.specs.Points.{Codeword, pointOf}
-use Rattle.model.specs.Reflection.{turned, reflect, sumOfWords, Opposite, Reflected}
+use Rattle.model.specs.Reflection.{negatedIf, reflect, sumOfWords, Opposite, Reflected}
 use Rattle.model.specs.Calls.{Lists, Decoded, decoderCauses, decoderCause}
 use Rattle.model.specs.Order.{Refusal, oneToNine}
 use Rattle.model.specs.WordClaims.{Decided}
@@ -107,8 +107,8 @@ pub record ReflectedCalls (b : List ℕ) (o : Settings) (costs : List ℤ) (w : 
   -- "Both runs end after the same iteration; the kind of answer, count, settled and place stay"
   pub answer : e .answer ≡ d .answer
   -- the lists that the calls leave
-  pub values : (v : ℕ) → v < variables (codeOf b) → at (e .lists .values) v ≡ turned (entry (pointOf (codeOf b) w) v) (at (d .lists .values) v)
-  pub sums : (v : ℕ) → v < variables (codeOf b) → at (e .lists .sums) v ≡ turned (entry (pointOf (codeOf b) w) v) (at (d .lists .sums) v)
+  pub values : (v : ℕ) → v < variables (codeOf b) → at (e .lists .values) v ≡ negatedIf (bitAt (pointOf (codeOf b) w) v) (at (d .lists .values) v)
+  pub sums : (v : ℕ) → v < variables (codeOf b) → at (e .lists .sums) v ≡ negatedIf (bitAt (pointOf (codeOf b) w) v) (at (d .lists .sums) v)
   pub rows : (t r q : ℕ) → t < triples (codeOf b) → r < 4 → q < 4 → Opposite (pointOf (codeOf b) w) (systemOf (codeOf b) .members) t r q
       → row (e .lists .rows) t q ≡ row (d .lists .rows) t r
   -- "and a written word changes by that codeword, bit by bit modulo 2"

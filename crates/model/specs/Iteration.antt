@@ -36,9 +36,13 @@ sign r p = at (getD signs r []) p
 unfoldable pub rowSum : ℕ → ℤ → ℤ → ℤ → ℤ
 rowSum r c1 c2 c3 = sign r 0 *ℤ c1 +ℤ sign r 1 *ℤ c2 +ℤ sign r 2 *ℤ c3
 
+-- c of the variable v
+abbrev pub valueAt : List ℤ → ℕ → ℤ
+valueAt c v = at c v
+
 -- the sum of row r of triple t
 abbrev pub sumAt : List ℕ → List ℤ → ℕ → ℕ → ℤ
-sumAt ts c t r = rowSum r (at c (member ts t 0)) (at c (member ts t 1)) (at c (member ts t 2))
+sumAt ts c t r = rowSum r (valueAt c (member ts t 0)) (valueAt c (member ts t 1)) (valueAt c (member ts t 2))
 
 -- "A triple takes … four [entries] of s, in row order": row r of triple t
 abbrev pub row : List ℤ → ℕ → ℕ → ℤ

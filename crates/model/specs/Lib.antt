@@ -1,6 +1,7 @@
 -- Document 01, section by section. All that an entry's contract cites stands here or, for sums, lists and the rounded quotient, in specs/ of the
 -- crates below.
 -- the definitions
+pub mod Limits
 pub mod Causes
 pub mod Code
 pub mod Records

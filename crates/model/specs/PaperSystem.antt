@@ -13,7 +13,7 @@ use Rattle.model.specs.declared.Settings.{Settings}
 use Rattle.model.specs.Splitting.{System, member}
 use Rattle.model.specs.Iteration.{at, sign, sumAt, row, slack, multiplier, _when_, State, iterate}
 use Rattle.model.specs.Run.{settledBy, start}
-use Rattle.model.specs.Words.{entry}
+use Rattle.model.specs.Words.{bitAt}
 use Rattle.model.specs.Points.{Bits, Point}
 use Rattle.model.specs.Paper.{right, dividend15, divisor15, num, den, newValues, newRow}
 
@@ -34,7 +34,7 @@ pub record PaperSystem (g : System) : Type 0 where
   pub rows : (x : ℕ → ℤ) (t r : ℕ) → t < g .triples → times g x t r ≡ sumℤ 3 (λ p. sign r p *ℤ x (member (g .members) t p))
   -- A v ≤ b with b = 0, 0, 0, 2 (equations 8b and 8c): a 0/1 point meets the system exactly when it holds of its entries
   pub points : (p : List ℕ) → Bits (g .variables) p
-      → Point g p ↔ ((t r : ℕ) → t < g .triples → r < 4 → times g (λ v. pos (entry p v)) t r ≤ℤ right r)
+      → Point g p ↔ ((t r : ℕ) → t < g .triples → r < 4 → times g (λ v. pos (bitAt p v)) t r ≤ℤ right r)
   -- and at all centred values, multiplied by 2U: the sums are at most U exactly when A v ≤ b
   pub centred : (c : List ℤ) (t r : ℕ) → t < g .triples → r < 4
       → (sumAt (g .members) c t r ≤ℤ pos unit) ↔ (times g (λ v. pos unit +ℤ at c v) t r ≤ℤ (pos (2 * unit) *ℤ right r))

@@ -12,17 +12,17 @@ use Rattle.quotient.specs.Quotient.{unit}
 use Rattle.model.specs.Code.{Code}
 use Rattle.model.specs.Splitting.{System, systemOf, member}
 use Rattle.model.specs.Iteration.{rowSum}
-use Rattle.model.specs.Words.{entry}
+use Rattle.model.specs.Words.{bitAt}
 
 -- n entries 0 or 1: "A word has one entry 0 or 1 per bit", "A point has one entry 0 or 1 per variable"
 pub record Bits (n : ℕ) (w : List ℕ) : Type 0 where
   pub long : length w ≡ n
-  pub binary : (i : ℕ) → entry w i < 2
+  pub binary : (i : ℕ) → bitAt w i < 2
 
 -- "it is a codeword when its sum over each check of the records is even"
 pub record Codeword (k : Code) (w : List ℕ) : Type 0 where
   pub word : Bits (k .bits) w
-  pub even : (j : ℕ) → j < length (k .checks) → total (entry w) (getD (k .checks) j []) % 2 ≡ 0
+  pub even : (j : ℕ) → j < length (k .checks) → total (bitAt w) (getD (k .checks) j []) % 2 ≡ 0
 
 -- "The centred value c of a variable is −U for 0 and U for 1"
 abbrev pub centred : ℕ → ℤ
@@ -31,7 +31,7 @@ centred (suc b) = pos unit
 
 -- of the variable at position i of triple t
 abbrev pub centredAt : System → List ℕ → ℕ → ℕ → ℤ
-centredAt g p t i = centred (entry p (member (g .members) t i))
+centredAt g p t i = centred (bitAt p (member (g .members) t i))
 
 -- "it meets the system when, at its centred values, all four sums of each triple are at most U" (000, equations 4 to 6)
 pub record Point (g : System) (p : List ℕ) : Type 0 where
@@ -45,7 +45,7 @@ unfoldable pub extend : List ℕ → List ℕ → List ℕ
 extend [] p = p
 extend (a ∷ []) p = p
 extend (a ∷ b ∷ []) p = p
-extend (a ∷ b ∷ c ∷ ts) p = extend ts (cond (eqb c (length p)) (p ++ ((entry p a + entry p b) % 2 ∷ [])) p)
+extend (a ∷ b ∷ c ∷ ts) p = extend ts (cond (eqb c (length p)) (p ++ ((bitAt p a + bitAt p b) % 2 ∷ [])) p)
 
 -- "A codeword's point begins with it"
 abbrev pub pointOf : Code → List ℕ → List ℕ

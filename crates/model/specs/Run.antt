@@ -11,10 +11,6 @@ use Rattle.model.specs.Causes.{_if_}
 use Rattle.model.specs.Splitting.{System}
 use Rattle.model.specs.Iteration.{row, slack, multiplier, State, iterate}
 
--- "iterations K (1 to 1,000)"
-abbrev pub mostIterations : ℕ
-mostIterations = 1000
-
 -- ---- the totals
 abbrev pub squareOfChange : ℕ → ℕ → ℕ
 squareOfChange a b = let d = natAbs (pos b -ℤ pos a) in d * d

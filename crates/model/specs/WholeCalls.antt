@@ -11,7 +11,7 @@ use Rattle.lists.specs.Tabulated.{written}
 use Rattle.model.specs.declared.Settings.{Settings}
 use Rattle.model.specs.declared.Channel.the-variants.{Gaussian, Hard, Erasing}
 use Rattle.model.specs.Channel.{scaleInRange, floorInRange, inRange}
-use Rattle.model.specs.Calls.{wild, Lists, HasRoom, decoder, reader}
+use Rattle.model.specs.Calls.{outOfRange, Lists, HasRoom, decoder, reader}
 use Rattle.model.specs.Table.{−_, settings, by-hand}
 
 -- "Code n = 3 with check (0,1,2)": its records
@@ -59,15 +59,15 @@ pub record InRange (o : Settings) : Type 0 where
   pub limit : (1 ≤ o .limit) × (o .limit ≤ 1000)
 
 pub record RunEdges : Type 0 where
-  pub exactly : (o : Settings) → (wild o ≡ false) ↔ InRange o
+  pub exactly : (o : Settings) → (outOfRange o ≡ false) ↔ InRange o
   -- "A 1,023 passes, 1,024 gets 11; K 1 and 1,000 pass, 0 and 1,001 get 11", and W
-  pub least : (X : ℕ) → wild (record { weight = 1; ratio = 0; limit = 1; tolerance = X }) ≡ false
-  pub most : (X : ℕ) → wild (record { weight = 65535; ratio = 1023; limit = 1000; tolerance = X }) ≡ false
-  pub weight-0 : (A K X : ℕ) → wild (record { weight = 0; ratio = A; limit = K; tolerance = X }) ≡ true
-  pub weight-beyond : (A K X : ℕ) → wild (record { weight = 65536; ratio = A; limit = K; tolerance = X }) ≡ true
-  pub ratio-beyond : (X : ℕ) → wild (record { weight = 1; ratio = 1024; limit = 1; tolerance = X }) ≡ true
-  pub limit-0 : (X : ℕ) → wild (record { weight = 1; ratio = 0; limit = 0; tolerance = X }) ≡ true
-  pub limit-beyond : (X : ℕ) → wild (record { weight = 1; ratio = 0; limit = 1001; tolerance = X }) ≡ true
+  pub least : (X : ℕ) → outOfRange (record { weight = 1; ratio = 0; limit = 1; tolerance = X }) ≡ false
+  pub most : (X : ℕ) → outOfRange (record { weight = 65535; ratio = 1023; limit = 1000; tolerance = X }) ≡ false
+  pub weight-0 : (A K X : ℕ) → outOfRange (record { weight = 0; ratio = A; limit = K; tolerance = X }) ≡ true
+  pub weight-beyond : (A K X : ℕ) → outOfRange (record { weight = 65536; ratio = A; limit = K; tolerance = X }) ≡ true
+  pub ratio-beyond : (X : ℕ) → outOfRange (record { weight = 1; ratio = 1024; limit = 1; tolerance = X }) ≡ true
+  pub limit-0 : (X : ℕ) → outOfRange (record { weight = 1; ratio = 0; limit = 0; tolerance = X }) ≡ true
+  pub limit-beyond : (X : ℕ) → outOfRange (record { weight = 1; ratio = 0; limit = 1001; tolerance = X }) ≡ true
 
 -- "Scale and weight are finite and above 0, the floor finite and not below 0", for every float: fin s m e is ± m × 2 ^ e
 pub record ChannelEdges : Type 0 where

@@ -12,7 +12,7 @@ use Rattle.model.specs.Code.{Code, turns}
 use Rattle.model.specs.Splitting.{systemOf}
 use Rattle.model.specs.TripleRule.{items}
 use Rattle.model.specs.Iteration.{at}
-use Rattle.model.specs.Words.{entry, wordOf, tested, outcome}
+use Rattle.model.specs.Words.{bitAt, wordOf, tested, outcome}
 use Rattle.model.specs.Points.{Bits, Codeword, Point}
 
 -- check j of a code, and the sum of a word over it
@@ -20,7 +20,7 @@ abbrev pub check : Code → ℕ → List ℕ
 check k j = getD (k .checks) j []
 
 abbrev pub checkSum : Code → List ℕ → ℕ → ℕ
-checkSum k w j = total (entry w) (check k j)
+checkSum k w j = total (bitAt w) (check k j)
 
 -- ---- the test of a word of 0 and 1
 pub record Tested (k : Code) (w : List ℕ) : Type 0 where
@@ -38,7 +38,7 @@ pub record Decided (k : Code) (c : List ℤ) : Type 0 where
   pub lowest : outcome k c .number ≡ 16 → (v : ℕ) → v < outcome k c .place → at c v ≡ pos 0 → ⊥
   -- otherwise each bit is decided: "c above 0 is bit 1, below 0 is bit 0"
   pub decided : (outcome k c .number ≡ 16 → ⊥) → (v : ℕ) → v < k .bits
-      → ((entry (wordOf k c) v ≡ 1) × (pos 0 <ℤ at c v)) ⊎ ((entry (wordOf k c) v ≡ 0) × (at c v <ℤ pos 0))
+      → ((bitAt (wordOf k c) v ≡ 1) × (pos 0 <ℤ at c v)) ⊎ ((bitAt (wordOf k c) v ≡ 0) × (at c v <ℤ pos 0))
   -- and the word is tested
   pub word : Bits (k .bits) (wordOf k c)
   pub tests : (outcome k c .number ≡ 16 → ⊥) → outcome k c ≡ tested k (wordOf k c)
@@ -62,4 +62,4 @@ pub record PointOf (k : Code) (w x : List ℕ) : Type 0 where
   -- "each auxiliary's entry is the sum modulo 2 of the entries of the first two items of the triple recorded when it was made": auxiliary i of check j, of
   -- items 2i and 2i + 1 of its queue
   pub auxiliaries : (j i : ℕ) → j < length (k .checks) → i < turns (check k j)
-      → entry x (firstAuxiliary k j + i) ≡ (entry x (getD (queued k j) (2 * i) 0) + entry x (getD (queued k j) (2 * i + 1) 0)) % 2
+      → bitAt x (firstAuxiliary k j + i) ≡ (bitAt x (getD (queued k j) (2 * i) 0) + bitAt x (getD (queued k j) (2 * i + 1) 0)) % 2

@@ -13,8 +13,8 @@ use Rattle.model.specs.Code.{Code}
 use Rattle.model.specs.Iteration.{at}
 
 -- an entry of a word or of a point, 0 past its end
-abbrev pub entry : List ℕ → ℕ → ℕ
-entry w v = getD w v 0
+abbrev pub bitAt : List ℕ → ℕ → ℕ
+bitAt w v = getD w v 0
 
 -- "c above 0 is bit 1, below 0 is bit 0"
 abbrev pub bitOf : ℤ → ℕ
@@ -29,7 +29,7 @@ firstUndecided k c = first (k .bits) (λ v. eqb (natAbs (at c v)) 0)
 
 -- "if a check has odd sum": the first such check, or m
 abbrev pub odd : List ℕ → List ℕ → Bool
-odd w check = eqb (total (entry w) check % 2) 1
+odd w check = eqb (total (bitAt w) check % 2) 1
 
 unfoldable pub firstOdd : Code → List ℕ → ℕ
 firstOdd k w = first (length (k .checks)) (λ j. odd w (getD (k .checks) j []))

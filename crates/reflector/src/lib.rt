@@ -46,9 +46,9 @@ pub fn some_not_binary(word: &[u8]) -> bool
     found
 }
 
-fn turned(bit: u8, cost: i16) -> i16
+fn negated_if(bit: u8, cost: i16) -> i16
     requires { ⌜ forbidden cost ≡ false ⌝ }
-    ensures { λ r. ⌜ r ≡ reflection.turned bit cost ⌝ }
+    ensures { λ r. ⌜ r ≡ reflection.negatedIf bit cost ⌝ }
 {
     if bit == 0 { cost } else { -cost }
 }
@@ -61,7 +61,7 @@ fn fill(costs: &[i16], word: &[u8], result: &mut [i16])
 {
     let mut i = 0;
     while i < costs.len() {
-        result[i] = turned(word[i], costs[i]);
+        result[i] = negated_if(word[i], costs[i]);
         i += 1;
     }
 }

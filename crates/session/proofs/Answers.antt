@@ -13,7 +13,7 @@ use Rattle.lists.specs.Entries.{some}
 use Rattle.model.specs.declared.Settings as Model
 use Rattle.model.specs.Code.{Code}
 use Rattle.model.specs.Records.{bitCount, codeOf}
-use Rattle.model.specs.Calls.{wild, forbidden, Lists, Answer, decoder}
+use Rattle.model.specs.Calls.{outOfRange, forbidden, Lists, Answer, decoder}
 use Rattle.model.specs.Frames.{settingsOf, frameSize, costsOf, judgeFrame, refusal, line, frameLine, frames}
 use Rattle.model.specs.FrameClaims.{Coded, Set, HeldCode, Room, frameText, goesOn}
 use Rattle.model.proofs.Accepted.{bytes-sound}
@@ -30,7 +30,7 @@ use Rattle.session.proofs.Records.{counted}
 
 -- ---- the call of the decoder
 pub answered : (b : List ℕ) (o : Model.Settings) (costs : List ℤ) (before after : Lists) (a : Answer)
-    → HeldCode b → wild o ≡ false → length costs ≡ codeOf b .bits → some forbidden costs ≡ false → Room before
+    → HeldCode b → outOfRange o ≡ false → length costs ≡ codeOf b .bits → some forbidden costs ≡ false → Room before
     → record { answer = a; lists = after } ≡ decoder b o costs before → line a (take (length costs) (after .word)) ≡ frameLine (codeOf b) o costs
 answered b o costs before after a held within fits allowed room e =
     rw fits (ap (λ d. line (d .answer) (take (codeOf b .bits) (d .lists .word))) e ∙ held-frame b o costs before held within fits allowed room .prints)
@@ -87,7 +87,7 @@ module _ (buffer : List ℕ) (long : length buffer ≡ 10260) (st : State) (came
   pub held : HeldCode (take size buffer)
   held = code-held (st .triples) (take size buffer) (coded .begun) (coded .sound)
 
-  pub within : wild (settingsOf (take (st .at - size) (drop size buffer))) ≡ false
+  pub within : outOfRange (settingsOf (take (st .at - size) (drop size buffer))) ≡ false
   within = settings-sound _ (set .sound) .within
 
   abbrev code : List ℕ

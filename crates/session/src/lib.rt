@@ -5,7 +5,7 @@ ghost use Prim.Native.Nat.{_≤_};
 ghost use lib.ListN.{length, take};
 ghost use Rattle.lists.specs.Entries.{some};
 ghost use Rattle.model.specs.Records.{codeOf};
-ghost use Rattle.model.specs.Calls.{wild, forbidden};
+ghost use Rattle.model.specs.Calls.{outOfRange, forbidden};
 ghost use Rattle.model.specs.Frames as Frames;
 ghost use Rattle.model.specs.FrameClaims.{Begun, HeldCode, frameText, goesOn};
 ghost use Rattle.session.specs.Session as Session;
@@ -231,7 +231,7 @@ fn answer(
     word: &mut [u8; 512],
     out: &mut [u8; 640],
 ) -> usize
-    requires { ⌜ HeldCode (now code) × (wild settings ≡ false)
+    requires { ⌜ HeldCode (now code) × (outOfRange settings ≡ false)
         × (length (now costs) ≡ codeOf (now code) .bits) × (some forbidden (now costs) ≡ false) ⌝ }
     ensures { λ r. ⌜ (take r (now (out .exit)) ≡ Frames.frameLine (codeOf (now (code .entry))) settings (now (costs .entry)))
         × (r ≤ length (now (out .exit))) ⌝ }
@@ -271,7 +271,7 @@ fn frame_line(
     word: &mut [u8; 512],
     out: &mut [u8; 640],
 ) -> Line
-    requires { ⌜ HeldCode (now code) × (wild settings ≡ false) ⌝ }
+    requires { ⌜ HeldCode (now code) × (outOfRange settings ≡ false) ⌝ }
     ensures { λ r. ⌜ (let k = codeOf (now (code .entry)) in let b = now (bytes .entry) in
         (take (r .written) (now (out .exit)) ≡ frameText k settings b) × (r .on ≡ goesOn (k .bits) b) × (r .written ≤ length (now (out .exit)))) ⌝ }
 {

@@ -6,12 +6,12 @@ use native.Mathlib.Omega.{arith}
 use lib.ListN.{length}
 use Rattle.lists.specs.Tabulated.{over}
 use Rattle.lists.proofs.Tabulated.{over-next, over-all, length-over}
-use Rattle.model.specs.Words.{entry}
+use Rattle.model.specs.Words.{bitAt}
 use Rattle.codeword.proofs.copy.Statement.{statement}
 use Rattle.codeword.proofs.copy.Tie as tie
 
 abbrev Inv-loop : tie.InvT-loop
-Inv-loop word point₀ v₀ v-end point v = (v ≤ length word) × (point ≡ over v (entry word) point₀)
+Inv-loop word point₀ v₀ v-end point v = (v ≤ length word) × (point ≡ over v (bitAt word) point₀)
 
 abbrev μ-loop : tie.MeasureT-loop
 μ-loop word point₀ v₀ v-end point v = length word - v
@@ -20,7 +20,7 @@ loop-holds : tie.Need-loop-holds Inv-loop μ-loop
 loop-holds c = (omega arith, refl)
 
 long : (c : tie.At-loop Inv-loop μ-loop) → length (c .loop .point) ≡ length (c .before .args .point .now)
-long c = ap length (c .loop .inv .1) ∙ length-over (c .loop .v) (entry (c .before .args .word .now)) (c .before .args .point .now) (omega arith)
+long c = ap length (c .loop .inv .1) ∙ length-over (c .loop .v) (bitAt (c .before .args .word .now)) (c .before .args .point .now) (omega arith)
 
 shared-slice-read-point : tie.Need-shared-slice-read-point Inv-loop μ-loop
 shared-slice-read-point c = omega arith
@@ -37,7 +37,7 @@ loop-less c = omega arith
 loop-again : tie.Need-loop-again Inv-loop μ-loop
 loop-again c =
     let l = c .before .before .loop in
-    (omega arith, rw (l .inv .1, add-one (l .v)) (over-next (l .v) (entry (c .before .before .before .args .word .now)) _ _ (omega arith) refl))
+    (omega arith, rw (l .inv .1, add-one (l .v)) (over-next (l .v) (bitAt (c .before .before .before .args .word .now)) _ _ (omega arith) refl))
 
 same-length : tie.Need-same-length Inv-loop μ-loop
 same-length c = long (c .before)

@@ -9,7 +9,7 @@ use lib.ListN.{length, getD, drop, drop-of-length-le}
 use lib.Seq.{drop-cons}
 use Rattle.lists.specs.Entries.{total}
 use Rattle.model.specs.Records.{indices}
-use Rattle.model.specs.Words.{entry}
+use Rattle.model.specs.Words.{bitAt}
 use Rattle.model.proofs.Accepted.{length-numbers}
 use Rattle.records.proofs.Walk.{index-at}
 use Rattle.codeword.proofs.is_odd.Statement.{statement}
@@ -17,7 +17,7 @@ use Rattle.codeword.proofs.is_odd.Tie as tie
 
 abbrev Inv-loop : tie.InvT-loop
 Inv-loop s word d sum₀ i₀ sum i =
-    (i ≤ d) × (sum ≤ 255 * i) × (sum + total (entry word) (drop i (indices s)) ≡ total (entry word) (indices s))
+    (i ≤ d) × (sum ≤ 255 * i) × (sum + total (bitAt word) (drop i (indices s)) ≡ total (bitAt word) (indices s))
 
 abbrev μ-loop : tie.MeasureT-loop
 μ-loop s word d sum₀ i₀ sum i = d - i
@@ -71,14 +71,14 @@ loop-again c =
     let l = t .before .before in
     let a = l .before .before .before .before .args in
     let e = drop-cons (indices (a .s .now)) (l .loop .i) 0 (omega (arith, degree-is (l .before))) in
-    (omega arith, omega arith, rw (add-one (l .loop .i)) (omega (arith, l .loop .inv .2, ap (total (entry (a .word .now))) e, ap (entry (a .word .now)) (index-is t), c .wide .ensures .0)))
+    (omega arith, omega arith, rw (add-one (l .loop .i)) (omega (arith, l .loop .inv .2, ap (total (bitAt (a .word .now))) e, ap (bitAt (a .word .now)) (index-is t), c .wide .ensures .0)))
 
 returns : tie.Need-returns Inv-loop μ-loop
 returns c =
     let l = c .before in
     let a = l .before .before .before .before .args in
     let none = drop-of-length-le (indices (a .s .now)) {i = l .loop .i} (omega (arith, degree-is (l .before))) in
-    let e : l .loop .sum ≡ total (entry (a .word .now)) (indices (a .s .now)) = omega (arith, l .loop .inv .2, ap (total (entry (a .word .now))) none) in
+    let e : l .loop .sum ≡ total (bitAt (a .word .now)) (indices (a .s .now)) = omega (arith, l .loop .inv .2, ap (total (bitAt (a .word .now))) none) in
     ap (λ (k : ℕ). eqb (k % 2) 1) e
 
 pub is-odd-spec : {M : Type 1} → statement M

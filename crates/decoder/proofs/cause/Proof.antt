@@ -8,7 +8,7 @@ use borrow.Author.Needs.{needs}
 use borrow.Author.Tests.{eq-eqb, ne-eqb}
 use lib.ListN.{length}
 use Rattle.lists.specs.Entries.{some}
-use Rattle.model.specs.Calls.{wild, unequal, forbidden}
+use Rattle.model.specs.Calls.{outOfRange, unequal, forbidden}
 use Rattle.model.specs.Causes.{_if_, firstOf}
 use Rattle.decoder.proofs.cause.Statement.{statement}
 use Rattle.decoder.proofs.cause.Tie as tie
@@ -20,8 +20,8 @@ by : (s t u v : Bool) {s′ t′ u′ v′ : Bool} → s′ ≡ s → t′ ≡ t
 by s t u v {u′ = u′} {v′ = v′} p q r w = ap₂ (λ (s t : Bool). found s t u′ v′) p q ∙ ap₂ (λ (u v : Bool). found s t u v) r w
 
 module _ (s : tie.Start) where
-  abbrev is-wild : Bool
-  is-wild = wild (s .args .settings)
+  abbrev is-out : Bool
+  is-out = outOfRange (s .args .settings)
 
   abbrev is-unequal : Bool
   is-unequal = unequal (s .args .costs .now) (s .args .bits)
@@ -29,18 +29,18 @@ module _ (s : tie.Start) where
   abbrev is-forbidden : Bool
   is-forbidden = some forbidden (s .args .costs .now)
 
-  right : {s′ t′ u′ v′ : Bool} → s′ ≡ is-wild → t′ ≡ is-unequal → u′ ≡ is-forbidden → v′ ≡ s .args .short
-      → found s′ t′ u′ v′ ≡ found is-wild is-unequal is-forbidden (s .args .short)
-  right = by is-wild is-unequal is-forbidden (s .args .short)
+  right : {s′ t′ u′ v′ : Bool} → s′ ≡ is-out → t′ ≡ is-unequal → u′ ≡ is-forbidden → v′ ≡ s .args .short
+      → found s′ t′ u′ v′ ≡ found is-out is-unequal is-forbidden (s .args .short)
+  right = by is-out is-unequal is-forbidden (s .args .short)
 
-wild-requires : tie.Need-wild-requires
-wild-requires c κs = search needs
+out-of-range-requires : tie.Need-out-of-range-requires
+out-of-range-requires c κs = search needs
 
 returns : tie.Need-returns
-returns c = (right (c .before .before) (sym (c .if1 .taken) ∙ c .before .wild .ensures) refl refl refl, λ e. absurd (omega arith))
+returns c = (right (c .before .before) (sym (c .if1 .taken) ∙ c .before .out-of-range .ensures) refl refl refl, λ e. absurd (omega arith))
 
-tame : (c : tie.Else1) → false ≡ is-wild (c .before .before)
-tame c = sym (c .if1 .left) ∙ c .before .wild .ensures
+tame : (c : tie.Else1) → false ≡ is-out (c .before .before)
+tame c = sym (c .if1 .left) ∙ c .before .out-of-range .ensures
 
 equal : (c : tie.Else2) → false ≡ is-unequal (c .before .before .before)
 equal c = let a = c .before .before .before .args in sym (ap not (eq-eqb (length (a .costs .now)) (a .bits) (c .if2 .left)))
@@ -74,7 +74,7 @@ pub cause-spec : {M : Type 1} → statement M
 cause-spec =
     tie.close
     (tie.spec
-    wild-requires
+    out-of-range-requires
     returns
     returns-2
     some-forbidden-requires

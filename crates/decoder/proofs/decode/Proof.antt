@@ -9,7 +9,7 @@ use borrow.Author.Tests.{ltb-false, eqb-true, not-false}
 use lib.Dec.{eqb}
 use lib.ListN.{length}
 use Rattle.lists.specs.Entries.{some}
-use Rattle.model.specs.Calls.{wild, unequal, forbidden, Lists, noRoom}
+use Rattle.model.specs.Calls.{outOfRange, unequal, forbidden, Lists, noRoom}
 use Rattle.model.specs.Causes.{_if_, firstOf, short}
 use Rattle.model.specs.Records.{codeOf}
 use Rattle.model.specs.Code.{Code, triples}
@@ -98,7 +98,7 @@ module _ (q : tie.After-cause) where
   short-is = q .before .no-room .ensures ∙ ap₂ (λ (n x : ℕ). tooShort n x vars) (read found .bits) (read found .triples) ∙ ap (tooShort (k .bits) (triples k)) (read found .variables)
 
   abbrev causes : Bool → ℕ → List ℕ
-  causes r n = 11 if wild (s .args .settings) ∷ 12 if unequal (s .args .costs .now) n ∷ 13 if some forbidden (s .args .costs .now) ∷ 10 if r ∷ []
+  causes r n = 11 if outOfRange (s .args .settings) ∷ 12 if unequal (s .args .costs .now) n ∷ 13 if some forbidden (s .args .costs .now) ∷ 10 if r ∷ []
 
   cause-is : q .cause .result ≡ after-judgement (s .args .code .now) (s .args .settings) (s .args .costs .now) l
   cause-is = q .cause .ensures .0 ∙ ap₂ (λ (r : Bool) (n : ℕ). firstOf (causes r n)) short-is (read found .bits)
@@ -133,7 +133,7 @@ decode-accepted-requires c κs =
     let a5 = or-false (short (4 * total q) (l q .rows)) _ (a4 .1) in (
       (r .judged, r .bits, r .checks, r .triples, r .variables),
       (
-        (unless 10 (wild (s q .args .settings)) (none e .0), agree e ∙ r .bits, q .cause .ensures .1 (e .if1 .left)),
+        (unless 10 (outOfRange (s q .args .settings)) (none e .0), agree e ∙ r .bits, q .cause .ensures .1 (e .if1 .left)),
         (
           (ltb-false _ _ (a1 .0), ltb-false _ _ (a2 .0)),
           (ltb-false _ _ (a3 .0), ltb-false _ _ (a4 .0), ltb-false _ _ (a5 .0), ltb-false _ _ (a5 .1)),

@@ -14,7 +14,8 @@ use Rattle.model.specs.Iteration.{occurrences, countsOf}
 use Rattle.model.specs.Causes.{outside}
 use Rattle.model.proofs.Accepted.{accepted}
 use Rattle.model.specs.Sound.{Sound}
-use Rattle.model.specs.Run.{mostIterations, Ended, run}
+use Rattle.model.specs.Limits.{mostIterations}
+use Rattle.model.specs.Run.{Ended, run}
 use Rattle.model.specs.Records.{codeOf}
 use Rattle.model.specs.Bounds.{Ready}
 use Rattle.model.specs.Code.{Code, triples, variables}

@@ -12,14 +12,14 @@ use Rattle.lists.proofs.Entries.{some-at}
 use Rattle.lists.proofs.Tabulated.{length-over, over-stored, over-tab}
 use Rattle.model.specs.Calls.{forbidden}
 use Rattle.model.specs.Iteration.{at}
-use Rattle.model.specs.Reflection.{turned, reflect}
-use Rattle.model.specs.Words.{entry}
+use Rattle.model.specs.Reflection.{negatedIf, reflect}
+use Rattle.model.specs.Words.{bitAt}
 use Rattle.reflector.proofs.fill.Statement.{statement}
 use Rattle.reflector.proofs.fill.Tie as tie
 
 abbrev Inv-loop : tie.InvT-loop
 Inv-loop costs word result₀ i₀ result i =
-    (i ≤ length costs) × (result ≡ over i (λ k. turned (entry word k) (at costs k)) result₀)
+    (i ≤ length costs) × (result ≡ over i (λ k. negatedIf (bitAt word k) (at costs k)) result₀)
 
 abbrev μ-loop : tie.MeasureT-loop
 μ-loop costs word result₀ i₀ result i = length costs - i
@@ -30,20 +30,20 @@ long l = rw (l .loop .inv .1) (length-over (l .loop .i) _ (l .before .before .ar
 loop-holds : tie.Need-loop-holds Inv-loop μ-loop
 loop-holds c = (omega arith, refl)
 
-shared-slice-read-turned : tie.Need-shared-slice-read-turned Inv-loop μ-loop
-shared-slice-read-turned c = search needs
+shared-slice-read-negated-if : tie.Need-shared-slice-read-negated-if Inv-loop μ-loop
+shared-slice-read-negated-if c = search needs
 
-mul-turned : tie.Need-mul-turned Inv-loop μ-loop
-mul-turned c = search needs
+mul-negated-if : tie.Need-mul-negated-if Inv-loop μ-loop
+mul-negated-if c = search needs
 
-shared-slice-copy-out-turned : tie.Need-shared-slice-copy-out-turned Inv-loop μ-loop
-shared-slice-copy-out-turned c = search needs
+shared-slice-copy-out-negated-if : tie.Need-shared-slice-copy-out-negated-if Inv-loop μ-loop
+shared-slice-copy-out-negated-if c = search needs
 
-turned-requires : tie.Need-turned-requires Inv-loop μ-loop
-turned-requires c κs =
+negated-if-requires : tie.Need-negated-if-requires Inv-loop μ-loop
+negated-if-requires c κs =
     let l = c .before .before .before in
     let s = l .before .before in
-    rw (kept w16 (getD (s .args .costs .now) (l .loop .i) (pos 0)) (c .turned-arg .given))
+    rw (kept w16 (getD (s .args .costs .now) (l .loop .i) (pos 0)) (c .negated-if-arg .given))
     (some-at forbidden (s .args .costs .now) (l .loop .i) (pos 0) (s .pre .1 .0) (c .before .before .loop-test .taken))
 
 mul-t12 : tie.Need-mul-t12 Inv-loop μ-loop
@@ -64,8 +64,8 @@ loop-again c =
     let s = l .before .before in (
       omega arith,
       rw (l .loop .inv .1)
-          (over-stored w16 (l .loop .i) _ (s .args .result .now) (c .turned .result) (omega (arith, s .pre)) (record { sfits = c .turned .ok })
-          (c .turned .ensures ∙ ap (turned (entry (s .args .word .now) (l .loop .i))) (kept w16 (at (s .args .costs .now) (l .loop .i)) (c .before .turned-arg .given)))),
+          (over-stored w16 (l .loop .i) _ (s .args .result .now) (c .negated-if .result) (omega (arith, s .pre)) (record { sfits = c .negated-if .ok })
+          (c .negated-if .ensures ∙ ap (negatedIf (bitAt (s .args .word .now) (l .loop .i))) (kept w16 (at (s .args .costs .now) (l .loop .i)) (c .before .negated-if-arg .given)))),
     )
 
 same-length : tie.Need-same-length Inv-loop μ-loop
@@ -86,10 +86,10 @@ fill-spec =
     Inv-loop
     μ-loop
     loop-holds
-    shared-slice-read-turned
-    mul-turned
-    shared-slice-copy-out-turned
-    turned-requires
+    shared-slice-read-negated-if
+    mul-negated-if
+    shared-slice-copy-out-negated-if
+    negated-if-requires
     mul-t12
     slice-set-from-result
     add-i

@@ -26,8 +26,8 @@ index-2-if1 c = search needs
 x : (s : tie.Start) → Worth (raw (s .args .x)) (s .args .x) 131072000
 x s = held w32 (s .args .x) 131072000 tt (s .pre .2)
 
-turned : (s : tie.Start) → Worth (pos 0 -ℤ raw (s .args .x)) (negℤ (s .args .x)) 131072000
-turned s = negative (x s)
+negated : (s : tie.Start) → Worth (pos 0 -ℤ raw (s .args .x)) (negℤ (s .args .x)) 131072000
+negated s = negative (x s)
 
 minus : (x : ℤ) → negℤ x ≡ negsuc 0 *ℤ x
 minus x = rw (split x) (simp toℕ (omega arith))
@@ -36,13 +36,13 @@ plus : (x : ℤ) → x ≡ pos 1 *ℤ x
 plus x = rw (split x) (simp toℕ (omega arith))
 
 sub-result : tie.Need-sub-result
-sub-result c = fits (turned (c .before .before)) w32 tt
+sub-result c = fits (negated (c .before .before)) w32 tt
 
 returns : tie.Need-returns
 unfolding sign
 returns c =
     let s = c .before .before in
-    rw (is-minus (s .args .r) (s .args .p) (s .pre .0) (s .pre .1) (c .if1 .taken)) (stored (turned s) w32 tt .is ∙ minus (s .args .x))
+    rw (is-minus (s .args .r) (s .args .p) (s .pre .0) (s .pre .1) (c .if1 .taken)) (stored (negated s) w32 tt .is ∙ minus (s .args .x))
 
 returns-2 : tie.Need-returns-2
 unfolding sign

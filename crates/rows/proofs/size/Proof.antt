@@ -18,16 +18,16 @@ whole z = omega (arith, about z)
 row : (s : tie.Start) → Worth (toZ w32 (ofZ w32 (s .args .s))) (s .args .s) 131072000
 row s = held w32 (s .args .s) 131072000 tt (s .pre)
 
-turned : (c : tie.Then1) → Worth (pos 0 -ℤ toZ w32 (ofZ w32 (c .before .args .s))) (negℤ (c .before .args .s)) 131072000
-turned c = negative (row (c .before))
+negated : (c : tie.Then1) → Worth (pos 0 -ℤ toZ w32 (ofZ w32 (c .before .args .s))) (negℤ (c .before .args .s)) 131072000
+negated c = negative (row (c .before))
 
 sub-result : tie.Need-sub-result
-sub-result c = fits (turned c) w32 tt
+sub-result c = fits (negated c) w32 tt
 
 returns : tie.Need-returns
 returns c =
     let s = c .before in
-    stored (turned c) w32 tt .is ∙ below-abs (s .args .s) (ap (λ (z : ℤ). ltZ z (pos 0)) (sym (row s .is)) ∙ c .if1 .taken) ∙ ap pos (whole (s .args .s))
+    stored (negated c) w32 tt .is ∙ below-abs (s .args .s) (ap (λ (z : ℤ). ltZ z (pos 0)) (sym (row s .is)) ∙ c .if1 .taken) ∙ ap pos (whole (s .args .s))
 
 returns-2 : tie.Need-returns-2
 returns-2 c =

@@ -9,7 +9,7 @@ use lib.Dec.{ltb}
 use lib.ListN.{drop}
 use Rattle.model.specs.Causes.{_if_, firstOf, short, outside}
 use Rattle.model.specs.Records.{twoBytes}
-use Rattle.model.specs.Run.{mostIterations}
+use Rattle.model.specs.Limits.{mostIterations}
 use Rattle.model.specs.Frames.{judgeSettings}
 use Rattle.stream.proofs.judge_settings.Statement.{statement}
 use Rattle.stream.proofs.judge_settings.Tie as tie

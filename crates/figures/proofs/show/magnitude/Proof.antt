@@ -32,23 +32,23 @@ next c =
       within = rw (abs-neg (pos (mag (s .args .x)))) (omega (arith, s .fits .x .sfits));
     }
 
-turned : (c : tie.Then1) → Worth (pos 0 -ℤ toZ w64 (ofZ w64 (toZ w64 (ofZ w64 (c .before .args .x)) +ℤ pos 1))) (pos (mag (c .before .args .x))) 9223372036854775807
-turned c = also (negative (stored (next c) w64 tt)) (negℤ-negℤ (pos (mag (c .before .args .x))))
+negated : (c : tie.Then1) → Worth (pos 0 -ℤ toZ w64 (ofZ w64 (toZ w64 (ofZ w64 (c .before .args .x)) +ℤ pos 1))) (pos (mag (c .before .args .x))) 9223372036854775807
+negated c = also (negative (stored (next c) w64 tt)) (negℤ-negℤ (pos (mag (c .before .args .x))))
 
 add-result : tie.Need-add-result
 add-result c = fits (next c) w64 tt
 
 sub-result : tie.Need-sub-result
-sub-result c = fits (turned c) w64 tt
+sub-result c = fits (negated c) w64 tt
 
 cast-result : tie.Need-cast-result
-cast-result c = rw (stored (turned c) w64 tt .is) (tt, record { fits = omega (arith, c .before .fits .x .sfits) })
+cast-result c = rw (stored (negated c) w64 tt .is) (tt, record { fits = omega (arith, c .before .fits .x .sfits) })
 
 add-result-2 : tie.Need-add-result-2
-add-result-2 c = rw (stored (turned c) w64 tt .is) (record { fits = omega (arith, c .before .fits .x .sfits) })
+add-result-2 c = rw (stored (negated c) w64 tt .is) (record { fits = omega (arith, c .before .fits .x .sfits) })
 
 returns : tie.Need-returns
-returns c = rw (stored (turned c) w64 tt .is) (size-is (c .before .args .x) (below c))
+returns c = rw (stored (negated c) w64 tt .is) (size-is (c .before .args .x) (below c))
 
 kept : (c : tie.Else1) → Worth (toZ w64 (ofZ w64 (c .before .args .x))) (pos (natAbs (c .before .args .x))) 9223372036854775808
 kept c =

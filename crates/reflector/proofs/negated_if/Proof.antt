@@ -1,14 +1,14 @@
--- `reflector::turned` meets its contract: an allowed cost has a negative. Assumes nothing.
+-- `reflector::negated_if` meets its contract: an allowed cost has a negative. Assumes nothing.
 use mathlib.Core.Path.{_≡_, refl, _∙_}
 use Prim.Native.Nat.{ℕ, zero, suc}
 use lib.IntN.{ℤ, negℤ}
 use mir.Syntax.{w16}
 use mir.Val.{toZ, ofZ}
 use Rattle.integers.proofs.Machine.{Worth, local, negative, fits, stored}
-use Rattle.model.specs.Reflection.{turned}
+use Rattle.model.specs.Reflection.{negatedIf}
 use Rattle.reflector.proofs.Costs.{allowed}
-use Rattle.reflector.proofs.turned.Statement.{statement}
-use Rattle.reflector.proofs.turned.Tie as tie
+use Rattle.reflector.proofs.negated_if.Statement.{statement}
+use Rattle.reflector.proofs.negated_if.Tie as tie
 
 cost-is : (s : tie.Start) → Worth (toZ w16 (ofZ w16 (s .args .cost))) (s .args .cost) 32767
 cost-is s = local w16 32767 (s .fits .cost .sfits) refl (allowed (s .args .cost) (s .fits .cost .sfits) (s .pre))
@@ -19,7 +19,7 @@ sub-result c = fits (negative (cost-is (c .before))) w16 tt
 returns : tie.Need-returns
 returns c = rw (c .if1 .taken) (cost-is (c .before) .is)
 
-other : (b : ℕ) (z : ℤ) → (b ≡ 0 → ⊥) → negℤ z ≡ turned b z
+other : (b : ℕ) (z : ℤ) → (b ≡ 0 → ⊥) → negℤ z ≡ negatedIf b z
 other zero z h = absurd (h refl)
 other (suc b) z h = refl
 
@@ -28,5 +28,5 @@ returns-2 c =
     let s = c .before in
     stored (negative (cost-is s)) w16 tt .is ∙ other (s .args .bit) (s .args .cost) (c .if1 .left)
 
-pub turned-spec : {M : Type 1} → statement M
-turned-spec = tie.close (tie.spec sub-result returns returns-2)
+pub negated-if-spec : {M : Type 1} → statement M
+negated-if-spec = tie.close (tie.spec sub-result returns returns-2)
