@@ -8,7 +8,7 @@ use native.Mathlib.Nat.{div-lt-self, div-lt-iff-lt-mul}
 use borrow.Author.Tests.{ltb-false, lt-ltb, le-ltb}
 use lib.Dec.{ltb}
 use lib.ListN.{length, length-append}
-use Rattle.model.specs.Frames.{digits, decimal}
+use Rattle.program.specs.Frames.{digits, decimal}
 
 -- more room changes nothing
 enough : (f g x : ℕ) → x < f → x < g → digits f x ≡ digits g x

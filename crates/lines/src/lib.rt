@@ -4,7 +4,7 @@ ghost use mathlib.Core.List.{[], _∷_, _++_, map};
 ghost use Prim.Native.Nat.{_+_, _%_, _≤_, _<_};
 ghost use lib.ListN.{length};
 ghost use Rattle.model.specs.Calls.{decodingTold};
-ghost use Rattle.model.specs.Frames as Frames;
+ghost use Rattle.program.specs.Frames as Frames;
 ghost use Rattle.lines.specs.Text.{Appended};
 use model::Decoding;
 use model::Ending;

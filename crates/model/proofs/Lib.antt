@@ -23,8 +23,3 @@ pub mod Values
 pub mod ChannelClaims
 pub mod Entry
 pub mod Promises
-pub mod Frames
-pub mod FrameBytes
-pub mod FrameCode
-pub mod FrameLines
-pub mod FrameProgram

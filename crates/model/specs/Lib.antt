@@ -7,13 +7,12 @@ pub mod Code
 pub mod Records
 pub mod Splitting
 pub mod Iteration
-pub mod Run
 pub mod Words
+pub mod Run
 pub mod Points
 pub mod Reflection
 pub mod Channel
 pub mod Calls
-pub mod Frames
 -- statements about them
 pub mod Sound
 pub mod RecordClaims
@@ -30,4 +29,3 @@ pub mod Told
 pub mod Order
 pub mod Entry
 pub mod Promises
-pub mod FrameClaims

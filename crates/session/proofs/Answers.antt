@@ -14,14 +14,14 @@ use Rattle.model.specs.declared.Settings as Model
 use Rattle.model.specs.Code.{Code}
 use Rattle.model.specs.Records.{bitCount, codeOf}
 use Rattle.model.specs.Calls.{outOfRange, forbidden, Lists, Answer, decoder}
-use Rattle.model.specs.Frames.{settingsOf, frameSize, costsOf, judgeFrame, refusal, line, frameLine, frames}
-use Rattle.model.specs.FrameClaims.{Coded, Set, HeldCode, Room, frameText, goesOn}
+use Rattle.program.specs.Frames.{settingsOf, frameSize, costsOf, judgeFrame, refusal, line, frameLine, frames}
+use Rattle.program.specs.FrameClaims.{Coded, Set, HeldCode, Room, frameText, goesOn}
 use Rattle.model.proofs.Accepted.{bytes-sound}
-use Rattle.model.proofs.Frames.{settings-sound}
-use Rattle.model.proofs.FrameBytes.{two-take, drop-within}
-use Rattle.model.proofs.FrameCode.{code-held}
-use Rattle.model.proofs.FrameLines.{held-frame}
-use Rattle.model.proofs.FrameProgram.{frame-after-frame, cut-ends}
+use Rattle.program.proofs.Frames.{settings-sound}
+use Rattle.program.proofs.FrameBytes.{two-take, drop-within}
+use Rattle.program.proofs.FrameCode.{code-held}
+use Rattle.program.proofs.FrameLines.{held-frame}
+use Rattle.program.proofs.FrameProgram.{frame-after-frame, cut-ends}
 use Rattle.session.specs.declared.State.{State}
 use Rattle.session.specs.declared.Part.the-variants.{Frame}
 use Rattle.session.specs.Session.{over, isOver, AtFrame, Due, Asked, Told}

@@ -9,14 +9,14 @@ use lib.ListN.{length, take, drop, length-append, length-take, length-drop, take
 use lib.Seq.{length-take-le, take-take, take-add, take-append-add, drop-drop, drop-at, take-append-seam}
 use borrow.Author.Tests.{ltb-true, ltb-false, eqb-true, not-false}
 use Rattle.model.specs.Records.{bitCount, checkCount, degree, judge}
-use Rattle.model.specs.Frames.{judgeHeldHeader, judgeHeldCheck, judgeSettings, frameSize, refusal, frames}
-use Rattle.model.specs.FrameClaims.{Begun, Opened}
+use Rattle.program.specs.Frames.{judgeHeldHeader, judgeHeldCheck, judgeSettings, frameSize, refusal, frames}
+use Rattle.program.specs.FrameClaims.{Begun, Opened}
 use Rattle.model.proofs.Causes.{or-false}
 use Rattle.model.proofs.Accepted.{header-sound, record-sound}
-use Rattle.model.proofs.Frames.{header-held, check-held, settings-sound}
-use Rattle.model.proofs.FrameBytes.{two-take, drop-take, drop-within, degree-take, held-take, three-judged, opened-degree}
-use Rattle.model.proofs.FrameCode.{held-next}
-use Rattle.model.proofs.FrameProgram as Program
+use Rattle.program.proofs.Frames.{header-held, check-held, settings-sound}
+use Rattle.program.proofs.FrameBytes.{two-take, drop-take, drop-within, degree-take, held-take, three-judged, opened-degree}
+use Rattle.program.proofs.FrameCode.{held-next}
+use Rattle.program.proofs.FrameProgram as Program
 use Rattle.session.specs.declared.State.{State}
 use Rattle.session.specs.declared.Step.{Step}
 use Rattle.session.specs.declared.Part.the-variants.{Header, Check, Indices, Settings, Frame}

@@ -6,7 +6,7 @@ use Prim.Native.Nat.{ℕ, _+_}
 use native.Mathlib.Omega.{arith}
 use lib.ListN.{take, drop, take-append-drop}
 use lib.Seq.{take-add}
-use Rattle.model.specs.Frames.{refusal, frames}
+use Rattle.program.specs.Frames.{refusal, frames}
 use Rattle.session.specs.declared.State.{State}
 use Rattle.session.specs.declared.Step.{Step}
 use Rattle.session.specs.declared.Part.the-variants.{Over}

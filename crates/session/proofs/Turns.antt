@@ -7,8 +7,8 @@ use native.Mathlib.Omega.{arith}
 use lib.Dec.{ltb}
 use lib.ListN.{length, take, drop, length-take, length-drop}
 use borrow.Author.Tests.{ltb-true, ltb-false}
-use Rattle.model.specs.Frames.{frames}
-use Rattle.model.proofs.FrameBytes.{opened-degree}
+use Rattle.program.specs.Frames.{frames}
+use Rattle.program.proofs.FrameBytes.{opened-degree}
 use Rattle.session.specs.declared.State.{State}
 use Rattle.session.specs.declared.Part.{Part}
 use Rattle.session.specs.declared.Part.the-variants.{Header, Check, Indices, Settings, Frame, Over}

@@ -6,8 +6,8 @@ use mathlib.Core.Path.{_≡_}
 use Prim.Native.Nat.{ℕ, suc, _+_, _-_, _*_, _≤_, _<_}
 use lib.ListN.{length, take, drop}
 use Rattle.model.specs.Records.{bitCount, degree}
-use Rattle.model.specs.Frames.{frameSize, refusal, frames}
-use Rattle.model.specs.FrameClaims.{Begun, Opened, Coded, Set}
+use Rattle.program.specs.Frames.{frameSize, refusal, frames}
+use Rattle.program.specs.FrameClaims.{Begun, Opened, Coded, Set}
 use Rattle.session.specs.declared.State.{State}
 use Rattle.session.specs.declared.Step.{Step}
 use Rattle.session.specs.declared.Part.{Part}

@@ -15,7 +15,7 @@ use Rattle.lists.proofs.Tabulated.{over-same, over-map}
 use Rattle.model.specs.Causes.{_if_, short}
 use Rattle.model.specs.Records.{twoBytes, numbers}
 use Rattle.model.specs.Calls.{forbidden}
-use Rattle.model.specs.Frames.{frameSize, twosComplement, costsOf, judgeWhole, judgeFrame}
+use Rattle.program.specs.Frames.{frameSize, twosComplement, costsOf, judgeWhole, judgeFrame}
 use Rattle.model.proofs.Accepted.{length-numbers}
 use Rattle.model.proofs.Causes.{only, clear, unless}
 use Rattle.records.proofs.Walk.{number-at}

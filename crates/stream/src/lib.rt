@@ -5,7 +5,7 @@ ghost use lib.ListN.{length};
 ghost use Rattle.lists.specs.Tabulated.{written};
 ghost use Rattle.model.specs.Causes.{accepted};
 ghost use Rattle.model.specs.Records.{judge};
-ghost use Rattle.model.specs.Frames as Frames;
+ghost use Rattle.program.specs.Frames as Frames;
 use model::Reading;
 use model::Settings;
 

@@ -1,7 +1,7 @@
 -- `lines::answer_line` meets its contract: the number decides. Assumes nothing.
 use borrow.Author.Needs.{needs}
 use borrow.Author.Tests.{eq-eqb, ne-eqb}
-use Rattle.model.specs.Frames.{spaced, line}
+use Rattle.program.specs.Frames.{spaced, line}
 use Rattle.lines.proofs.answer_line.Statement.{statement}
 use Rattle.lines.proofs.answer_line.Tie as tie
 

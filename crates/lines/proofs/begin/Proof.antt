@@ -2,7 +2,7 @@
 use mathlib.Core.List.{[], _∷_, _++_, append-assoc}
 use native.Mathlib.Omega.{arith}
 use borrow.Author.Needs.{needs}
-use Rattle.model.specs.Frames.{decimal, opening}
+use Rattle.program.specs.Frames.{decimal, opening}
 use Rattle.lines.proofs.Text.{then}
 use Rattle.lines.proofs.begin.Statement.{statement}
 use Rattle.lines.proofs.begin.Tie as tie

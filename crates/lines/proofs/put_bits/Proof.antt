@@ -7,7 +7,7 @@ use native.Mathlib.Omega.{arith}
 use borrow.Author.Needs.{needs}
 use lib.ListN.{length, take, getD, length-map}
 use lib.Seq.{take-suc, take-all, length-take-le}
-use Rattle.model.specs.Frames.{glyph}
+use Rattle.program.specs.Frames.{glyph}
 use Rattle.lines.specs.Text.{Appended}
 use Rattle.lines.proofs.Text.{none, long, then}
 use Rattle.lines.proofs.put_bits.Statement.{statement}

@@ -3,7 +3,7 @@ use Prim.Native.Nat.{_≤_}
 use native.Mathlib.Omega.{arith}
 use borrow.Author.Needs.{needs}
 use lib.ListN.{length}
-use Rattle.model.specs.Frames.{decimal}
+use Rattle.program.specs.Frames.{decimal}
 use Rattle.lines.proofs.Decimals.{decimal-few}
 use Rattle.lines.proofs.Text.{long, then}
 use Rattle.lines.proofs.put_field.Statement.{statement}

@@ -1,6 +1,6 @@
 -- `lines::refusal` meets its contract: the letter, then the number. Assumes nothing.
 use borrow.Author.Needs.{needs}
-use Rattle.model.specs.Frames.{refusal}
+use Rattle.program.specs.Frames.{refusal}
 use Rattle.lines.proofs.Text.{then}
 use Rattle.lines.proofs.refusal.Statement.{statement}
 use Rattle.lines.proofs.refusal.Tie as tie

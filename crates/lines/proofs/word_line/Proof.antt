@@ -4,7 +4,7 @@ use Prim.Native.Nat.{ℕ, _+_, _≤_}
 use native.Mathlib.Omega.{arith}
 use borrow.Author.Needs.{needs}
 use lib.ListN.{length, length-map}
-use Rattle.model.specs.Frames.{glyph, opening}
+use Rattle.program.specs.Frames.{glyph, opening}
 use Rattle.lines.specs.Text.{Appended}
 use Rattle.lines.proofs.Text.{long, then}
 use Rattle.lines.proofs.word_line.Statement.{statement}

@@ -3,7 +3,7 @@ use mathlib.Core.Path.{_∙_}
 use native.Mathlib.Omega.{arith}
 use lib.ListN.{length-take}
 use Rattle.lines.proofs.Text.{lent, counted}
-use Rattle.model.specs.FrameClaims.{Room}
+use Rattle.program.specs.FrameClaims.{Room}
 use Rattle.session.proofs.Answers.{answered}
 use borrow.Author.Needs.{needs}
 use Rattle.session.proofs.answer.Statement.{statement}

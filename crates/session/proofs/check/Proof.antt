@@ -5,7 +5,7 @@ use Prim.Native.Nat.{_+_, _-_}
 use lib.ListN.{length, take, drop}
 use lib.Seq.{getD-drop}
 use Rattle.model.specs.Records.{bitCount}
-use Rattle.model.specs.Frames.{judgeHeldCheck}
+use Rattle.program.specs.Frames.{judgeHeldCheck}
 use Rattle.session.proofs.Records.{check-few, opening-taken, opening-left, opening-refused, opening-kept}
 use borrow.Author.Needs.{needs}
 use Rattle.session.proofs.check.Statement.{statement}

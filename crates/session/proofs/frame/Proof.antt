@@ -6,8 +6,8 @@ use Prim.Native.Nat.{ℕ, _+_, _-_}
 use lib.ListN.{length, take, drop}
 use lib.Seq.{length-take-le}
 use Rattle.model.specs.Records.{codeOf}
-use Rattle.model.specs.Frames.{settingsOf}
-use Rattle.model.specs.FrameClaims.{frameText, goesOn}
+use Rattle.program.specs.Frames.{settingsOf}
+use Rattle.program.specs.FrameClaims.{frameText, goesOn}
 use Rattle.session.proofs.Answers.{behind, set, held, within, goes-on, stops}
 use borrow.Author.Needs.{needs}
 use Rattle.session.proofs.frame.Statement.{statement}

@@ -4,9 +4,9 @@ use native.Mathlib.Omega.{arith}
 use lib.ListN.{length, take, length-take}
 use Rattle.lines.proofs.Text.{lent, counted}
 use Rattle.model.specs.Records.{codeOf}
-use Rattle.model.specs.Frames.{costsOf, judgeFrame, frameLine}
-use Rattle.model.proofs.Frames as Frames
-use Rattle.model.proofs.Frames.{length-costs, costs-left}
+use Rattle.program.specs.Frames.{costsOf, judgeFrame, frameLine}
+use Rattle.program.proofs.Frames as Frames
+use Rattle.program.proofs.Frames.{length-costs, costs-left}
 use Rattle.session.proofs.Answers.{none, frame-refused, frame-sound, bits-of, code-long}
 use borrow.Author.Needs.{needs}
 use Rattle.session.proofs.frame_line.Statement.{statement}

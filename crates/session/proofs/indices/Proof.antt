@@ -5,7 +5,7 @@ use native.Mathlib.Omega.{arith}
 use lib.ListN.{length, take, drop}
 use lib.Seq.{getD-drop}
 use Rattle.model.specs.Records.{bitCount, degree}
-use Rattle.model.specs.Frames.{judgeHeldCheck}
+use Rattle.program.specs.Frames.{judgeHeldCheck}
 use Rattle.session.proofs.Records.{indices-few, indices-left, indices-room, indices-refused, degree-within, next-begun, indices-kept}
 use borrow.Author.Needs.{needs}
 use Rattle.session.proofs.indices.Statement.{statement}

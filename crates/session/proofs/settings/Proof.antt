@@ -3,7 +3,7 @@ use mathlib.Core.Path.{_≡_, sym, _∙_}
 use Prim.Native.Nat.{_+_, _-_}
 use native.Mathlib.Omega.{arith}
 use lib.ListN.{length, take, drop}
-use Rattle.model.specs.Frames.{judgeSettings}
+use Rattle.program.specs.Frames.{judgeSettings}
 use Rattle.session.proofs.Records.{settings-refused, settings-kept}
 use borrow.Author.Needs.{needs}
 use Rattle.session.proofs.settings.Statement.{statement}

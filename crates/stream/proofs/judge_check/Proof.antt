@@ -10,7 +10,7 @@ use lib.ListN.{drop}
 use Rattle.model.specs.Code.{tripleCount}
 use Rattle.model.specs.Causes.{_if_}
 use Rattle.model.specs.Records.{degree, indices, judgeCheck}
-use Rattle.model.specs.Frames.{judgeHeldCheck}
+use Rattle.program.specs.Frames.{judgeHeldCheck}
 use Rattle.model.proofs.Accepted.{record-sound, length-numbers}
 use Rattle.stream.proofs.Refusals.{refused}
 use Rattle.stream.proofs.judge_check.Statement.{statement}

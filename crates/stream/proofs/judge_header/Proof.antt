@@ -7,7 +7,7 @@ use borrow.Author.Needs.{needs}
 use borrow.Author.Tests.{lt-ltb, le-ltb}
 use Rattle.model.specs.Causes.{_if_}
 use Rattle.model.specs.Records.{bitCount, judgeHeader}
-use Rattle.model.specs.Frames.{judgeHeldHeader}
+use Rattle.program.specs.Frames.{judgeHeldHeader}
 use Rattle.model.proofs.Accepted.{header-sound}
 use Rattle.stream.proofs.Refusals.{refused}
 use Rattle.stream.proofs.judge_header.Statement.{statement}

@@ -10,7 +10,7 @@ use lib.ListN.{drop}
 use Rattle.model.specs.Causes.{_if_, firstOf, short, outside}
 use Rattle.model.specs.Records.{twoBytes}
 use Rattle.model.specs.Limits.{mostIterations}
-use Rattle.model.specs.Frames.{judgeSettings}
+use Rattle.program.specs.Frames.{judgeSettings}
 use Rattle.stream.proofs.judge_settings.Statement.{statement}
 use Rattle.stream.proofs.judge_settings.Tie as tie
 

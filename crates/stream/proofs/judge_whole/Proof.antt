@@ -4,7 +4,7 @@ use borrow.Author.Needs.{needs}
 use borrow.Author.Tests.{lt-ltb, le-ltb, ne-eqb}
 use lib.ListN.{length}
 use Rattle.model.specs.Records.{twoBytes}
-use Rattle.model.specs.Frames.{frameSize, judgeWhole}
+use Rattle.program.specs.Frames.{frameSize, judgeWhole}
 use Rattle.stream.proofs.judge_whole.Statement.{statement}
 use Rattle.stream.proofs.judge_whole.Tie as tie
 

@@ -8,8 +8,8 @@ use lib.ListN.{length, take}
 use Rattle.lists.specs.Entries.{some}
 use Rattle.model.specs.Causes.{_if_, accepted}
 use Rattle.model.specs.Calls.{forbidden}
-use Rattle.model.specs.Frames.{judgeWhole, judgeFrame}
-use Rattle.model.proofs.Frames.{length-costs, take-costs}
+use Rattle.program.specs.Frames.{judgeWhole, judgeFrame}
+use Rattle.program.proofs.Frames.{length-costs, take-costs}
 use Rattle.stream.proofs.Costs.{whole-refused, whole, frame-judged}
 use borrow.Author.Needs.{needs}
 use Rattle.stream.proofs.read_frame.Statement.{statement}

@@ -1,7 +1,7 @@
 -- `stream::settings` meets its contract: field by field. Assumes nothing.
 use borrow.Author.Needs.{needs}
 use lib.Seq.{drop-drop}
-use Rattle.model.specs.Frames.{settingsOf}
+use Rattle.program.specs.Frames.{settingsOf}
 use Rattle.stream.proofs.settings.Statement.{statement}
 use Rattle.stream.proofs.settings.Tie as tie
 

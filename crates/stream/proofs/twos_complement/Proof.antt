@@ -9,7 +9,7 @@ use mir.Facts.{toZ-ofZ}
 use mir.Syntax.{w16}
 use mir.Val.{SFits, toZ}
 use Rattle.integers.proofs.Machine.{unsigned}
-use Rattle.model.specs.Frames.{twosComplement}
+use Rattle.program.specs.Frames.{twosComplement}
 use Rattle.stream.proofs.Costs.{minus-one}
 use Rattle.stream.proofs.twos_complement.Statement.{statement}
 use Rattle.stream.proofs.twos_complement.Tie as tie

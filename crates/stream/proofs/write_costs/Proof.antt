@@ -7,7 +7,7 @@ use lib.ListN.{length}
 use mir.Syntax.{w16}
 use Rattle.lists.specs.Tabulated.{over}
 use Rattle.lists.proofs.Tabulated.{length-over, over-stored}
-use Rattle.model.specs.Frames.{twosComplement}
+use Rattle.program.specs.Frames.{twosComplement}
 use Rattle.stream.proofs.Costs.{costAt, costs-written}
 use Rattle.stream.proofs.write_costs.Statement.{statement}
 use Rattle.stream.proofs.write_costs.Tie as tie

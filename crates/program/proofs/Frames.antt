@@ -10,14 +10,14 @@ use lib.Seq.{take-at}
 use borrow.Author.Tests.{ltb-false}
 use Rattle.lists.specs.Entries.{some}
 use Rattle.lists.specs.Tabulated.{written}
 use Rattle.model.specs.Causes.{_if_, short, outside, accepted}
 use Rattle.model.specs.Code.{tripleCount}
 use Rattle.model.specs.Records.{twoBytes, numbers, bitCount, indices, judgeHeader, judgeCheck}
 use Rattle.model.specs.Limits.{mostIterations}
 use Rattle.model.specs.Calls.{outOfRange, forbidden}
-use Rattle.model.specs.Frames.{judgeHeldHeader, judgeHeldCheck, settingsOf, judgeSettings, twosComplement, costsOf, judgeWhole, judgeFrame}
+use Rattle.program.specs.Frames.{judgeHeldHeader, judgeHeldCheck, settingsOf, judgeSettings, twosComplement, costsOf, judgeWhole, judgeFrame}
 use Rattle.model.proofs.Causes.{clear, unless}
 use Rattle.model.proofs.Accepted.{length-numbers}
 
 -- ---- code records
 pub record HeldHeader (s : List ℕ) : Type 0 where

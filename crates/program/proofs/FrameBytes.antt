@@ -9,13 +9,13 @@ use lib.Dec.{ltb, eqb}
 use lib.ListN.{length, take, drop, length-take, length-drop}
 use lib.Seq.{take-nil, take-all, length-take-le, getD-take, getD-drop, drop-drop}
 use borrow.Author.Tests.{ltb-true, ltb-false, lt-ltb, le-ltb}
 use Rattle.model.specs.Causes.{_if_, firstOf, short, outside}
 use Rattle.model.specs.Code.{tripleCount}
 use Rattle.model.specs.Records.{twoBytes, numbers, degree, indices, judgeHeader, judgeIndices, judgeCheck}
-use Rattle.model.specs.Frames.{judgeHeldHeader, judgeHeldCheck, settingsOf, judgeSettings, frameSize, costsOf, judgeWhole, judgeFrame}
-use Rattle.model.specs.FrameClaims.{Opened}
+use Rattle.program.specs.Frames.{judgeHeldHeader, judgeHeldCheck, settingsOf, judgeSettings, frameSize, costsOf, judgeWhole, judgeFrame}
+use Rattle.program.specs.FrameClaims.{Opened}
 use Rattle.model.proofs.Accepted.{length-numbers}
 use Rattle.model.proofs.Causes.{within}
 
 -- ---- the first bytes: lengths up to j, and numbers within, are those of the whole
 pub short-take : (k j : ℕ) (s : List ℕ) → k ≤ j → short k (take j s) ≡ short k s

@@ -12,20 +12,20 @@ use borrow.Author.Tests.{le-ltb, eq-eqb, eqb-true}
 use Rattle.lists.specs.Entries.{some}
 use Rattle.lists.proofs.Tabulated.{length-tab}
 use Rattle.quotient.specs.Quotient.{quotient}
 use Rattle.model.specs.declared.Settings.{Settings}
 use Rattle.model.specs.Causes.{accepted}
 use Rattle.model.specs.Code.{Code, triples, variables}
 use Rattle.model.specs.Records.{codeOf}
 use Rattle.model.specs.Splitting.{systemOf}
 use Rattle.model.specs.Iteration.{at}
 use Rattle.model.specs.Run.{Ended, run}
 use Rattle.model.specs.Words.{bitOf, wordOf, outcome}
 use Rattle.model.specs.Calls.{outOfRange, forbidden, Lists, Answer, noRoom, decoderCause, decodedBy}
-use Rattle.model.specs.Frames.{line, noLists, frameLine}
-use Rattle.model.specs.FrameClaims.{HeldCode, Room, HeldFrame}
+use Rattle.program.specs.Frames.{line, noLists, frameLine}
+use Rattle.program.specs.FrameClaims.{HeldCode, Room, HeldFrame}
 use Rattle.model.proofs.Accepted as Accepted
 use Rattle.model.proofs.Sound.{variables-most}
 use Rattle.model.proofs.Entry.{ran-is}
 
 -- ---- the lists
 enough : (k : Code) (l : Lists) → Room l → k .bits ≤ 512 → triples k ≤ 1024 → variables k ≤ 1536 → noRoom k l ≡ false

@@ -9,14 +9,14 @@ use lib.Dec.{ltb, eqb}
 use lib.ListN.{length, take, drop, length-take, length-drop, length-append}
 use lib.Seq.{take-at, drop-at}
 use borrow.Author.Tests.{lt-ltb, eq-eqb, ne-eqb, eqb-true, eqb-false}
 use Rattle.model.specs.declared.Settings.{Settings}
 use Rattle.model.specs.Causes.{_if_, firstOf, accepted}
 use Rattle.model.specs.Code.{Code}
 use Rattle.model.specs.Records.{twoBytes, bitCount, afterChecks, codeOf, covered, judge}
-use Rattle.model.specs.Frames.{judgeHeldHeader, judgeHeldCheck, judgeHeldChecks, settingsOf, judgeSettings, frameSize, judgeWhole, judgeFrame, refusal, frameLines, frames}
-use Rattle.model.specs.FrameClaims.{Begun, Coded, Set, frameText, goesOn}
-use Rattle.model.proofs.FrameBytes.{held-header-take, settings-take, fields-take, costs-take, frame-take}
-use Rattle.model.proofs.FrameCode.{header-more, bits-more, count-more, code-more, judged}
+use Rattle.program.specs.Frames.{judgeHeldHeader, judgeHeldCheck, judgeHeldChecks, settingsOf, judgeSettings, frameSize, judgeWhole, judgeFrame, refusal, frameLines, frames}
+use Rattle.program.specs.FrameClaims.{Begun, Coded, Set, frameText, goesOn}
+use Rattle.program.proofs.FrameBytes.{held-header-take, settings-take, fields-take, costs-take, frame-take}
+use Rattle.program.proofs.FrameCode.{header-more, bits-more, count-more, code-more, judged}
 
 -- ---- the code records
 pub header-refused : (s : List ℕ) (c : ℕ) → (c ≡ 0 → ⊥) → c ≡ judgeHeldHeader (take 6 s) → frames s ≡ refusal c

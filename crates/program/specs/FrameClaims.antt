@@ -7,11 +7,11 @@ use Prim.Native.Nat.{ℕ, _+_, _*_, _≤_}
 use lib.Dec.{eqb}
 use lib.IntN.{ℤ}
 use lib.ListN.{length, take, drop}
 use Rattle.model.specs.declared.Settings.{Settings}
 use Rattle.model.specs.Code.{Code, triples}
 use Rattle.model.specs.Records.{bitCount, checkCount, afterChecks, codeOf, judge}
 use Rattle.model.specs.Calls.{Lists, HasRoom, decoderCause, decoder}
-use Rattle.model.specs.Frames.{judgeHeldHeader, judgeHeldCheck, judgeHeldChecks, judgeSettings, costsOf, judgeFrame, refusal, line, frameLine}
+use Rattle.program.specs.Frames.{judgeHeldHeader, judgeHeldCheck, judgeHeldChecks, judgeSettings, costsOf, judgeFrame, refusal, line, frameLine}
 
 -- ---- the bytes kept, which the input begins with
 

@@ -9,15 +9,15 @@ use lib.ListN.{length, drop, length-append}
 use lib.Seq.{take-append-seam, drop-append-le, drop-at}
 use borrow.Author.Tests.{le-ltb}
 use Rattle.lists.specs.Entries.{total}
 use Rattle.model.specs.Causes.{_if_}
 use Rattle.model.specs.Code.{tripleCount, triples}
 use Rattle.model.specs.Records.{bitCount, checkCount, degree, indices, afterCheck, checksIn, afterChecks, codeOf, judgeChecks, covered, judge}
-use Rattle.model.specs.Frames.{judgeHeldHeader, judgeHeldCheck, judgeHeldChecks}
-use Rattle.model.specs.FrameClaims.{Begun, HeldCode}
+use Rattle.program.specs.Frames.{judgeHeldHeader, judgeHeldCheck, judgeHeldChecks}
+use Rattle.program.specs.FrameClaims.{Begun, HeldCode}
 use Rattle.model.proofs.Causes.{only, clear}
 use Rattle.model.proofs.Accepted.{header-sound, record-sound, length-numbers}
-use Rattle.model.proofs.Frames.{header-held, check-held}
-use Rattle.model.proofs.FrameBytes.{two-take, held-header-take, indices-of-take, degree-take, held-take}
+use Rattle.program.proofs.Frames.{header-held, check-held}
+use Rattle.program.proofs.FrameBytes.{two-take, held-header-take, indices-of-take, degree-take, held-take}
 
 -- ---- whatever follows a header
 module _ (b s : List ℕ) (h : judgeHeldHeader b ≡ 0) where

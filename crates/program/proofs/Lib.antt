@@ -1,0 +1,5 @@
+pub mod Frames
+pub mod FrameBytes
+pub mod FrameCode
+pub mod FrameLines
+pub mod FrameProgram
