@@ -10,9 +10,9 @@ use Rattle.model.specs.Iteration.{countsOf}
 use Rattle.model.specs.Calls.{Lists, Answer, Decoded, decoderCauses, decoderCause, decodedBy, decoder}
 use Rattle.model.specs.Causes.{firstOf, accepted}
 use Rattle.model.specs.Told.{Refuses}
-use Rattle.model.specs.Entry.{Small}
+use Rattle.model.specs.DecoderClaims.{Small}
 use Rattle.model.specs.Promises.{DecoderCall}
-use Rattle.model.proofs.Entry.{input-refuses}
+use Rattle.model.proofs.DecoderCalls.{input-refuses}
 use Rattle.model.proofs.Promises.{decoder-call}
 use Rattle.model.specs.Run.{Ended, run}
 use Rattle.model.specs.Words.{wordOf, outcome}

@@ -17,7 +17,7 @@ ghost use Rattle.model.specs.Run as Run;
 ghost use Rattle.model.specs.Calls as Calls;
 ghost use Rattle.model.specs.Calls.{unequal, forbidden, listsOf, decodingTold, decodedBy};
 ghost use Rattle.model.specs.Told.{decodingKind};
-ghost use Rattle.model.specs.Entry.{Small};
+ghost use Rattle.model.specs.DecoderClaims.{Small};
 ghost use Rattle.model.specs.Promises.{DecoderCall};
 use model::Decoding;
 use model::Ending;

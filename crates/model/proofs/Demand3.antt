@@ -135,11 +135,7 @@ module _ (k : Code) (s : Sound k) (w : List ℕ) (c : Codeword k w) where
             let bits : (v : ℕ) → v < k .bits → at z′ v ≡ negatedIf (bitAt w v) (at z v) = λ v l. e .last .values v ∙ rw (point-begins k s w (c .word .long) v l) in
             record {
               each = each g x bin even quotient quotient-odd o costs (reflect w costs) turns a b m;
-              count = e .k;
-              settled = e .settled;
-              last = e .last;
-              answer = outcome-same z z′ bits;
-              word = word-same z z′ bits;
+              ends = record { count = e .k; settled = e .settled; last = e .last; answer = outcome-same z z′ bits; word = word-same z z′ bits };
             };
       }
 

@@ -21,5 +21,7 @@ pub mod Floats
 pub mod Products
 pub mod Values
 pub mod ChannelClaims
-pub mod Entry
+pub mod DecoderCalls
+pub mod Courses
+pub mod ReflectedCalls
 pub mod Promises

@@ -28,7 +28,7 @@ use Rattle.model.specs.Words.{bitAt}
 use Rattle.model.specs.Points.{centred}
 use Rattle.model.specs.Paper.{right, residual17}
 use Rattle.model.specs.PaperSystem.{matrix, times, Within, PaperSystem, Projection, residual12, normSquare, StartStop}
-use Rattle.model.specs.Entry.{iterateOf, Published}
+use Rattle.model.specs.DecoderClaims.{iterateOf, Published}
 use Rattle.model.proofs.Accepted.{accepted}
 use Rattle.model.proofs.TripleRule.{member-below, occurs-some}
 use Rattle.model.proofs.Bounds.{divisor-above}

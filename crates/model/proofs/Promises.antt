@@ -32,7 +32,7 @@ use Rattle.model.specs.Order.{oddCauses, Ordered, oneToNine}
 use Rattle.model.specs.Told.{Refuses}
 use Rattle.model.specs.ChannelClaims.{Costed, ofSingles}
 use Rattle.model.specs.WordClaims.{Tested, PointOf}
-use Rattle.model.specs.Entry.{Refused, Ran, Iterated, Small, ReflectedCalls}
+use Rattle.model.specs.DecoderClaims.{Refused, Ran, Iterated, Small, ReflectedCalls}
 use Rattle.model.specs.Promises.{ReaderCall, SplitterCall, FrontCall, ReflectorCall, TestCall, ExtensionCall, DecoderCall}
 use Rattle.model.proofs.Causes.{stays, clear, unless, first-in}
 use Rattle.model.proofs.Accepted as Accepted
@@ -43,7 +43,9 @@ use Rattle.model.proofs.Points.{point, points}
 use Rattle.model.proofs.ChannelClaims.{channel-claims, negated-call}
 use Rattle.model.proofs.PaperSystem.{published}
 use Rattle.model.proofs.Demand3 as Demand3
-use Rattle.model.proofs.Entry as Entry
+use Rattle.model.proofs.DecoderCalls as Calls
+use Rattle.model.proofs.Courses.{iterated}
+use Rattle.model.proofs.ReflectedCalls.{length-reflect, reflected-calls}
 
 -- ---- the reader
 pub reader-call : (b : List ℕ) (a : ReaderAnswer) → Bytes b → a ≡ reader b → ReaderCall b a
@@ -287,25 +289,25 @@ module _ (b : List ℕ) (o : Settings) (costs : List ℤ) (l : Lists) (d : Decod
     (meets : d ≡ decoder b o costs l) where
   reflected : decoderCause b o costs l ≡ 0 → (w : List ℕ) → Codeword (codeOf b) w → (m : Lists) → noRoom (codeOf b) m ≡ false
       → (e : Decoded) → e ≡ decoder b o (reflect w costs) m → ReflectedCalls b o costs w m d e
-  reflected h w c m room e again = rw (meets, again) (Entry.reflected-calls b w o costs l m h (small h) room c)
+  reflected h w c m room e again = rw (meets, again) (reflected-calls b w o costs l m h (small h) room c)
 
   -- the costs that the reflector wrote
   reflected-costs : (w : List ℕ) (old : List ℤ) (r : Costs) → ReflectorCall costs w old r → r .number ≡ 0 → take (length costs) (r .costs) ≡ reflect w costs
   reflected-costs w old r c h =
-      ap (take (length costs)) (c .reflected h) ∙ take-at (reflect w costs) (drop (length (reflect w costs)) old) (length costs) (Entry.length-reflect w costs)
+      ap (take (length costs)) (c .reflected h) ∙ take-at (reflect w costs) (drop (length (reflect w costs)) old) (length costs) (length-reflect w costs)
 
   pub decoder-call : DecoderCall b o costs l d
   decoder-call = record {
     equation = meets;
-    order = rw meets (Entry.call-ordered b o costs l);
-    follows = Entry.call-follows b o costs l;
-    refused = λ c h. subst (Refused b o costs l) (sym meets) (Entry.refused b o costs l c h);
-    ran = λ h. subst (Ran b o costs l) (sym meets) (Entry.ran b o costs l h);
-    iterated = λ h. subst (Iterated b o costs l) (sym meets) (Entry.iterated b o costs l h);
-    published = λ h. (let c = Entry.clear-causes b o costs l h in published b (c .0) o costs (unless 10 (outOfRange o) (c .1 .0)));
+    order = rw meets (Calls.call-ordered b o costs l);
+    follows = Calls.call-follows b o costs l;
+    refused = λ c h. subst (Refused b o costs l) (sym meets) (Calls.refused b o costs l c h);
+    ran = λ h. subst (Ran b o costs l) (sym meets) (Calls.ran b o costs l h);
+    iterated = λ h. subst (Iterated b o costs l) (sym meets) (iterated b o costs l h);
+    published = λ h. (let c = Calls.clear-causes b o costs l h in published b (c .0) o costs (unless 10 (outOfRange o) (c .1 .0)));
     demand-3 = Demand3.demand-3 b;
     reflected = reflected;
     end-to-end = λ ended w t test passed old r call done m room e again.
-        reflected (Entry.ended-ran b o costs l (d .answer .number) (ap (λ (x : Decoded). x .answer .number) meets) ended) w (test .codeword .0 passed .1) m room e
+        reflected (Calls.ended-ran b o costs l (d .answer .number) (ap (λ (x : Decoded). x .answer .number) meets) ended) w (test .codeword .0 passed .1) m room e
         (again ∙ ap (λ (x : List ℤ). decoder b o x m) (reflected-costs w old r call done));
   }

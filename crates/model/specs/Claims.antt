@@ -21,24 +21,23 @@ pub record Points (k : Code) : Type 0 where
   pub exactly : (w : List ℕ) → Bits (k .bits) w → Codeword k w ↔ ((p : List ℕ) × Point (systemOf k) p × (take (k .bits) p ≡ w))
   pub only : (w p : List ℕ) → Point (systemOf k) p → take (k .bits) p ≡ w → p ≡ pointOf k w
 
--- the run of a code from the state a, `done` iterations being done and at most `more` to come
-abbrev pub runIn : Code → Settings → List ℤ → ℕ → ℕ → State → Ended
-runIn k o costs more done a = runFrom quotient (systemOf k) o costs more done a
+-- how two runs ended: the first with e, the run with the costs that the codeword w reflects with f
+pub record ReflectedEnds (k : Code) (w : List ℕ) (e f : Ended) : Type 0 where
+  -- "Both runs end after the same iteration; the kind of answer, count, settled and place stay"
+  pub count : f .k ≡ e .k
+  pub settled : f .settled ≡ e .settled
+  pub last : Reflected (systemOf k) (pointOf k w) (e .last) (f .last)
+  pub answer : outcome k (f .last .values) ≡ outcome k (e .last .values)
+  -- "and a written word changes by that codeword, bit by bit modulo 2"
+  pub word : outcome k (e .last .values) .number ≡ 0 → wordOf k (f .last .values) ≡ sumOfWords w (wordOf k (e .last .values))
 
--- two such runs, from the states a and b, with costs and with the costs that the codeword w reflects
+-- two such runs, from the states a and b, `done` iterations being done and at most `more` to come
 pub record ReflectedRun (k : Code) (o : Settings) (costs : List ℤ) (w : List ℕ) (more done : ℕ) (a b : State) : Type 0 where
   -- "After every iteration of the reflected run c and S are those of the first run, negated where the point has a 1 and the same elsewhere", and the rows
   -- change places
   pub each : (i : ℕ)
       → Reflected (systemOf k) (pointOf k w) (after quotient (systemOf k) o costs i a) (after quotient (systemOf k) o (reflect w costs) i b)
-  -- "Both runs end after the same iteration; the kind of answer, count, settled and place stay"
-  pub count : runIn k o (reflect w costs) more done b .k ≡ runIn k o costs more done a .k
-  pub settled : runIn k o (reflect w costs) more done b .settled ≡ runIn k o costs more done a .settled
-  pub last : Reflected (systemOf k) (pointOf k w) (runIn k o costs more done a .last) (runIn k o (reflect w costs) more done b .last)
-  pub answer : outcome k (runIn k o (reflect w costs) more done b .last .values) ≡ outcome k (runIn k o costs more done a .last .values)
-  -- "and a written word changes by that codeword, bit by bit modulo 2"
-  pub word : outcome k (runIn k o costs more done a .last .values) .number ≡ 0
-      → wordOf k (runIn k o (reflect w costs) more done b .last .values) ≡ sumOfWords w (wordOf k (runIn k o costs more done a .last .values))
+  pub ends : ReflectedEnds k w (runFrom quotient (systemOf k) o costs more done a) (runFrom quotient (systemOf k) o (reflect w costs) more done b)
 
 -- row r of triple t goes to row q: of the two rows' signs
 abbrev pub Goes : Code → List ℕ → ℕ → ℕ → ℕ → Type 0

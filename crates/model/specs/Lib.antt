@@ -27,5 +27,5 @@ pub mod ChannelClaims
 pub mod WordClaims
 pub mod Told
 pub mod Order
-pub mod Entry
+pub mod DecoderClaims
 pub mod Promises

@@ -28,7 +28,7 @@ use Rattle.model.specs.Order.{oddCauses, runCauses, Follows, Ordered, on
 use Rattle.model.specs.WordClaims.{Tested, PointOf}
 use Rattle.model.specs.ChannelClaims.{Costed}
 use Rattle.model.specs.Claims.{Demand3}
-use Rattle.model.specs.Entry.{runOf, Refused, Ran, Iterated, Published, ReflectedCalls}
+use Rattle.model.specs.DecoderClaims.{runOf, Refused, Ran, Iterated, Published, ReflectedCalls}
 
 -- ---- the reader: a is what it tells of the bytes b
 pub record ReaderCall (b : List ℕ) (a : ReaderAnswer) : Type 0 where

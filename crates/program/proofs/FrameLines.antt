@@ -25,7 +25,7 @@ use Rattle.program.specs.Frames.{line, noLists, frameLine}
 use Rattle.program.specs.FrameClaims.{HeldCode, Room, HeldFrame}
 use Rattle.model.proofs.Accepted as Accepted
 use Rattle.model.proofs.Sound.{variables-most}
-use Rattle.model.proofs.Entry.{ran-is}
+use Rattle.model.proofs.DecoderCalls.{ran-is}
 
 -- ---- the lists
 enough : (k : Code) (l : Lists) → Room l → k .bits ≤ 512 → triples k ≤ 1024 → variables k ≤ 1536 → noRoom k l ≡ false

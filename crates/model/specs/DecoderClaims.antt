@@ -1,4 +1,5 @@
--- What holds of a call of the decoder, in the words of the demands: the parts of `Promises.DecoderCall`. Statements only; the proofs are in proofs/Entry.antt.
+-- What holds of a call of the decoder, in the words of the demands: the parts of `Promises.DecoderCall`. Statements only; the proofs are in
+-- proofs/DecoderCalls.antt, Courses.antt and ReflectedCalls.antt.
 use mathlib.Core.List.{List, [], _∷_, _++_}
 use mathlib.Core.Logic.{_⊎_}
 use mathlib.Core.Path.{_≡_}
@@ -12,7 +13,7 @@ use Rattle.model.specs.Code.{triples, variables}
 use Rattle.model.specs.Records.{codeOf, recordCauses}
 use Rattle.model.specs.Splitting.{System, systemOf}
 use Rattle.model.specs.Iteration.{at, row, slack, multiplier, State, countsOf}
-use Rattle.model.specs.Run.{settledBy, start, Ended, after, run}
+use Rattle.model.specs.Run.{stop, start, Ended, after, run}
 use Rattle.model.specs.Words.{bitAt, wordOf, outcome}
 use Rattle.model.specs.Points.{Codeword, pointOf}
 use Rattle.model.specs.Reflection.{negatedIf, reflect, sumOfWords, Opposite, Reflected}
@@ -64,13 +65,19 @@ pub record Course (g : System) (o : Settings) (costs : List ℤ) (more k : ℕ) 
   pub count : e .k ≡ k + steps
   pub few : steps ≤ more
   pub last : e .last ≡ after quotient g o costs steps a
-  -- it did not settle before the last iteration, and there it did if it was not the limit's
-  pub going : (i : ℕ) → suc i < steps
-      → settledBy (o .tolerance) (g .triples) (after quotient g o costs i a .rows) (after quotient g o costs (suc i) a .rows) ≡ 0
-  pub ending : (i : ℕ) → suc i ≡ steps
-      → e .settled ≡ settledBy (o .tolerance) (g .triples) (after quotient g o costs i a .rows) (after quotient g o costs (suc i) a .rows)
+  -- no iteration before the last stopped it, and the last one did if it was not the limit's
+  pub going : (i : ℕ) → suc i < steps → stop g o (after quotient g o costs i a) (after quotient g o costs (suc i) a) ≡ 0
+  pub ending : (i : ℕ) → suc i ≡ steps → e .settled ≡ stop g o (after quotient g o costs i a) (after quotient g o costs (suc i) a)
   pub none : steps ≡ 0 → e .settled ≡ 0
-  pub early : steps < more → e .settled ≡ 1
+  pub early : steps < more → 1 ≤ e .settled
+  -- 0, or 1 where it stopped
+  pub kinds : e .settled ≤ 1
+
+-- the lists of a state, written to lists that were l
+pub record Left (a : State) (l m : Lists) : Type 0 where
+  pub sums : m .sums ≡ written (a .sums) (l .sums)
+  pub values : m .values ≡ written (a .values) (l .values)
+  pub rows : m .rows ≡ written (a .rows) (l .rows)
 
 pub record Iterated (b : List ℕ) (o : Settings) (costs : List ℤ) (l : Lists) (d : Decoded) : Type 0 where
   pub course : Course (systemOf (codeOf b)) o costs (o .limit) 0 (start (systemOf (codeOf b))) (runOf b o costs)
@@ -78,9 +85,7 @@ pub record Iterated (b : List ℕ) (o : Settings) (costs : List ℤ) (l : Lists)
   pub range : (1 ≤ d .answer .k) × (d .answer .k ≤ o .limit)
   pub settled : d .answer .settled ≡ runOf b o costs .settled
   -- the lists have the k-th iterate
-  pub sums : d .lists .sums ≡ written (iterateOf b o costs (d .answer .k) .sums) (l .sums)
-  pub values : d .lists .values ≡ written (iterateOf b o costs (d .answer .k) .values) (l .values)
-  pub rows : d .lists .rows ≡ written (iterateOf b o costs (d .answer .k) .rows) (l .rows)
+  pub left : Left (iterateOf b o costs (d .answer .k)) l (d .lists)
   -- "always from −U to U", and "s never leaves −65,536 .. 32,768 × K"
   pub centred : (v : ℕ) → v < variables (codeOf b) → natAbs (at (d .lists .values) v) ≤ unit
   pub multipliers : (i : ℕ) → i < 4 * triples (codeOf b) → multiplier (at (d .lists .rows) i) ≤ 32768 * o .limit

@@ -1,0 +1,120 @@
+-- Two calls, the second with reflected costs. Assumes nothing.
+use mathlib.Core.Bool.{Bool, false, not}
+use mathlib.Core.List.{List, [], _∷_}
+use mathlib.Core.Path.{_≡_, refl, sym, ap, ap₂, _∙_}
+use Prim.Native.Nat.{ℕ, zero, suc, _+_, _*_, _≤_}
+use native.Mathlib.Omega.{arith}
+use borrow.Author.Tests.{eqb-true, ne-eqb, not-false}
+use lib.Dec.{eqb}
+use lib.IntN.{ℤ, pos, negsuc, natAbs}
+use lib.ListN.{length, take, drop}
+use lib.Seq.{take-at}
+use Rattle.lists.specs.Entries.{some}
+use Rattle.lists.specs.Tabulated.{written}
+use Rattle.lists.proofs.Tabulated.{length-tab}
+use Rattle.lists.proofs.Entries.{none-in-tab}
+use Rattle.model.specs.declared.Settings.{Settings}
+use Rattle.model.specs.Causes.{_if_, firstOf, accepted}
+use Rattle.model.specs.Code.{Code, triples, variables}
+use Rattle.model.specs.Records.{codeOf, judge}
+use Rattle.model.specs.Splitting.{System, systemOf}
+use Rattle.model.specs.Iteration.{at}
+use Rattle.model.specs.Run.{start, Ended}
+use Rattle.model.specs.Words.{bitAt, wordOf, Outcome, outcome}
+use Rattle.model.specs.Points.{Codeword, pointOf}
+use Rattle.model.specs.Reflection.{negatedIf, reflect, sumOfWords}
+use Rattle.model.specs.Calls.{outOfRange, unequal, forbidden, Lists, noRoom, decoderCauses, decoderCause, decodedBy, decoder}
+use Rattle.model.specs.Claims.{ReflectedRun}
+use Rattle.model.specs.DecoderClaims.{runOf, Small, ReflectedCalls}
+use Rattle.model.proofs.Causes.{Clear, unless}
+use Rattle.model.proofs.Demand3.{demand-3}
+use Rattle.model.proofs.WordClaims.{outcome-claims}
+use Rattle.model.proofs.DecoderCalls.{clear-causes, ran-is}
+use Rattle.model.proofs.Courses.{last-long, in-list}
+
+-- a cost that is negated is none of the forbidden ones either
+turned-allowed : (b : ℕ) (z : ℤ) → natAbs z ≤ 32767 → forbidden (negatedIf b z) ≡ false
+turned-allowed zero (pos n) h = refl
+turned-allowed zero (negsuc n) h = ne-eqb (suc n) 32768 (λ q. omega arith)
+turned-allowed (suc b) (pos zero) h = refl
+turned-allowed (suc b) (pos (suc n)) h = ne-eqb (suc n) 32768 (λ q. omega arith)
+turned-allowed (suc b) (negsuc n) h = refl
+
+reflected-allowed : (w : List ℕ) (costs : List ℤ) → Small costs → some forbidden (reflect w costs) ≡ false
+unfolding reflect
+reflected-allowed w costs small =
+    none-in-tab forbidden (length costs) (λ i. negatedIf (bitAt w i) (at costs i)) (λ i l. turned-allowed (bitAt w i) (at costs i) (small i))
+
+pub length-reflect : (w : List ℕ) (costs : List ℤ) → length (reflect w costs) ≡ length costs
+unfolding reflect
+length-reflect w costs = length-tab (length costs) (λ i. negatedIf (bitAt w i) (at costs i))
+
+no-cause : (j : ℕ) (s t u v : Bool) → j ≡ 0 → s ≡ false → t ≡ false → u ≡ false → v ≡ false → firstOf (j ∷ 11 if s ∷ 12 if t ∷ 13 if u ∷ 10 if v ∷ []) ≡ 0
+no-cause j s t u v a b c d e = rw (a, b, c, d, e)
+
+module _ (b w : List ℕ) (o : Settings) (costs : List ℤ) (l m : Lists) where
+  module _ (h : decoderCause b o costs l ≡ 0) (small : Small costs) (room : noRoom (codeOf b) m ≡ false) (c : Codeword (codeOf b) w) where
+    abbrev code : Code
+    code = codeOf b
+
+    abbrev sys : System
+    sys = systemOf code
+
+    abbrev end : Ended
+    end = runOf b o costs
+
+    abbrev end′ : Ended
+    end′ = runOf b o (reflect w costs)
+
+    none : Clear (judge b ∷ decoderCauses code o costs l)
+    none = clear-causes b o costs l h
+
+    fits : length costs ≡ code .bits
+    fits = eqb-true (length costs) (code .bits) (not-false _ (unless 11 (unequal costs (code .bits)) (none .1 .1 .0)))
+
+    h′ : decoderCause b o (reflect w costs) m ≡ 0
+    unfolding decoderCause
+    h′ =
+        no-cause (judge b) (outOfRange o) (unequal (reflect w costs) (code .bits)) (some forbidden (reflect w costs)) (noRoom code m)
+        (none .0)
+        (unless 10 (outOfRange o) (none .1 .0))
+        (ap (λ (n : ℕ). not (eqb n (code .bits))) (length-reflect w costs) ∙ unless 11 (unequal costs (code .bits)) (none .1 .1 .0))
+        (reflected-allowed w costs small)
+        room
+
+    both : ReflectedRun code o costs w (o .limit) 0 (start sys) (start sys)
+    both = let r = demand-3 b (none .0) .reflects w c in r .whole o costs fits (o .limit) 0 (start sys) (start sys) (r .begun)
+
+    same-answer : decodedBy code end′ m .answer ≡ decodedBy code end l .answer
+    unfolding decodedBy
+    same-answer =
+        ap (λ (x : Outcome). record { number = x .number; place = x .place; k = end′ .k; settled = end′ .settled }) (both .ends .answer)
+        ∙ ap₂ (λ (x y : ℕ). record { number = outcome code (end .last .values) .number; place = outcome code (end .last .values) .place; k = x; settled = y })
+        (both .ends .count) (both .ends .settled)
+
+    taken : (z : List ℤ) (old : List ℕ) → take (code .bits) (written (wordOf code z) old) ≡ wordOf code z
+    taken z old = take-at (wordOf code z) (drop (length (wordOf code z)) old) (code .bits) (outcome-claims code z .word .long)
+
+    related : ReflectedCalls b o costs w m (decodedBy code end l) (decodedBy code end′ m)
+    unfolding decodedBy systemOf
+    related =
+        let long = last-long sys o costs in
+        let long′ = last-long sys o (reflect w costs) in
+        let x = pointOf code w in
+        record {
+          accepted = h′;
+          each = both .each;
+          answer = same-answer;
+          values = λ v k. in-list (end′ .last .values) (m .values) (variables code) v (long′ .values) k ∙ both .ends .last .values v
+              ∙ ap (negatedIf (bitAt x v)) (sym (in-list (end .last .values) (l .values) (variables code) v (long .values) k));
+          sums = λ v k. in-list (end′ .last .sums) (m .sums) (variables code) v (long′ .sums) k ∙ both .ends .last .sums v
+              ∙ ap (negatedIf (bitAt x v)) (sym (in-list (end .last .sums) (l .sums) (variables code) v (long .sums) k));
+          rows = λ t r q i j k op. in-list (end′ .last .rows) (m .rows) (4 * triples code) (4 * t + q) (long′ .rows) (omega arith)
+              ∙ both .ends .last .rows t r q i j k op
+              ∙ sym (in-list (end .last .rows) (l .rows) (4 * triples code) (4 * t + r) (long .rows) (omega arith));
+          word = λ z.
+              rw (both .ends .answer, z) (taken (end′ .last .values) (m .word) ∙ both .ends .word z ∙ ap (sumOfWords w) (sym (taken (end .last .values) (l .word))));
+        }
+
+    pub reflected-calls : ReflectedCalls b o costs w m (decoder b o costs l) (decoder b o (reflect w costs) m)
+    reflected-calls = rw (ran-is b o costs l h, ran-is b o (reflect w costs) m h′) related
