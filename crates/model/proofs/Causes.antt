@@ -25,6 +25,12 @@ first-end [] m = only (firstOf m)
 first-end (zero ∷ l) m = first-end l m
 first-end (suc c ∷ l) m = refl
 
+-- of two lists joined: the second decides where no cause of the first holds
+pub first-joined : (l m : List ℕ) → accepted (firstOf l) (firstOf m) (firstOf l) ≡ firstOf (l ++ m)
+first-joined [] m = refl
+first-joined (zero ∷ l) m = first-joined l m
+first-joined (suc c ∷ l) m = refl
+
 -- what is not accepted stays
 pub stays : {A : Type 0} (c : ℕ) (x y : A) → (c ≡ 0 → ⊥) → accepted c x y ≡ y
 stays zero x y h = absurd (h refl)

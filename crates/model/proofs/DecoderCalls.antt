@@ -1,4 +1,5 @@
 -- A call of the decoder: its causes, and what it leaves. Assumes nothing.
+use mathlib.Core.Bool.{Bool}
 use mathlib.Core.List.{List, [], _∷_, _++_}
 use mathlib.Core.Logic.{_⊎_, inl, inr}
 use mathlib.Core.Path.{_≡_, refl, sym, ap, _∙_, subst}
@@ -14,15 +15,14 @@ use Rattle.model.specs.declared.Settings.{Settings}
 use Rattle.model.specs.Causes.{firstOf, accepted}
 use Rattle.model.specs.Code.{triples}
 use Rattle.model.specs.Records.{codeOf, judge, wholeCauses, recordCauses}
-use Rattle.model.specs.Run.{run}
 use Rattle.model.specs.Words.{wordOf, firstUndecided, firstOdd, outcome}
 use Rattle.model.specs.Points.{Codeword}
 use Rattle.model.specs.Calls.{outOfRange, unequal, forbidden, Lists, Decoded, noRoom, decoderCauses, decoderCause, decodedBy, decoder}
 use Rattle.model.specs.Order.{runCauses, Follows, Refusal, Ordered, oneToNine}
 use Rattle.model.specs.Told.{Refuses}
 use Rattle.model.specs.DecoderClaims.{inputCauses, runOf, Refused, Ran}
-use Rattle.model.proofs.Causes.{stays, Clear, clear}
-use Rattle.model.proofs.Order.{nil, cons, next, no-more, whole-follows, refuses, after-records, then-more, outcome-order}
+use Rattle.model.proofs.Causes.{first-joined, stays, Clear, clear}
+use Rattle.model.proofs.Order.{listed, whole, follow, refuses, after-records, outcome-order}
 use Rattle.model.proofs.WordClaims.{tested-is, outcome-is, outcome-claims}
 
 module _ (b : List ℕ) (o : Settings) (costs : List ℤ) (l : Lists) where
@@ -30,16 +30,22 @@ module _ (b : List ℕ) (o : Settings) (costs : List ℤ) (l : Lists) where
   unfolding decoderCause
   causes-are = refl
 
+  -- the causes with their tests, of the input and of the run
+  abbrev input : List (ℕ × Bool)
+  input = (11, outOfRange o) ∷ (12, unequal costs (codeOf b .bits)) ∷ (13, some forbidden costs) ∷ (10, noRoom (codeOf b) l) ∷ []
+
+  abbrev output : List (ℕ × Bool)
+  output =
+      let k = codeOf b in
+      let c = runOf b o costs .last .values in
+      (16, ltb (firstUndecided k c) (k .bits)) ∷ (17, ltb (firstOdd k (wordOf k c)) (length (k .checks))) ∷ []
+
   -- the causes of the input, one by one
   pub input-ordered : Ordered (inputCauses b o costs l) (oneToNine ++ (10 ∷ 11 ∷ 12 ∷ 13 ∷ [])) (decoderCause b o costs l)
   input-ordered =
       let T = oneToNine ++ (10 ∷ 11 ∷ 12 ∷ 13 ∷ []) in
       after-records (10 ∷ 11 ∷ 12 ∷ 13 ∷ []) b (decoderCauses (codeOf b) o costs l) (decoderCause b o costs l)
-      (cons T 11 (outOfRange o) _ refl
-      (cons T 12 (unequal costs (codeOf b .bits)) _ refl
-      (cons T 13 (some forbidden costs) _ refl
-      (cons T 10 (noRoom (codeOf b) l) _ refl (nil T)))))
-      causes-are
+      (listed T input refl) causes-are
 
   -- a refusal's number
   pub input-refuses : (c : ℕ) → decoderCause b o costs l ≡ suc c → Refuses (suc c)
@@ -122,24 +128,10 @@ module _ (b : List ℕ) (o : Settings) (costs : List ℤ) (l : Lists) where
       let T = oneToNine ++ (10 ∷ 11 ∷ 12 ∷ 13 ∷ 16 ∷ 17 ∷ []) in
       let k = codeOf b in
       let c = runOf b o costs .last .values in
-      let input = judge b ∷ decoderCauses k o costs l in
       after-records (10 ∷ 11 ∷ 12 ∷ 13 ∷ 16 ∷ 17 ∷ []) b (decoderCauses k o costs l ++ runCauses k c) _
-      (cons T 11 (outOfRange o) _ refl
-      (cons T 12 (unequal costs (k .bits)) _ refl
-      (cons T 13 (some forbidden costs) _ refl
-      (cons T 10 (noRoom k l) _ refl
-      (cons T 16 (ltb (firstUndecided k c) (k .bits)) _ refl
-      (cons T 17 (ltb (firstOdd k (wordOf k c)) (length (k .checks))) [] refl (nil T)))))))
-      (number-is (decoderCause b o costs l) ∙ rw (causes-are, outcome-order k c) (then-more input (runCauses k c)))
+      (listed T (input ++ output) refl)
+      (number-is (decoderCause b o costs l) ∙ rw (causes-are, outcome-order k c) (first-joined (judge b ∷ decoderCauses k o costs l) (runCauses k c)))
 
   pub call-follows : Follows 0 (wholeCauses b ++ (decoderCauses (codeOf b) o costs l ++ runCauses (codeOf b) (runOf b o costs .last .values)))
   call-follows =
-      let k = codeOf b in
-      let c = runOf b o costs .last .values in
-      whole-follows b _
-      (next 3 10 (outOfRange o) _ refl
-      (next 4 11 (unequal costs (k .bits)) _ refl
-      (next 5 12 (some forbidden costs) _ refl
-      (next 6 9 (noRoom k l) _ refl
-      (next 9 15 (ltb (firstUndecided k c) (k .bits)) _ refl
-      (next 10 16 (ltb (firstOdd k (wordOf k c)) (length (k .checks))) [] refl (no-more 11)))))))
+      follow (whole b ++ (input ++ output)) refl

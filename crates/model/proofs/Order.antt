@@ -11,6 +11,7 @@ use lib.ListN.{length, getD, drop}
 use Rattle.lists.specs.Entries.{every, some}
 use Rattle.lists.proofs.Tests.{and-left, and-right}
 use Rattle.lists.proofs.Entries.{some-every}
+use Rattle.model.specs.Limits.{mostBits, mostChecks, leastDegree, mostDegree, mostTriples}
 use Rattle.model.specs.Causes.{_if_, firstOf, short, outside, accepted}
 use Rattle.model.specs.Code.{Code, triples}
 use Rattle.model.specs.Records.{twoBytes, bitCount, checkCount, degree, afterCheck, afterChecks, codeOf, covered}
@@ -19,7 +20,7 @@ use Rattle.model.specs.Records.{judgeHeader, judgeIndices, judgeCheck, j
 use Rattle.model.specs.Words.{wordOf, firstUndecided, firstOdd, Outcome, tested, outcome}
 use Rattle.model.specs.Order.{oddCauses, runCauses, rank, follows, Follows, Ordered, oneToNine}
 use Rattle.model.specs.Told.{Refuses}
-use Rattle.model.proofs.Causes.{first-in, first-end}
+use Rattle.model.proofs.Causes.{first-in, first-end, first-joined}
 
 -- ---- numbers of a table
 -- c is 0 or in the table
@@ -27,20 +28,29 @@ abbrev among : List ℕ → ℕ → Bool
 among table zero = true
 among table (suc c) = some (eqb (suc c)) table
 
-among-if : (table : List ℕ) (n : ℕ) → among table n ≡ true → (t : Bool) → among table (n if t) ≡ true
-among-if table n h true = h
-among-if table n h false = refl
-
 -- every number of l is
 pub record Listed (table l : List ℕ) : Type 0 where
   all : every (among table) l ≡ true
 
-module _ (table : List ℕ) where
-  pub nil : Listed table []
-  nil = record { all = refl }
+-- numbers with their tests, and the causes that they are: by the numbers alone it is computed that they are listed and follow the document's order
+abbrev pub causesOf : List (ℕ × Bool) → List ℕ
+causesOf [] = []
+causesOf (c ∷ l) = c .0 if c .1 ∷ causesOf l
 
-  pub cons : (n : ℕ) (t : Bool) (l : List ℕ) → among table n ≡ true → Listed table l → Listed table (n if t ∷ l)
-  cons n t l h k = record { all = rw (among-if table n h t) (k .all) }
+abbrev numbersOf : List (ℕ × Bool) → List ℕ
+numbersOf [] = []
+numbersOf (c ∷ l) = c .0 ∷ numbersOf l
+
+module _ (table : List ℕ) where
+  among-if : (n : ℕ) → among table n ≡ true → (t : Bool) → among table (n if t) ≡ true
+  among-if n h true = h
+  among-if n h false = refl
+
+  pub listed : (l : List (ℕ × Bool)) → every (among table) (numbersOf l) ≡ true → Listed table (causesOf l)
+  listed [] h = record { all = refl }
+  listed (c ∷ l) h =
+      let x = every (among table) (numbersOf l) in
+      record { all = rw (among-if (c .0) (and-left (among table (c .0)) x h) (c .1)) (listed l (and-right (among table (c .0)) x h) .all) }
 
   pub both : (l m : List ℕ) → Listed table l → Listed table m → Listed table (l ++ m)
   both [] m h k = k
@@ -100,20 +110,27 @@ raised low high (suc c ∷ l) h k =
     let more = follows (suc r) l in
     rw (le-leb low r (omega (arith, leb-true high r (and-left (leb high r) more k)))) (and-right (leb high r) more k)
 
--- one cause more in front
-pub next : (low n : ℕ) (t : Bool) (l : List ℕ) → leb low (rank (suc n)) ≡ true → Follows (suc (rank (suc n))) l → Follows low (suc n if t ∷ l)
-next low n true l h k = record { places = rw h (k .places) }
-next low n false l h k = record { places = raised low (suc (rank (suc n))) l (omega (arith, leb-true low (rank (suc n)) h)) (k .places) }
+-- whichever of the causes hold
+some-follow : (low : ℕ) (l : List (ℕ × Bool)) → follows low (numbersOf l) ≡ true → follows low (causesOf l) ≡ true
+some-follow low [] h = refl
+some-follow low ((zero, t) ∷ l) h = by t (some-follow low l h)
+  where
+    by : (t : Bool) → follows low (causesOf l) ≡ true → follows low (0 if t ∷ causesOf l) ≡ true
+    by true k = k
+    by false k = k
+some-follow low ((suc n, t) ∷ l) h =
+    by t (and-left (leb low (rank (suc n))) _ h) (some-follow (suc (rank (suc n))) l (and-right (leb low (rank (suc n))) _ h))
+  where
+    by : (t : Bool) → leb low (rank (suc n)) ≡ true → follows (suc (rank (suc n))) (causesOf l) ≡ true → follows low (suc n if t ∷ causesOf l) ≡ true
+    by true there k = rw there k
+    by false there k = raised low (suc (rank (suc n))) (causesOf l) (omega (arith, leb-true low (rank (suc n)) there)) k
 
-pub no-more : (low : ℕ) → Follows low []
-no-more low = record { places = refl }
+pub follow : (l : List (ℕ × Bool)) → follows 0 (numbersOf l) ≡ true → Follows 0 (causesOf l)
+follow l h = record { places = some-follow 0 l h }
 
--- the causes of all records together, and l, which is judged later
-pub whole-follows : (b l : List ℕ) → Follows 3 l → Follows 0 (wholeCauses b ++ l)
-whole-follows b l k =
-    next 0 8 (ltb 0 (length (afterChecks (checkCount b) (drop 6 b)))) _ refl
-    (next 1 6 (ltb 8192 (triples (codeOf b))) _ refl
-    (next 2 7 (not (covered (codeOf b))) l refl k))
+-- the causes of all records together
+abbrev pub whole : List ℕ → List (ℕ × Bool)
+whole b = (9, ltb 0 (length (afterChecks (checkCount b) (drop 6 b)))) ∷ (7, ltb mostTriples (triples (codeOf b))) ∷ (8, not (covered (codeOf b))) ∷ []
 
 -- ---- code records
 indices-order : (n d low : ℕ) (s : List ℕ) → judgeIndices n d low s ≡ firstOf (indicesCauses n d low s)
@@ -149,39 +166,30 @@ module _ (more : List ℕ) where
 
   indices-listed : (n d low : ℕ) (s : List ℕ) → Listed table (indicesCauses n d low s)
   unfolding indicesCauses
-  indices-listed n zero low s = nil table
+  indices-listed n zero low s = listed table [] refl
   indices-listed n (suc d) low s =
-      cons table 1 (short 2 s) _ refl
-      (cons table 5 (leb n (twoBytes s)) _ refl
-      (cons table 6 (ltb (twoBytes s) low) _ refl
-      (indices-listed n d (suc (twoBytes s)) (drop 2 s))))
+      both table (indexCauses n low s) _ (listed table ((1, short 2 s) ∷ (5, leb n (twoBytes s)) ∷ (6, ltb (twoBytes s) low) ∷ []) refl)
+      (indices-listed n d (suc (twoBytes s)) (drop 2 s))
 
   checks-listed : (n m : ℕ) (s : List ℕ) → Listed table (checksCauses n m s)
   unfolding checksCauses
-  checks-listed n zero s = nil table
+  checks-listed n zero s = listed table [] refl
   checks-listed n (suc m) s =
       both table (checkCauses n s) (checksCauses n m (afterCheck s))
-      (cons table 1 (short 2 s) _ refl
-      (cons table 2 (not (eqb (twoBytes s) 0x4C43)) _ refl
-      (cons table 1 (short 3 s) _ refl
-      (cons table 4 (outside 3 32 (degree s)) _ refl
-      (indices-listed n (degree s) 0 (drop 3 s))))))
+      (both table (degreeCauses s) _
+      (listed table ((1, short 2 s) ∷ (2, not (eqb (twoBytes s) 0x4C43)) ∷ (1, short 3 s) ∷ (4, outside leastDegree mostDegree (degree s)) ∷ []) refl)
+      (indices-listed n (degree s) 0 (drop 3 s)))
       (checks-listed n m (afterCheck s))
 
   records-listed : (s : List ℕ) → Listed table (recordCauses s)
   unfolding recordCauses
   records-listed s =
       both table (headerCauses s) _
-      (cons table 1 (short 2 s) _ refl
-      (cons table 2 (not (eqb (twoBytes s) 0x4C48)) _ refl
-      (cons table 1 (short 4 s) _ refl
-      (cons table 3 (outside 3 4096 (bitCount s)) _ refl
-      (cons table 1 (short 6 s) _ refl
-      (cons table 3 (outside 1 2048 (checkCount s)) _ refl (nil table)))))))
-      (both table (checksCauses (bitCount s) (checkCount s) (drop 6 s)) _ (checks-listed (bitCount s) (checkCount s) (drop 6 s))
-      (cons table 9 (ltb 0 (length (afterChecks (checkCount s) (drop 6 s)))) _ refl
-      (cons table 7 (ltb 8192 (triples (codeOf s))) _ refl
-      (cons table 8 (not (covered (codeOf s))) _ refl (nil table)))))
+      (listed table
+      ((1, short 2 s) ∷ (2, not (eqb (twoBytes s) 0x4C48))
+      ∷ (1, short 4 s) ∷ (3, outside 3 mostBits (bitCount s))
+      ∷ (1, short 6 s) ∷ (3, outside 1 mostChecks (checkCount s)) ∷ []) refl)
+      (both table (checksCauses (bitCount s) (checkCount s) (drop 6 s)) _ (checks-listed (bitCount s) (checkCount s) (drop 6 s)) (listed table (whole s) refl))
 
   -- an entry that reads records, with the causes l after them
   pub after-records : (b l : List ℕ) (number : ℕ) → Listed table l → number ≡ firstOf (judge b ∷ l) → Ordered (recordCauses b ++ l) table number
@@ -193,12 +201,6 @@ pub records-ordered : (b : List ℕ) → Ordered (recordCauses b) oneToNine (jud
 records-ordered b = ordered (recordCauses b) oneToNine (judge b) (records-listed [] b) (judge-order b)
 
 -- ---- the entries that end with the test of a word, or with a run
--- where no cause of l holds, the number of what follows is one cause more
-pub then-more : (l m : List ℕ) → accepted (firstOf l) (firstOf m) (firstOf l) ≡ firstOf (l ++ m)
-then-more [] m = refl
-then-more (zero ∷ l) m = then-more l m
-then-more (suc c ∷ l) m = refl
-
 number-of : (c : ℕ) (x y : Outcome) → accepted c x y .number ≡ accepted c (x .number) (y .number)
 number-of zero x y = refl
 number-of (suc c) x y = refl
@@ -223,4 +225,4 @@ outcome-order k c = by (ltb (firstUndecided k c) (k .bits))
 -- a word's test after the causes l
 pub word-order : (k : Code) (w l : List ℕ)
     → accepted (firstOf l) (tested k w) (record { number = firstOf l; place = 0 }) .number ≡ firstOf (l ++ oddCauses k w)
-word-order k w l = number-of (firstOf l) (tested k w) (record { number = firstOf l; place = 0 }) ∙ rw (tested-order k w) (then-more l (oddCauses k w))
+word-order k w l = number-of (firstOf l) (tested k w) (record { number = firstOf l; place = 0 }) ∙ rw (tested-order k w) (first-joined l (oddCauses k w))

@@ -36,7 +36,7 @@ use Rattle.model.specs.DecoderClaims.{Refused, Ran, Iterated, Small, Ref
 use Rattle.model.specs.Promises.{ReaderCall, SplitterCall, FrontCall, ReflectorCall, TestCall, ExtensionCall, DecoderCall}
 use Rattle.model.proofs.Causes.{stays, clear, unless, first-in}
 use Rattle.model.proofs.Accepted as Accepted
-use Rattle.model.proofs.Order.{Listed, nil, cons, next, no-more, whole-follows, ordered, refuses, after-records, records-ordered, word-order}
+use Rattle.model.proofs.Order.{Listed, listed, both, whole, follow, ordered, refuses, after-records, records-ordered, word-order}
 use Rattle.model.proofs.RecordClaims.{record-claims}
 use Rattle.model.proofs.WordClaims.{tested-is, test-claims, point-claims, word-bits, bits-pass}
 use Rattle.model.proofs.Points.{point, points}
@@ -53,7 +53,7 @@ unfolding reader
 reader-call b a bytes meets = subst (ReaderCall b) (sym meets) (record {
   equation = refl;
   order = records-ordered b;
-  follows = whole-follows b [] (no-more 3);
+  follows = follow (whole b) refl;
   exactly = (
     λ h. (codeOf b, record-claims .sound b h, sym (record-claims .records-back b bytes h)),
     λ k. subst (λ (s : List ℕ). judge s ≡ 0) (sym (k .2)) (record-claims .accepted (k .0) .1 (k .1)),
@@ -75,8 +75,8 @@ splitter-call b ts cs a meets =
     let none = short (3 * triples (codeOf b)) ts || short (variables (codeOf b)) cs in
     subst (SplitterCall b ts cs) (sym meets) (record {
       equation = refl;
-      order = after-records (10 ∷ []) b _ _ (cons T 10 none [] refl (nil T)) refl;
-      follows = whole-follows b _ (next 3 9 none [] refl (no-more 9));
+      order = after-records (10 ∷ []) b _ _ (listed T ((10, none) ∷ []) refl) refl;
+      follows = follow (whole b ++ ((10, none) ∷ [])) refl;
       refused = λ c h. rw h (refl, refl);
       split = λ h. rw h (refl, refl);
     })
@@ -102,15 +102,11 @@ module _ (setting : Channel) (samples : List Float) (old : List ℤ) (singles : 
   unfolding channelFront
   front-call a meets =
       let T : List ℕ = 10 ∷ 11 ∷ 14 ∷ [] in
+      let causes : List (ℕ × Bool) = (11, not (inRange setting)) ∷ (14, some (λ x. not (finite x)) samples) ∷ (10, short (length samples) old) ∷ [] in
       subst (FrontCall setting samples old) (sym meets) (record {
         equation = refl;
-        order = ordered (frontCauses setting samples old) T _
-            (cons T 11 (not (inRange setting)) _ refl
-            (cons T 14 (some (λ x. not (finite x)) samples) _ refl
-            (cons T 10 (short (length samples) old) [] refl (nil T))))
-            refl;
-        follows = next 0 10 (not (inRange setting)) _ refl
-            (next 4 13 (some (λ x. not (finite x)) samples) _ refl (next 7 9 (short (length samples) old) [] refl (no-more 9)));
+        order = ordered (frontCauses setting samples old) T _ (listed T causes refl) refl;
+        follows = follow causes refl;
         refused = λ c h. rw h;
         filled = filled;
         costed = λ h i l. rw (filled h) (costed h i l);
@@ -122,22 +118,18 @@ pub reflector-call : (costs : List ℤ) (w : List ℕ) (old : List ℤ) (a : Cos
 unfolding reflector
 reflector-call costs w old a meets =
     let T : List ℕ = 10 ∷ 12 ∷ 13 ∷ 15 ∷ [] in
+    let causes : List (ℕ × Bool)
+    = (12, unequal w (length costs)) ∷ (13, some forbidden costs) ∷ (15, some notBinary w) ∷ (10, short (length costs) old) ∷ [] in
     subst (ReflectorCall costs w old) (sym meets) (record {
       equation = refl;
-      order = ordered (reflectorCauses costs w old) T _
-          (cons T 12 (unequal w (length costs)) _ refl
-          (cons T 13 (some forbidden costs) _ refl
-          (cons T 15 (some notBinary w) _ refl
-          (cons T 10 (short (length costs) old) [] refl (nil T)))))
-          refl;
-      follows = next 0 11 (unequal w (length costs)) _ refl
-          (next 5 12 (some forbidden costs) _ refl (next 6 14 (some notBinary w) _ refl (next 8 9 (short (length costs) old) [] refl (no-more 9))));
+      order = ordered (reflectorCauses costs w old) T _ (listed T causes refl) refl;
+      follows = follow causes refl;
       refused = λ c h. rw h;
       reflected = λ h. rw h;
     })
 
 -- ---- the codeword test and the extension: after the causes of the code, of the word and l, the word is tested
-module _ (b w l : List ℕ) (listed : Listed (oneToNine ++ (10 ∷ 12 ∷ 15 ∷ [])) l) where
+module _ (b w l : List ℕ) (known : Listed (oneToNine ++ (10 ∷ 12 ∷ 15 ∷ [])) l) where
   abbrev word-causes : List ℕ
   word-causes = judge b ∷ (wordCauses (codeOf b .bits) w ++ l)
 
@@ -148,7 +140,7 @@ module _ (b w l : List ℕ) (listed : Listed (oneToNine ++ (10 ∷ 12 ∷ 15 ∷
       refuses (recordCauses b ++ (wordCauses (codeOf b .bits) w ++ l)) T c refl
       (subst (Ordered (recordCauses b ++ (wordCauses (codeOf b .bits) w ++ l)) T) e
       (after-records (10 ∷ 12 ∷ 15 ∷ []) b (wordCauses (codeOf b .bits) w ++ l) (firstOf word-causes)
-      (cons T 12 (unequal w (codeOf b .bits)) _ refl (cons T 15 (some notBinary w) _ refl listed)) refl))
+      (both T (wordCauses (codeOf b .bits) w) l (listed T ((12, unequal w (codeOf b .bits)) ∷ (15, some notBinary w) ∷ []) refl) known) refl))
 
   -- where none of the causes holds
   module _ (h : firstOf word-causes ≡ 0) where
@@ -215,13 +207,13 @@ module _ (b w : List ℕ) where
   unfolding codewordTest
   test-call a meets =
       let T = oneToNine ++ (12 ∷ 15 ∷ 17 ∷ []) in
-      let none = nil (oneToNine ++ (10 ∷ 12 ∷ 15 ∷ [])) in
+      let none = listed (oneToNine ++ (10 ∷ 12 ∷ 15 ∷ [])) [] refl in
+      let causes : List (ℕ × Bool) = (12, unequal w (k .bits)) ∷ (15, some notBinary w) ∷ (17, odd-there) ∷ [] in
       subst (TestCall b w) (sym meets) (record {
         equation = refl;
         order = after-records (12 ∷ 15 ∷ 17 ∷ []) b (wordCauses (k .bits) w ++ oddCauses k w) _
-            (cons T 12 (unequal w (k .bits)) _ refl (cons T 15 (some notBinary w) _ refl (cons T 17 odd-there [] refl (nil T))))
-            (word-order k w (judge b ∷ wordCauses (k .bits) w));
-        follows = whole-follows b _ (next 3 11 (unequal w (k .bits)) _ refl (next 5 14 (some notBinary w) _ refl (next 8 16 odd-there [] refl (no-more 11))));
+            (listed T causes refl) (word-order k w (judge b ∷ wordCauses (k .bits) w));
+        follows = follow (whole b ++ causes) refl;
         codeword = (
           λ h. (let x = answer-codeword b w [] none h in (x .0, x .2)),
           λ c. codeword-answer b w [] none (c .0) refl (c .1),
@@ -235,7 +227,7 @@ module _ (b w : List ℕ) where
     no-room = 10 if short (variables k) p ∷ []
 
     room-listed : Listed (oneToNine ++ (10 ∷ 12 ∷ 15 ∷ [])) no-room
-    room-listed = let T = oneToNine ++ (10 ∷ 12 ∷ 15 ∷ []) in cons T 10 (short (variables k) p) [] refl (nil T)
+    room-listed = listed (oneToNine ++ (10 ∷ 12 ∷ 15 ∷ [])) ((10, short (variables k) p) ∷ []) refl
 
     room : firstOf no-room ≡ 0 → variables k ≤ length p
     room e = ltb-false (length p) (variables k) (unless 9 (short (variables k) p) (clear no-room e .0))
@@ -258,19 +250,14 @@ module _ (b w : List ℕ) where
     unfolding extension
     extension-call a meets =
         let T = oneToNine ++ (10 ∷ 12 ∷ 15 ∷ 17 ∷ []) in
+        let causes : List (ℕ × Bool) = (12, unequal w (k .bits)) ∷ (15, some notBinary w) ∷ (10, short (variables k) p) ∷ (17, odd-there) ∷ [] in
         let code : answer b w no-room room-listed .number ≡ 0 → (judge b ≡ 0) × (firstOf no-room ≡ 0) × Codeword k w
         = answer-codeword b w no-room room-listed in
         subst (ExtensionCall b w p) (sym meets) (record {
           equation = refl;
           order = after-records (10 ∷ 12 ∷ 15 ∷ 17 ∷ []) b (extensionCauses k w p ++ oddCauses k w) _
-              (cons T 12 (unequal w (k .bits)) _ refl
-              (cons T 15 (some notBinary w) _ refl
-              (cons T 10 (short (variables k) p) _ refl
-              (cons T 17 odd-there [] refl (nil T)))))
-              (word-order k w (judge b ∷ extensionCauses k w p));
-          follows = whole-follows b _
-              (next 3 11 (unequal w (k .bits)) _ refl
-              (next 5 14 (some notBinary w) _ refl (next 8 9 (short (variables k) p) _ refl (next 9 16 odd-there [] refl (no-more 11)))));
+              (listed T causes refl) (word-order k w (judge b ∷ extensionCauses k w p));
+          follows = follow (whole b ++ causes) refl;
           codeword = (
             λ h. (code h .0, room (code h .1), code h .2),
             λ c. codeword-answer b w no-room room-listed (c .0) (no-cause (c .1)) (c .2),

@@ -8,6 +8,7 @@ use lib.Dec.{leb, ltb, eqb}
 use lib.ListN.{length, getD, drop}
 use Rattle.lists.specs.Tabulated.{tab}
 use Rattle.lists.specs.Entries.{every, some, total}
+use Rattle.model.specs.Limits.{mostBits, mostChecks, leastDegree, mostDegree, mostTriples}
 use Rattle.model.specs.Causes.{_if_, firstOf, short, outside}
 use Rattle.model.specs.Code.{Code, triples}
 
@@ -59,8 +60,8 @@ codeOf s = record { bits = bitCount s; checks = checksIn (checkCount s) (drop 6 
 abbrev pub headerCauses : List ℕ → List ℕ
 headerCauses s =
     1 if short 2 s ∷ 2 if not (eqb (twoBytes s) 0x4C48) ∷
-    1 if short 4 s ∷ 3 if outside 3 4096 (bitCount s) ∷
-    1 if short 6 s ∷ 3 if outside 1 2048 (checkCount s) ∷ []
+    1 if short 4 s ∷ 3 if outside 3 mostBits (bitCount s) ∷
+    1 if short 6 s ∷ 3 if outside 1 mostChecks (checkCount s) ∷ []
 
 unfoldable pub judgeHeader : List ℕ → ℕ
 judgeHeader s = firstOf (headerCauses s)
@@ -78,7 +79,7 @@ judgeIndices n (suc d) low s = firstOf (indexCauses n low s ++ (judgeIndices n d
 abbrev pub degreeCauses : List ℕ → List ℕ
 degreeCauses s =
     1 if short 2 s ∷ 2 if not (eqb (twoBytes s) 0x4C43) ∷
-    1 if short 3 s ∷ 4 if outside 3 32 (degree s) ∷ []
+    1 if short 3 s ∷ 4 if outside leastDegree mostDegree (degree s) ∷ []
 
 unfoldable pub judgeCheck : ℕ → List ℕ → ℕ
 judgeCheck n s = firstOf (degreeCauses s ++ (judgeIndices n (degree s) 0 (drop 3 s) ∷ []))
@@ -95,7 +96,7 @@ covered k = every (λ b. some (some (eqb b)) (k .checks)) (tab (k .bits) (λ b. 
 abbrev pub wholeCauses : List ℕ → List ℕ
 wholeCauses s =
     9 if ltb 0 (length (afterChecks (checkCount s) (drop 6 s))) ∷
-    7 if ltb 8192 (triples (codeOf s)) ∷
+    7 if ltb mostTriples (triples (codeOf s)) ∷
     8 if not (covered (codeOf s)) ∷ []
 
 unfoldable pub judge : List ℕ → ℕ
