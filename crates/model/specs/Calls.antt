@@ -16,7 +16,7 @@ use Rattle.model.specs.declared.Channel as declared
 use Rattle.model.specs.declared.Reading.{Reading}
 use Rattle.model.specs.declared.Verdict.{Verdict}
 use Rattle.model.specs.declared.Decoding.{Decoding}
-use Rattle.model.specs.Limits.{mostIterations}
+use Rattle.model.specs.Limits.{mostWeight, mostRatio, mostIterations}
 use Rattle.model.specs.Causes.{_if_, firstOf, short, outside, accepted}
 use Rattle.model.specs.Code.{Code, triples, variables}
 use Rattle.model.specs.Records.{codeOf, judge}
@@ -31,7 +31,7 @@ use Rattle.model.specs.Channel.{finite, inRange, costOf}
 -- ---- causes 11 to 15
 -- 11, of a run: "cost weight W (1 to 65,535), ratio A (0 to 1,023 …), iterations K (1 to 1,000), tolerance X (any 32-bit unsigned)"
 abbrev pub outOfRange : Settings → Bool
-outOfRange o = outside 1 65535 (o .weight) || (ltb 1023 (o .ratio) || outside 1 mostIterations (o .limit))
+outOfRange o = outside 1 mostWeight (o .weight) || (ltb mostRatio (o .ratio) || outside 1 mostIterations (o .limit))
 
 -- 12: "list lengths that must agree do not"
 abbrev pub unequal : {A : Type 0} → List A → ℕ → Bool

@@ -5,6 +5,7 @@ use lib.Dec.{leb}
 use lib.IntN.{ℤ, pos}
 use lib.Ieee.{Float, nan, inf, fin, binary32, toBits, mul, neg, lt}
 use Rattle.integers.specs.Nearest.{nearest}
+use Rattle.model.specs.Limits.{mostCost}
 use Rattle.model.specs.declared.Channel.{Channel}
 use Rattle.model.specs.declared.Channel.the-variants.{Gaussian, Hard, Erasing}
 use Rattle.model.specs.Causes.{_if_}
@@ -59,7 +60,7 @@ magnitude bits = units (bits % 2 ^ 31 / 2 ^ 23) (bits % 2 ^ 23)
 -- "the nearest whole number, halves away from zero, limited to −32,767..32,767; an infinite product goes to the limit"
 -- (the infinity's bits have the magnitude 2 ^ 277)
 unfoldable pub costOfBits : ℕ → ℤ
-costOfBits bits = negatedIf (1 if leb (2 ^ 31) bits) (pos (min (nearest (magnitude bits) (2 ^ 149)) 32767))
+costOfBits bits = negatedIf (1 if leb (2 ^ 31) bits) (pos (min (nearest (magnitude bits) (2 ^ 149)) mostCost))
 
 unfoldable pub costOf : Channel → Float → ℤ
 costOf setting x = costOfBits (toBits binary32 (product setting x))

@@ -8,6 +8,7 @@ use lib.IntN.{ℤ, pos, negℤ}
 use lib.Ieee.{Float, nan, inf, fin, binary32, up, down, neg, fits, isNan}
 use Rattle.integers.specs.Nearest.{Nearest}
 use Rattle.lists.specs.Entries.{every}
+use Rattle.model.specs.Limits.{mostCost}
 use Rattle.model.specs.declared.Channel.{Channel}
 use Rattle.model.specs.declared.Channel.the-variants.{Gaussian, Hard, Erasing}
 use Rattle.model.specs.Causes.{_if_}
@@ -24,13 +25,13 @@ ofSingles (Erasing e) = fits binary32 (e .floor) && fits binary32 (e .weight)
 pub record NearestLimited (s : Bool) (n d : ℕ) (z : ℤ) : Type 0 where
   pub size : ℕ
   pub nearest : Nearest n d size
-  pub limited : z ≡ negatedIf (1 if s) (pos (min size 32767))
+  pub limited : z ≡ negatedIf (1 if s) (pos (min size mostCost))
 
 -- z is the cost of a product: "The cost is the nearest whole number, halves away from zero, limited to −32,767..32,767; an infinite product goes to the
 -- limit." A product is no NaN; fin s m e is ± m × 2 ^ e, and 2 ^ e is the fraction up e / down e.
 abbrev pub Costed : Float → ℤ → Type 0
 Costed nan z = ⊥
-Costed (inf s) z = z ≡ negatedIf (1 if s) (pos 32767)
+Costed (inf s) z = z ≡ negatedIf (1 if s) (pos mostCost)
 Costed (fin s m e) z = NearestLimited s (m * up e) (down e) z
 
 pub record ChannelClaims : Type 0 where

@@ -8,6 +8,7 @@ use lib.IntN.{ℤ, natAbs}
 use lib.ListN.{getD, take}
 use Rattle.lists.specs.Tabulated.{written}
 use Rattle.quotient.specs.Quotient.{unit, quotient}
+use Rattle.model.specs.Limits.{mostCost}
 use Rattle.model.specs.declared.Settings.{Settings}
 use Rattle.model.specs.Code.{triples, variables}
 use Rattle.model.specs.Records.{codeOf, recordCauses}
@@ -100,7 +101,7 @@ pub record Published (b : List ℕ) (o : Settings) (costs : List ℤ) : Type 0 w
 
 -- costs that are 16-bit numbers and not −32,768, as those of every accepted call are
 abbrev pub Small : List ℤ → Type 0
-Small costs = (v : ℕ) → natAbs (at costs v) ≤ 32767
+Small costs = (v : ℕ) → natAbs (at costs v) ≤ mostCost
 
 -- ---- demand 3, of two calls: d with the costs, e with the costs that the codeword w reflects, in lists m of its own
 pub record ReflectedCalls (b : List ℕ) (o : Settings) (costs : List ℤ) (w : List ℕ) (m : Lists) (d e : Decoded) : Type 0 where

@@ -7,6 +7,7 @@ use mathlib.Core.Logic.{_↔_}
 use Prim.Native.Nat.{ℕ, suc, _<_}
 use lib.Dec.{leb, ltb}
 use lib.ListN.{length, getD}
+use Rattle.model.specs.Limits.{mostBits, mostChecks, mostTriples}
 use Rattle.model.specs.Causes.{_if_, firstOf, outside}
 use Rattle.model.specs.Code.{Code, triples}
 use Rattle.model.specs.Records.{codeOf, covered, judge, recordCauses, recordsOf, recordsSize}
@@ -31,8 +32,8 @@ checksCause n (c ∷ cs) = firstOf (checkCause n c ∷ checksCause n cs ∷ [])
 
 abbrev pub codeCauses : Code → List ℕ
 codeCauses k =
-    3 if outside 3 4096 (k .bits) ∷ 3 if outside 1 2048 (length (k .checks)) ∷
-    checksCause (k .bits) (k .checks) ∷ 7 if ltb 8192 (triples k) ∷ 8 if not (covered k) ∷ []
+    3 if outside 3 mostBits (k .bits) ∷ 3 if outside 1 mostChecks (length (k .checks)) ∷
+    checksCause (k .bits) (k .checks) ∷ 7 if ltb mostTriples (triples k) ∷ 8 if not (covered k) ∷ []
 
 unfoldable pub judgeCode : Code → ℕ
 judgeCode k = firstOf (codeCauses k)

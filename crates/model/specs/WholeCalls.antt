@@ -8,6 +8,7 @@ use Prim.Native.Nat.{ℕ, suc, _≤_}
 use lib.Ieee.{Float, nan, inf, fin}
 use lib.IntN.{ℤ, pos}
 use Rattle.lists.specs.Tabulated.{written}
+use Rattle.model.specs.Limits.{mostWeight, mostRatio}
 use Rattle.model.specs.declared.Settings.{Settings}
 use Rattle.model.specs.declared.Channel.the-variants.{Gaussian, Hard, Erasing}
 use Rattle.model.specs.Channel.{scaleInRange, floorInRange, inRange}
@@ -54,8 +55,8 @@ pub record WholeCalls : Type 0 where
 
 -- "cost weight W (1 to 65,535), ratio A (0 to 1,023 …), iterations K (1 to 1,000), tolerance X (any 32-bit unsigned)"
 pub record InRange (o : Settings) : Type 0 where
-  pub weight : (1 ≤ o .weight) × (o .weight ≤ 65535)
-  pub ratio : o .ratio ≤ 1023
+  pub weight : (1 ≤ o .weight) × (o .weight ≤ mostWeight)
+  pub ratio : o .ratio ≤ mostRatio
   pub limit : (1 ≤ o .limit) × (o .limit ≤ 1000)
 
 pub record RunEdges : Type 0 where

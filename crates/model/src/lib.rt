@@ -1,5 +1,25 @@
-// What callers hand over and what they are told. The meaning of each, and every definition that a contract cites, stands in specs/.
-// No functions.
+// What callers hand over and what they are told, and the limits of document 01. The meaning of each, and every definition that a contract cites, stands
+// in specs/. No functions.
+
+// ---- the limits, which specs/Limits.antt has under the same names
+
+pub const MOST_BITS: usize = 4096;
+
+pub const MOST_CHECKS: usize = 2048;
+
+pub const LEAST_DEGREE: usize = 3;
+
+pub const MOST_DEGREE: usize = 32;
+
+pub const MOST_TRIPLES: usize = 8192;
+
+pub const MOST_WEIGHT: u32 = 65535;
+
+pub const MOST_RATIO: u32 = 1023;
+
+pub const MOST_ITERATIONS: u32 = 1000;
+
+// ---- what is handed over and told
 
 // The settings of a run: cost weight W, ratio A, iterations K and tolerance X of document 01.
 pub struct Settings {

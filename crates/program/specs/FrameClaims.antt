@@ -11,7 +11,7 @@ use Rattle.model.specs.declared.Settings.{Settings}
 use Rattle.model.specs.Code.{Code, triples}
 use Rattle.model.specs.Records.{bitCount, checkCount, afterChecks, codeOf, judge}
 use Rattle.model.specs.Calls.{Lists, HasRoom, decoderCause, decoder}
-use Rattle.program.specs.Frames.{judgeHeldHeader, judgeHeldCheck, judgeHeldChecks, judgeSettings, costsOf, judgeFrame, refusal, line, frameLine}
+use Rattle.program.specs.Frames.{heldBits, heldTriples, judgeHeldHeader, judgeHeldCheck, judgeHeldChecks, judgeSettings, costsOf, judgeFrame, refusal, line, frameLine}
 
 -- ---- the bytes kept, which the input begins with
 
@@ -21,7 +21,7 @@ pub record Begun (left t : ℕ) (b : List ℕ) : Type 0 where
   pub header : judgeHeldHeader b ≡ 0
   pub checks : (s : List ℕ) → judgeHeldChecks (bitCount b) 0 (checkCount b) (drop 6 (b ++ s)) ≡ judgeHeldChecks (bitCount b) t left s
   pub after : (s : List ℕ) → afterChecks (checkCount b) (drop 6 (b ++ s)) ≡ afterChecks left s
-  pub few : t ≤ 1024
+  pub few : t ≤ heldTriples
   pub size : length b ≤ 6 + 9 * t
 
 -- the mark and the degree of a check, t triples being held: both are sound, and the only cause is that the record ends there
@@ -57,12 +57,12 @@ goesOn n b = not (eqb (length b) 0) && (eqb (judgeFrame n b) 0 || eqb (judgeFram
 -- a code, accepted, that the program has room for
 pub record HeldCode (b : List ℕ) : Type 0 where
   pub sound : judge b ≡ 0
-  pub bits : codeOf b .bits ≤ 512
-  pub triples : triples (codeOf b) ≤ 1024
+  pub bits : codeOf b .bits ≤ heldBits
+  pub triples : triples (codeOf b) ≤ heldTriples
 
 -- what the lists that are lent to the decoder hold at least: 1,024 triples and 512 bits need no more
 abbrev pub Room : Lists → Type 0
-Room l = HasRoom 1024 1536 512 l
+Room l = HasRoom heldTriples (heldBits + heldTriples) heldBits l
 
 -- of an accepted code b, accepted settings and a sound frame: the decoder refuses nothing, so that the frame's line, from its answer and the first n entries
 -- of the word list, whatever stood there, is the definition's

@@ -8,7 +8,7 @@ use lib.ListN.{length, drop}
 use Rattle.lists.specs.Entries.{some}
 use Rattle.quotient.specs.Quotient.{quotient}
 use Rattle.model.specs.declared.Settings.{Settings}
-use Rattle.model.specs.Limits.{mostIterations}
+use Rattle.model.specs.Limits.{mostWeight, mostRatio, mostIterations}
 use Rattle.model.specs.Causes.{_if_, firstOf, short, outside, accepted}
 use Rattle.model.specs.Code.{Code, tripleCount}
 use Rattle.model.specs.Records.{twoBytes, numbers, bitCount, checkCount, indices, afterCheck, afterChecks, codeOf, judgeHeader, judgeCheck, covered}
@@ -18,12 +18,18 @@ use Rattle.model.specs.Calls.{forbidden, Lists, Answer, decodedBy}
 
 -- ---- code records: "It holds 1,024 triples and 512 bits: a sound header with more bits, or the sound check that brings more triples,
 -- gets R 10 right there."
+abbrev pub heldBits : ℕ
+heldBits = 512
+
+abbrev pub heldTriples : ℕ
+heldTriples = 1024
+
 unfoldable pub judgeHeldHeader : List ℕ → ℕ
-judgeHeldHeader s = firstOf (judgeHeader s ∷ 10 if ltb 512 (bitCount s) ∷ [])
+judgeHeldHeader s = firstOf (judgeHeader s ∷ 10 if ltb heldBits (bitCount s) ∷ [])
 
 -- of the check record that s begins with, t triples being held
 unfoldable pub judgeHeldCheck : ℕ → ℕ → List ℕ → ℕ
-judgeHeldCheck n t s = firstOf (judgeCheck n s ∷ 10 if ltb 1024 (t + tripleCount (indices s)) ∷ [])
+judgeHeldCheck n t s = firstOf (judgeCheck n s ∷ 10 if ltb heldTriples (t + tripleCount (indices s)) ∷ [])
 
 unfoldable pub judgeHeldChecks : ℕ → ℕ → ℕ → List ℕ → ℕ
 judgeHeldChecks n t zero s = 0
@@ -41,8 +47,8 @@ unfoldable pub judgeSettings : List ℕ → ℕ
 judgeSettings s =
     firstOf (
     1 if short 2 s ∷ 2 if not (eqb (twoBytes s) 0x4C53) ∷
-    1 if short 4 s ∷ 11 if outside 1 65535 (twoBytes (drop 2 s)) ∷
-    1 if short 6 s ∷ 11 if ltb 1023 (twoBytes (drop 4 s)) ∷
+    1 if short 4 s ∷ 11 if outside 1 mostWeight (twoBytes (drop 2 s)) ∷
+    1 if short 6 s ∷ 11 if ltb mostRatio (twoBytes (drop 4 s)) ∷
     1 if short 8 s ∷ 11 if outside 1 mostIterations (twoBytes (drop 6 s)) ∷
     1 if short 12 s ∷ [])
 
