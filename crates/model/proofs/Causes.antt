@@ -2,11 +2,15 @@
 use mathlib.Core.Path.{_≡_, refl, subst}
 use mathlib.Core.Bool.{Bool, true, false, _||_}
 use mathlib.Core.List.{List, [], _∷_, _++_}
+use mathlib.Core.Logic.{_↔_}
 use Prim.Native.Nat.{ℕ, zero, suc, _≤_}
 use native.Mathlib.Omega.{arith}
 use lib.Dec.{T, ltb}
 use borrow.Author.Tests.{ltb-false, le-ltb}
+use Rattle.model.specs.declared.Settings.{Settings}
+use Rattle.model.specs.Limits.{mostWeight, mostRatio, mostIterations}
 use Rattle.model.specs.Causes.{_if_, firstOf, outside, accepted}
+use Rattle.model.specs.Calls.{InRange, outOfRange}
 
 -- the last cause decides alone
 pub only : (c : ℕ) → firstOf (c ∷ []) ≡ c
@@ -59,3 +63,18 @@ within low high x h = let e = or-false (ltb x low) (ltb high x) h in (ltb-false 
 
 pub inside : (low high x : ℕ) → low ≤ x → x ≤ high → outside low high x ≡ false
 inside low high x h k = rw (le-ltb x low h, le-ltb high x k)
+
+-- the settings that are accepted
+pub in-range : (o : Settings) → (outOfRange o ≡ false) ↔ InRange o
+in-range o = (
+  λ h.
+      let a = or-false (outside 1 mostWeight (o .weight)) _ h in
+      let b = or-false (ltb mostRatio (o .ratio)) _ (a .1) in
+      record { weight = within 1 mostWeight (o .weight) (a .0); ratio = ltb-false mostRatio (o .ratio) (b .0); limit = within 1 mostIterations (o .limit) (b .1) },
+  λ r.
+      rw (
+        inside 1 mostWeight (o .weight) (r .weight .0) (r .weight .1),
+        le-ltb mostRatio (o .ratio) (r .ratio),
+        inside 1 mostIterations (o .limit) (r .limit .0) (r .limit .1),
+      ),
+)

@@ -4,15 +4,14 @@ use mathlib.Core.List.{List}
 use mathlib.Core.Path.{_≡_, refl, sym, ap, ap₂, _∙_, subst}
 use Prim.Native.Nat.{ℕ, zero, suc, _*_, _≤_, _<_}
 use native.Mathlib.Omega.{arith}
-use lib.Dec.{leb, ltb}
+use lib.Dec.{leb}
 use lib.IntN.{ℤ, pos, natAbs}
 use lib.ListN.{length, length-replicate}
 use Rattle.lists.specs.Tabulated.{written}
 use Rattle.lists.proofs.Tabulated.{length-tab, written-in}
 use Rattle.quotient.specs.Quotient.{unit, quotient}
-use Rattle.model.specs.Limits.{mostIterations}
 use Rattle.model.specs.declared.Settings.{Settings}
-use Rattle.model.specs.Causes.{_if_, outside}
+use Rattle.model.specs.Causes.{_if_}
 use Rattle.model.specs.Code.{triples, variables}
 use Rattle.model.specs.Records.{codeOf}
 use Rattle.model.specs.Splitting.{System, systemOf}
@@ -21,7 +20,7 @@ use Rattle.model.specs.Run.{changes, settledBy, stop, start, Ended, afte
 use Rattle.model.specs.Calls.{outOfRange, Lists, decoderCause, decodedBy, decoder}
 use Rattle.model.specs.Bounds.{RowsWithin}
 use Rattle.model.specs.DecoderClaims.{runOf, iterateOf, Course, Iterated}
-use Rattle.model.proofs.Causes.{unless, or-false, within}
+use Rattle.model.proofs.Causes.{in-range, unless}
 use Rattle.model.proofs.Runs.{stops, goes-on}
 use Rattle.model.proofs.Bounds.{rows-after, values-after}
 use Rattle.model.proofs.DecoderCalls.{clear-causes, ran-is}
@@ -144,10 +143,7 @@ module _ (b : List ℕ) (o : Settings) (costs : List ℤ) (l : Lists) (h : decod
   -- K is at least 1, so there is an iteration
   some-step : 1 ≤ path .steps
   some-step =
-      let c = clear-causes b o costs l h in
-      let t = or-false (outside 1 65535 (o .weight)) _ (unless 10 (outOfRange o) (c .1 .0)) in
-      let u = or-false (ltb 1023 (o .ratio)) _ (t .1) in
-      by (path .steps) (path .none) (path .early) (within 1 mostIterations (o .limit) (u .1) .0)
+      by (path .steps) (path .none) (path .early) (in-range o .0 (unless 10 (outOfRange o) (clear-causes b o costs l h .1 .0)) .limit .0)
     where
       by : (n : ℕ) {s : ℕ} → (n ≡ 0 → s ≡ 0) → (n < o .limit → 1 ≤ s) → 1 ≤ o .limit → 1 ≤ n
       by zero none early l = absurd (omega (arith, none refl, early (omega arith)))

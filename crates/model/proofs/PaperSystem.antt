@@ -6,10 +6,10 @@ use mathlib.Core.List.{List}
 use Prim.Native.Nat.{ℕ, zero, suc, _+_, _*_, _/_, _≤_, _<_, min}
 use native.Mathlib.Decide.{decLt}
 use native.Mathlib.Omega.{arith}
-use lib.Dec.{leb, ltb, eqb}
+use lib.Dec.{leb, eqb}
 use lib.IntN.{ℤ, pos, negsuc, negℤ, natAbs, _+ℤ_, _-ℤ_, _*ℤ_}
 use lib.Signed.{_≤ℤ_, _<ℤ_}
-use borrow.Author.Tests.{ltb-false, leb-true, le-leb, eq-eqb, ne-eqb}
+use borrow.Author.Tests.{leb-true, le-leb, eq-eqb, ne-eqb}
 use Rattle.integers.specs.Parts.{up, dn}
 use Rattle.integers.specs.Sum.{sumℤ}
 use Rattle.integers.specs.Nearest.{nearest}
@@ -18,7 +18,7 @@ use Rattle.integers.proofs.Sums.{sumℕ-same, sumℤ-same, sumℤ-add}
 use Rattle.quotient.specs.Quotient.{unit, quotient, Rounded}
 use Rattle.quotient.specs.Quotient.Laws.{quotient-odd, quotient-is, rounded-by}
 use Rattle.model.specs.declared.Settings.{Settings}
-use Rattle.model.specs.Causes.{_if_, outside}
+use Rattle.model.specs.Causes.{_if_}
 use Rattle.model.specs.Code.{variables}
 use Rattle.model.specs.Records.{codeOf, judge}
 use Rattle.model.specs.Splitting.{System, systemOf, member}
@@ -32,7 +32,7 @@ use Rattle.model.specs.DecoderClaims.{iterateOf, Published}
 use Rattle.model.proofs.Accepted.{accepted}
 use Rattle.model.proofs.TripleRule.{member-below, occurs-some}
 use Rattle.model.proofs.Bounds.{divisor-above}
-use Rattle.model.proofs.Causes.{or-false}
+use Rattle.model.proofs.Causes.{in-range}
 use Rattle.model.specs.Calls.{outOfRange}
 use Rattle.model.proofs.Rows.{none}
 use Rattle.model.proofs.Paper.{right-is, paper}
@@ -278,10 +278,9 @@ module _ (b : List ℕ) (judged : judge b ≡ 0) (o : Settings) (costs : List �
   accepted-projection : outOfRange o ≡ false → (a : State) (v : ℕ) → v < variables (codeOf b) → Projection (systemOf (codeOf b)) o costs a v
   unfolding systemOf
   accepted-projection w a v l =
-      let t = or-false (outside 1 65535 (o .weight)) _ w in
       projection (systemOf (codeOf b)) o costs a v l
       (divisor-above (occurrences (systemOf (codeOf b) .members) (systemOf (codeOf b) .triples) v) (o .ratio) (occurs-some (codeOf b) (accepted b judged) v l)
-      (ltb-false 1023 (o .ratio) (or-false (ltb 1023 (o .ratio)) _ (t .1) .0)))
+      (in-range o .0 w .ratio))
 
   pub published : outOfRange o ≡ false → Published b o costs
   published w = record {

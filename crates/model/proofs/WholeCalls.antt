@@ -1,7 +1,6 @@
 -- The listed frames as whole calls, at the real quotient. Assumes nothing.
 use mathlib.Core.Path.{_≡_, refl, fun-ext}
 use mathlib.Core.Bool.{Bool, true, false}
-use mathlib.Core.Logic.{_↔_}
 use mathlib.Core.List.{List, [], _∷_}
 use Prim.Native.Nat.{ℕ, suc, _*_}
 use native.Mathlib.Omega.{arith}
@@ -11,23 +10,21 @@ use lib.ListN.{length}
 use lib.Ieee.{inf, fin, up, lt}
 use lib.Ieee.Fits.{up-pos}
 use native.Mathlib.Nat.{mul-pos, zero-lt-suc}
-use borrow.Author.Tests.{ltb-false, le-ltb, lt-ltb}
+use borrow.Author.Tests.{le-ltb, lt-ltb}
 use Rattle.lists.specs.Entries.{some}
 use Rattle.quotient.specs.Quotient.{quotient}
-use Rattle.model.specs.declared.Settings.{Settings}
-use Rattle.model.specs.Causes.{outside}
 use Rattle.model.specs.Code.{triples}
 use Rattle.model.specs.Records.{twoBytes, numbers, checksIn, afterChecks, codeOf, judgeHeader, judgeIndices, judgeCheck, judgeChecks, covered, judge}
 use Rattle.model.specs.Splitting.{queue, triplesFrom, systemOf}
 use Rattle.model.specs.Iteration.{sign, rowSum, share, sumOf, occurrences, sumsOf, countsOf, valuesOf, rowsOf, iterate}
 use Rattle.model.specs.Run.{changes, settledBy, start, after, runFrom, run}
 use Rattle.model.specs.Words.{wordOf, firstUndecided, firstOdd, tested, outcome}
-use Rattle.model.specs.Calls.{outOfRange, unequal, forbidden, Lists, Decoded, noRoom, decoderCause, decodedBy, decoder, reader}
+use Rattle.model.specs.Calls.{unequal, forbidden, Lists, Decoded, noRoom, decoderCause, decodedBy, decoder, reader}
 use Rattle.model.specs.Table.{settings, by-hand}
-use Rattle.model.specs.WholeCalls.{listed, Room, WholeCalls, InRange, RunEdges, ChannelEdges}
+use Rattle.model.specs.WholeCalls.{listed, Room, WholeCalls, RunEdges, ChannelEdges}
 use Rattle.model.specs.Channel.{scaleInRange, floorInRange, inRange}
 use Rattle.model.proofs.Floats.{above-zero, below-zero}
-use Rattle.model.proofs.Causes.{or-false, within, inside}
+use Rattle.model.proofs.Causes.{in-range}
 use Rattle.model.proofs.Worked.{computes, quotient-computes}
 
 room : (l : Lists) → Room l → noRoom (codeOf listed) l ≡ false
@@ -62,15 +59,6 @@ whole-calls = record {
 }
 
 -- ---- settings
-in-range : (o : Settings) → (outOfRange o ≡ false) ↔ InRange o
-in-range o = (
-  λ h.
-      let a = or-false (outside 1 65535 (o .weight)) _ h in
-      let b = or-false (ltb 1023 (o .ratio)) _ (a .1) in
-      record { weight = within 1 65535 (o .weight) (a .0); ratio = ltb-false 1023 (o .ratio) (b .0); limit = within 1 1000 (o .limit) (b .1) },
-  λ r. rw (inside 1 65535 (o .weight) (r .weight .0) (r .weight .1), le-ltb 1023 (o .ratio) (r .ratio), inside 1 1000 (o .limit) (r .limit .0) (r .limit .1)),
-)
-
 pub run-edges : RunEdges
 run-edges = record {
   exactly = in-range;

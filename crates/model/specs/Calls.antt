@@ -29,7 +29,13 @@ use Rattle.model.specs.Reflection.{reflect}
 use Rattle.model.specs.Channel.{finite, inRange, costOf}
 
 -- ---- causes 11 to 15
--- 11, of a run: "cost weight W (1 to 65,535), ratio A (0 to 1,023 …), iterations K (1 to 1,000), tolerance X (any 32-bit unsigned)"
+-- "cost weight W (1 to 65,535), ratio A (0 to 1,023 …), iterations K (1 to 1,000), tolerance X (any 32-bit unsigned)"
+pub record InRange (o : Settings) : Type 0 where
+  pub weight : (1 ≤ o .weight) × (o .weight ≤ mostWeight)
+  pub ratio : o .ratio ≤ mostRatio
+  pub limit : (1 ≤ o .limit) × (o .limit ≤ mostIterations)
+
+-- 11, of a run
 abbrev pub outOfRange : Settings → Bool
 outOfRange o = outside 1 mostWeight (o .weight) || (ltb mostRatio (o .ratio) || outside 1 mostIterations (o .limit))
 

@@ -4,15 +4,14 @@ use mathlib.Core.Path.{_≡_}
 use mathlib.Core.Bool.{Bool, true, false, _&&_}
 use mathlib.Core.Logic.{_↔_}
 use mathlib.Core.List.{List, [], _∷_}
-use Prim.Native.Nat.{ℕ, suc, _≤_}
+use Prim.Native.Nat.{ℕ, suc}
 use lib.Ieee.{Float, nan, inf, fin}
 use lib.IntN.{ℤ, pos}
 use Rattle.lists.specs.Tabulated.{written}
-use Rattle.model.specs.Limits.{mostWeight, mostRatio}
 use Rattle.model.specs.declared.Settings.{Settings}
 use Rattle.model.specs.declared.Channel.the-variants.{Gaussian, Hard, Erasing}
 use Rattle.model.specs.Channel.{scaleInRange, floorInRange, inRange}
-use Rattle.model.specs.Calls.{outOfRange, Lists, HasRoom, decoder, reader}
+use Rattle.model.specs.Calls.{InRange, outOfRange, Lists, HasRoom, decoder, reader}
 use Rattle.model.specs.Table.{−_, settings, by-hand}
 
 -- "Code n = 3 with check (0,1,2)": its records
@@ -52,12 +51,6 @@ pub record WholeCalls : Type 0 where
     lists = leaves l (pos 20000 ∷ pos 20000 ∷ pos 20000 ∷ []) ((− 10000) ∷ (− 10000) ∷ (− 10000) ∷ [])
         ((− 6384) ∷ (− 6384) ∷ (− 6384) ∷ (− 46384) ∷ []) (written (0 ∷ 0 ∷ 0 ∷ []) (l .word));
   }
-
--- "cost weight W (1 to 65,535), ratio A (0 to 1,023 …), iterations K (1 to 1,000), tolerance X (any 32-bit unsigned)"
-pub record InRange (o : Settings) : Type 0 where
-  pub weight : (1 ≤ o .weight) × (o .weight ≤ mostWeight)
-  pub ratio : o .ratio ≤ mostRatio
-  pub limit : (1 ≤ o .limit) × (o .limit ≤ 1000)
 
 pub record RunEdges : Type 0 where
   pub exactly : (o : Settings) → (outOfRange o ≡ false) ↔ InRange o
