@@ -1,60 +1,26 @@
 -- What the bytes of a frame lead to. Assumes nothing.
-use mathlib.Core.Path.{_≡_, refl, sym, ap, subst, _∙_}
+use mathlib.Core.Path.{_≡_, sym, ap, subst, _∙_}
 use mathlib.Core.Bool.{true, false, cond}
 use mathlib.Core.List.{List, [], _++_, append-assoc}
 use Prim.Native.Nat.{ℕ, _+_, _-_, _≤_}
 use native.Mathlib.Omega.{arith}
-use lib.Dec.{eqb}
-use lib.IntN.{ℤ}
 use lib.ListN.{length, take, drop, length-drop, take-append-drop}
 use lib.Seq.{length-take-le, take-take}
-use borrow.Author.Tests.{eq-eqb, ne-eqb}
-use Rattle.lists.specs.Entries.{some}
-use Rattle.model.specs.declared.Settings as Model
-use Rattle.model.specs.Code.{Code}
 use Rattle.model.specs.Records.{bitCount, codeOf}
-use Rattle.model.specs.Calls.{outOfRange, forbidden, Lists, Answer, decoder}
-use Rattle.program.specs.Frames.{settingsOf, frameSize, costsOf, judgeFrame, refusal, line, frameLine, frames}
-use Rattle.program.specs.FrameClaims.{Coded, Set, HeldCode, Room, frameText, goesOn}
-use Rattle.model.proofs.Accepted.{bytes-sound}
+use Rattle.model.specs.Calls.{outOfRange}
+use Rattle.program.specs.Frames.{settingsOf, frameSize, frames}
+use Rattle.program.specs.FrameClaims.{Coded, Set, HeldCode, frameText, goesOn}
 use Rattle.program.proofs.Frames.{settings-sound}
 use Rattle.program.proofs.FrameBytes.{two-take, drop-within}
 use Rattle.program.proofs.FrameCode.{code-held}
-use Rattle.program.proofs.FrameLines.{held-frame}
 use Rattle.program.proofs.FrameProgram.{frame-after-frame, cut-ends}
+use Rattle.answers.proofs.Answers.{bits-of, code-long}
 use Rattle.session.specs.declared.State.{State}
 use Rattle.session.specs.declared.Part.the-variants.{Frame}
 use Rattle.session.specs.Session.{over, isOver, AtFrame, Due, Asked, Told}
 use Rattle.session.proofs.Steps.{over-held}
 use Rattle.session.proofs.Records.{counted}
 
--- ---- the call of the decoder
-pub answered : (b : List ℕ) (o : Model.Settings) (costs : List ℤ) (before after : Lists) (a : Answer)
-    → HeldCode b → outOfRange o ≡ false → length costs ≡ codeOf b .bits → some forbidden costs ≡ false → Room before
-    → record { answer = a; lists = after } ≡ decoder b o costs before → line a (take (length costs) (after .word)) ≡ frameLine (codeOf b) o costs
-answered b o costs before after a held within fits allowed room e =
-    rw fits (ap (λ d. line (d .answer) (take (codeOf b .bits) (d .lists .word))) e ∙ held-frame b o costs before held within fits allowed room .prints)
-
--- ---- what is written, and whether the program goes on
-module _ (k : Code) (o : Model.Settings) (b : List ℕ) where
-  pub none : length b ≡ 0 → ([] ≡ frameText k o b) × (false ≡ goesOn (k .bits) b)
-  none h = let e = eq-eqb (length b) 0 h in (rw e, rw e)
-
-  module _ (h : length b ≡ 0 → ⊥) (c : ℕ) (e : c ≡ judgeFrame (k .bits) b) where
-    pub frame-refused : (c ≡ 0 → ⊥) → (refusal c ≡ frameText k o b) × (eqb c 13 ≡ goesOn (k .bits) b)
-    frame-refused z = let x = ne-eqb (length b) 0 h in let y = ne-eqb c 0 z in (rw (x, ← e, y), rw (x, ← e, y))
-
-    pub frame-sound : c ≡ 0 → (frameLine k o (costsOf (k .bits) b) ≡ frameText k o b) × (true ≡ goesOn (k .bits) b)
-    frame-sound z = let x = ne-eqb (length b) 0 h in let y = eq-eqb c 0 z in (rw (x, ← e, y), rw (x, ← e, y))
-
-pub bits-of : (b : List ℕ) → codeOf b .bits ≡ bitCount b
-unfolding codeOf
-bits-of b = refl
-
-pub code-long : (b : List ℕ) → HeldCode b → 6 ≤ length b
-code-long b h = bytes-sound b (h .sound) .header .room
-
--- ---- the state
 module _ (buffer : List ℕ) (long : length buffer ≡ 10260) (st : State) (came : ℕ) (a : Asked st came buffer) (p : st .part ≡ Frame) where
   -- the bytes that are kept: the code and the settings record; those that came
   abbrev b : List ℕ

@@ -5,18 +5,6 @@ use Rattle.model.specs.Calls.{decodingTold}
 use Rattle.c_api.proofs.decode_answer.Statement.{statement}
 use Rattle.c_api.proofs.decode_answer.Tie as tie
 
-enum-known-decoding : tie.Need-enum-known-decoding
-enum-known-decoding c = search needs
-
-enum-known-decoding-2 : tie.Need-enum-known-decoding-2
-enum-known-decoding-2 c = search needs
-
-enum-known-decoding-3 : tie.Need-enum-known-decoding-3
-enum-known-decoding-3 c = search needs
-
-enum-known-decoding-4 : tie.Need-enum-known-decoding-4
-enum-known-decoding-4 c = search needs
-
 returns : tie.Need-returns
 returns c = ap decodingTold (sym (c .before .decoding .given .1))
 
@@ -31,13 +19,4 @@ returns-4 c = ap decodingTold (sym (c .before .decoding4 .given .1))
 
 pub decode-answer-spec : {M : Type 1} → statement M
 decode-answer-spec =
-    tie.close
-    (tie.spec
-    enum-known-decoding
-    enum-known-decoding-2
-    enum-known-decoding-3
-    enum-known-decoding-4
-    returns
-    returns-2
-    returns-3
-    returns-4)
+    tie.close (tie.spec (λ c. search needs) (λ c. search needs) (λ c. search needs) (λ c. search needs) returns returns-2 returns-3 returns-4)

@@ -8,12 +8,6 @@ use Rattle.c_api.proofs.word_answer.Tie as tie
 enum-told : tie.Need-enum-told
 enum-told c = search needs
 
-enum-known-verdict : tie.Need-enum-known-verdict
-enum-known-verdict c = search needs
-
-enum-known-verdict-2 : tie.Need-enum-known-verdict-2
-enum-known-verdict-2 c = search needs
-
 returns : tie.Need-returns
 returns c = ap verdictTold (sym (c .enum-told .given .1))
 
@@ -25,5 +19,4 @@ returns-3 c = ap verdictTold (sym (c .before .verdict2 .given .1))
 
 pub word-answer-spec : {M : Type 1} → statement M
 word-answer-spec =
-    tie.close
-    (tie.spec enum-told enum-known-verdict enum-known-verdict-2 returns returns-2 returns-3)
+    tie.close (tie.spec enum-told (λ c. search needs) (λ c. search needs) returns returns-2 returns-3)

@@ -73,26 +73,11 @@ cost-requires-2 c κs = rw (weight-number (c .before .before) .1) tt
 loop-holds : tie.Need-loop-holds Inv-loop μ-loop
 loop-holds c = (omega arith, refl)
 
-mul-selected : tie.Need-mul-selected Inv-loop μ-loop
-mul-selected c = search needs
-
-shared-slice-read-selected : tie.Need-shared-slice-read-selected Inv-loop μ-loop
-shared-slice-read-selected c = search needs
-
 selected-requires : tie.Need-selected-requires Inv-loop μ-loop
 selected-requires c κs = tt
 
-mul-t15 : tie.Need-mul-t15 Inv-loop μ-loop
-mul-t15 c = search needs
-
 slice-set-from-costs : tie.Need-slice-set-from-costs Inv-loop μ-loop
 slice-set-from-costs c = omega (arith, long (c .before .before .before))
-
-add-i : tie.Need-add-i Inv-loop μ-loop
-add-i c = search needs
-
-loop-less : tie.Need-loop-less Inv-loop μ-loop
-loop-less c = search needs
 
 loop-again : tie.Need-loop-again Inv-loop μ-loop
 loop-again c =
@@ -115,20 +100,5 @@ returns c =
 
 pub erasing-spec : {M : Type 1} → statement M
 erasing-spec =
-    tie.close
-    (tie.spec
-    Inv-loop
-    μ-loop
-    cost-requires
-    cost-requires-2
-    loop-holds
-    mul-selected
-    shared-slice-read-selected
-    selected-requires
-    mul-t15
-    slice-set-from-costs
-    add-i
-    loop-less
-    loop-again
-    same-length
-    returns)
+    tie.close (tie.spec Inv-loop μ-loop cost-requires cost-requires-2 loop-holds (λ c. search needs) (λ c. search needs) selected-requires (λ c. search needs)
+    slice-set-from-costs (λ c. search needs) (λ c. search needs) loop-again same-length returns)

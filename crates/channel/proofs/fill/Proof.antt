@@ -12,16 +12,10 @@ hard-costs : (weight : Float) → costOf (Erasing (noFloor weight)) ≡ costOf (
 unfolding costOf
 hard-costs weight = fun-ext (λ x. ap (λ (y : Float). costOfBits (toBits binary32 y)) (sym (hard-erasing weight x)))
 
-enum-known-setting : tie.Need-enum-known-setting
-enum-known-setting c = search needs
-
 gaussian-requires : tie.Need-gaussian-requires
 gaussian-requires c κs =
     let s = c .before .before .before .before .before in
     (rw (c .before .before .setting .given .1) at (s .pre .0), s .pre .1)
-
-enum-known-setting-2 : tie.Need-enum-known-setting-2
-enum-known-setting-2 c = search needs
 
 erasing-requires : tie.Need-erasing-requires
 unfolding inRange lt ofBits
@@ -29,22 +23,13 @@ erasing-requires c κs =
     let s = c .before .before .before .before .before in
     (rw (c .before .before .setting2 .given .1) at (s .pre .0), s .pre .1 .1)
 
-enum-known-setting-3 : tie.Need-enum-known-setting-3
-enum-known-setting-3 c = search needs
-
 erasing-requires-2 : tie.Need-erasing-requires-2
 erasing-requires-2 c κs =
     let s = c .before .before .before .before .before in
     (rw (c .before .before .setting3 .given .1) at (s .pre .0), s .pre .1 .1)
 
-same-length : tie.Need-same-length
-same-length c = search needs
-
 returns : tie.Need-returns
 returns c = rw (c .before .before .before .before .setting .given .1) (c .before .gaussian .ensures)
-
-same-length-2 : tie.Need-same-length-2
-same-length-2 c = search needs
 
 returns-2 : tie.Need-returns-2
 unfolding ofBits
@@ -52,25 +37,10 @@ returns-2 c =
     let w = c .before .before .before .before .setting2 .given in
     rw (w .1, ← hard-costs (w .0 .0)) (c .before .erasing .ensures)
 
-same-length-3 : tie.Need-same-length-3
-same-length-3 c = search needs
-
 returns-3 : tie.Need-returns-3
 returns-3 c = rw (c .before .before .before .before .setting3 .given .1) (c .before .erasing2 .ensures)
 
 pub fill-spec : {M : Type 1} → statement M
 fill-spec =
-    tie.close
-    (tie.spec
-    enum-known-setting
-    gaussian-requires
-    enum-known-setting-2
-    erasing-requires
-    enum-known-setting-3
-    erasing-requires-2
-    same-length
-    returns
-    same-length-2
-    returns-2
-    same-length-3
-    returns-3)
+    tie.close (tie.spec (λ c. search needs) gaussian-requires (λ c. search needs) erasing-requires (λ c. search needs) erasing-requires-2 (λ c. search needs)
+    returns (λ c. search needs) returns-2 (λ c. search needs) returns-3)

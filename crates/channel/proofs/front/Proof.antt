@@ -21,15 +21,9 @@ singles c = c .before .in-range .ensures .1
 sound : (c : tie.Else2) → some (λ x. not (finite x)) (c .before .before .before .before .before .args .samples .now) ≡ false
 sound c = sym (c .before .some-not-finite .ensures) ∙ c .if2 .left
 
-in-range-requires : tie.Need-in-range-requires
-in-range-requires c κs = search needs
-
 returns : tie.Need-returns
 unfolding channelFront
 returns c = front-call _ _ _ (c .before .in-range .ensures .1) _ (rw (sym (c .before .in-range .ensures .0) ∙ not-true _ (c .if1 .taken)))
-
-some-not-finite-requires : tie.Need-some-not-finite-requires
-some-not-finite-requires c κs = search needs
 
 returns-2 : tie.Need-returns-2
 unfolding channelFront
@@ -45,9 +39,6 @@ returns-3 c =
 fill-requires : tie.Need-fill-requires
 fill-requires c κs = (ranged (c .before .before .before .before), (sound (c .before .before), c .before .if3 .left))
 
-same-length : tie.Need-same-length
-same-length c = search needs
-
 returns-4 : tie.Need-returns-4
 unfolding channelFront
 returns-4 c =
@@ -57,13 +48,4 @@ returns-4 c =
 
 pub front-spec : {M : Type 1} → statement M
 front-spec =
-    tie.close
-    (tie.spec
-    in-range-requires
-    returns
-    some-not-finite-requires
-    returns-2
-    returns-3
-    fill-requires
-    same-length
-    returns-4)
+    tie.close (tie.spec (λ c κs. search needs) returns (λ c κs. search needs) returns-2 returns-3 fill-requires (λ c. search needs) returns-4)

@@ -30,12 +30,6 @@ long l = rw (l .loop .inv .1) (length-over (l .loop .i) _ (l .before .before .ar
 loop-holds : tie.Need-loop-holds Inv-loop μ-loop
 loop-holds c = (omega arith, refl)
 
-mul-cost : tie.Need-mul-cost Inv-loop μ-loop
-mul-cost c = search needs
-
-shared-slice-read-cost : tie.Need-shared-slice-read-cost Inv-loop μ-loop
-shared-slice-read-cost c = search needs
-
 cost-requires : tie.Need-cost-requires Inv-loop μ-loop
 unfolding product
 cost-requires c κs =
@@ -45,17 +39,8 @@ cost-requires c κs =
     let k : finite x ≡ true = not-false (finite x) (some-at (λ x. not (finite x)) (s .args .samples .now) i nan (s .pre .1 .0) (c .before .loop-test .taken)) in
     rw (product-number (Gaussian (s .args .scale)) x (s .pre .0) k) tt
 
-mul-t11 : tie.Need-mul-t11 Inv-loop μ-loop
-mul-t11 c = search needs
-
 slice-set-from-costs : tie.Need-slice-set-from-costs Inv-loop μ-loop
 slice-set-from-costs c = omega (arith, long (c .before .before .before))
-
-add-i : tie.Need-add-i Inv-loop μ-loop
-add-i c = search needs
-
-loop-less : tie.Need-loop-less Inv-loop μ-loop
-loop-less c = search needs
 
 loop-again : tie.Need-loop-again Inv-loop μ-loop
 unfolding costOf product
@@ -78,18 +63,5 @@ returns c =
 
 pub gaussian-spec : {M : Type 1} → statement M
 gaussian-spec =
-    tie.close
-    (tie.spec
-    Inv-loop
-    μ-loop
-    loop-holds
-    mul-cost
-    shared-slice-read-cost
-    cost-requires
-    mul-t11
-    slice-set-from-costs
-    add-i
-    loop-less
-    loop-again
-    same-length
-    returns)
+    tie.close (tie.spec Inv-loop μ-loop loop-holds (λ c. search needs) (λ c. search needs) cost-requires (λ c. search needs) slice-set-from-costs
+    (λ c. search needs) (λ c. search needs) loop-again same-length returns)

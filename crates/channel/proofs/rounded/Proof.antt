@@ -7,24 +7,6 @@ use Rattle.channel.proofs.Rounding.{shifted, shift-fits, size-is}
 use Rattle.channel.proofs.rounded.Statement.{statement}
 use Rattle.channel.proofs.rounded.Tie as tie
 
-limited-requires : tie.Need-limited-requires
-limited-requires c κs = search needs
-
-add-digits : tie.Need-add-digits
-add-digits c = search needs
-
-cast-digits : tie.Need-cast-digits
-cast-digits c = search needs
-
-sub-units : tie.Need-sub-units
-sub-units c = search needs
-
-cast-units : tie.Need-cast-units
-cast-units c = search needs
-
-shl-units : tie.Need-shl-units
-shl-units c = search needs
-
 shift : (c : tie.After-limited) → let b = c .limited .result in (shifted b % 2 ^ 64 ≡ shifted b) × (shifted b < 2 ^ 42)
 shift c = shift-fits (c .limited .result) (omega (arith, c .limited .ensures))
 
@@ -39,14 +21,5 @@ returns c = rw (shift c .0, c .limited .ensures) (size-is (c .before .args .bits
 
 pub rounded-spec : {M : Type 1} → statement M
 rounded-spec =
-    tie.close
-    (tie.spec
-    limited-requires
-    add-digits
-    cast-digits
-    sub-units
-    cast-units
-    shl-units
-    add-result
-    cast-result
-    returns)
+    tie.close (tie.spec (λ c κs. search needs) (λ c. search needs) (λ c. search needs) (λ c. search needs) (λ c. search needs) (λ c. search needs) add-result
+    cast-result returns)

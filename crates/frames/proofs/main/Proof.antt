@@ -17,9 +17,6 @@ Inv-loop buffer₀ costs₀ triples₀ counts₀ sums₀ values₀ rows₀ word�
 abbrev μ-loop : tie.MeasureT-loop
 μ-loop buffer₀ costs₀ triples₀ counts₀ sums₀ values₀ rows₀ word₀ out₀ state₀ turns₀ buffer costs triples counts sums values rows word out state turns = turns
 
-start-requires : tie.Need-start-requires Inv-loop μ-loop
-start-requires c κs = search needs
-
 loop-holds : tie.Need-loop-holds Inv-loop μ-loop
 loop-holds c = (search needs, rw (c .start .ensures) start-held)
 
@@ -40,12 +37,6 @@ array-share-prefix-out c = c .advance .ensures .within
 slice-aggregate-write-all : tie.Need-slice-aggregate-write-all Inv-loop μ-loop
 slice-aggregate-write-all c = sym (length-take-le _ _ (c .before .advance .ensures .within))
 
-write-all-requires : tie.Need-write-all-requires Inv-loop μ-loop
-write-all-requires c κs = search needs
-
-sent-requires : tie.Need-sent-requires Inv-loop μ-loop
-sent-requires c κs = search needs
-
 sub-turns : tie.Need-sub-turns Inv-loop μ-loop
 sub-turns c = omega (arith, c .before .before .before .before .before .before .before .before .before .before .before .before .before .before .before .before .before .before .loop-test .taken)
 
@@ -55,29 +46,7 @@ loop-less c = omega (arith, c .before .before .before .before .before .before .b
 loop-again : tie.Need-loop-again Inv-loop μ-loop
 loop-again c = (search needs, sent-held _ _ _ (c .before .write-all .result) (c .sent .ensures) (c .before .before .before .advance .ensures .stepped .holds))
 
-returns : tie.Need-returns Inv-loop μ-loop
-returns c = search needs
-
-returns-2 : tie.Need-returns-2 Inv-loop μ-loop
-returns-2 c = search needs
-
 pub main-spec : {M : Type 1} → statement M
 main-spec =
-    tie.close
-    (tie.spec
-    Inv-loop
-    μ-loop
-    start-requires
-    loop-holds
-    slice-aggregate-read
-    read-requires
-    advance-requires
-    array-share-prefix-out
-    slice-aggregate-write-all
-    write-all-requires
-    sent-requires
-    sub-turns
-    loop-less
-    loop-again
-    returns
-    returns-2)
+    tie.close (tie.spec Inv-loop μ-loop (λ c κs. search needs) loop-holds slice-aggregate-read read-requires advance-requires array-share-prefix-out
+    slice-aggregate-write-all (λ c κs. search needs) (λ c κs. search needs) sub-turns loop-less loop-again (λ c. search needs) (λ c. search needs))

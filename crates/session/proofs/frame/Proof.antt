@@ -19,32 +19,11 @@ long c = search needs
 sub-size : tie.Need-sub-size
 sub-size c = let s = c .before in behind _ (long c) _ _ (s .pre .0) (s .pre .1)
 
-add-end : tie.Need-add-end
-add-end c = search needs
-
-sub-settings : tie.Need-sub-settings
-sub-settings c = search needs
-
-part-settings-start : tie.Need-part-settings-start
-part-settings-start c = search needs
-
-part-settings-end : tie.Need-part-settings-end
-part-settings-end c = search needs
-
 settings-requires : tie.Need-settings-requires
 settings-requires c κs = let s = c .before .before in omega (arith, set _ (long (c .before)) _ _ (s .pre .0) (s .pre .1) .twelve)
 
 slice-aggregate-frame-line : tie.Need-slice-aggregate-frame-line
 slice-aggregate-frame-line c = sym (length-take-le _ _ (omega (arith, c .before .before .before .before .pre .0 .held .fits)))
-
-sub-frame-line : tie.Need-sub-frame-line
-sub-frame-line c = search needs
-
-part-frame-line-start : tie.Need-part-frame-line-start
-part-frame-line-start c = search needs
-
-part-frame-line-end : tie.Need-part-frame-line-end
-part-frame-line-end c = search needs
 
 frame-line-requires : tie.Need-frame-line-requires
 frame-line-requires c κs =
@@ -88,9 +67,6 @@ module _ (c : tie.After-frame-line) where
   on : c .frame-line .result .on ≡ goesOn (codeOf code .bits) bytes
   on = c .frame-line .ensures .1 ∙ rw came
 
-over-requires : tie.Need-over-requires
-over-requires c κs = search needs
-
 returns : tie.Need-returns
 returns c =
     let f = c .before in
@@ -103,19 +79,5 @@ returns-2 c =
 
 pub frame-spec : {M : Type 1} → statement M
 frame-spec =
-    tie.close
-    (tie.spec
-    sub-size
-    add-end
-    sub-settings
-    part-settings-start
-    part-settings-end
-    settings-requires
-    slice-aggregate-frame-line
-    sub-frame-line
-    part-frame-line-start
-    part-frame-line-end
-    frame-line-requires
-    over-requires
-    returns
-    returns-2)
+    tie.close (tie.spec sub-size (λ c. search needs) (λ c. search needs) (λ c. search needs) (λ c. search needs) settings-requires slice-aggregate-frame-line
+    (λ c. search needs) (λ c. search needs) (λ c. search needs) frame-line-requires (λ c κs. search needs) returns returns-2)

@@ -14,20 +14,11 @@ long c = search needs
 slice-aggregate-judge-header : tie.Need-slice-aggregate-judge-header
 slice-aggregate-judge-header c = let a = c .before .before .pre .0 in sym (length-take-le _ _ (omega (arith, a .most, a .held .fits)))
 
-judge-header-requires : tie.Need-judge-header-requires
-judge-header-requires c κs = search needs
-
-refuse-requires : tie.Need-refuse-requires
-refuse-requires c κs = search needs
-
 returns : tie.Need-returns
 returns c =
     let q = c .before .before .before .before .before in
     let s = q .before in
     header-refused _ (long q) _ _ (s .pre .0) (s .pre .1) (c .before .before .before .judge-header .ensures) (c .before .before .if1 .taken) (c .refuse .ensures)
-
-two-bytes-requires : tie.Need-two-bytes-requires
-two-bytes-requires c κs = search needs
 
 returns-2 : tie.Need-returns-2
 returns-2 c =
@@ -37,11 +28,4 @@ returns-2 c =
 
 pub header-spec : {M : Type 1} → statement M
 header-spec =
-    tie.close
-    (tie.spec
-    slice-aggregate-judge-header
-    judge-header-requires
-    refuse-requires
-    returns
-    two-bytes-requires
-    returns-2)
+    tie.close (tie.spec slice-aggregate-judge-header (λ c κs. search needs) (λ c κs. search needs) returns (λ c κs. search needs) returns-2)

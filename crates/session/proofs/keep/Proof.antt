@@ -17,12 +17,6 @@ returns c = let s = c .before .before in next-check _ (long (c .before)) _ _ _ (
 slice-aggregate-judge-code : tie.Need-slice-aggregate-judge-code
 slice-aggregate-judge-code c = sym (length-take-le _ _ (omega (arith, c .before .before .before .pre .1)))
 
-judge-code-requires : tie.Need-judge-code-requires
-judge-code-requires c κs = search needs
-
-refuse-requires : tie.Need-refuse-requires
-refuse-requires c κs = search needs
-
 returns-2 : tie.Need-returns-2
 returns-2 c =
     let j = c .before .before .before in
@@ -41,11 +35,4 @@ returns-3 c =
 
 pub keep-spec : {M : Type 1} → statement M
 keep-spec =
-    tie.close
-    (tie.spec
-    returns
-    slice-aggregate-judge-code
-    judge-code-requires
-    refuse-requires
-    returns-2
-    returns-3)
+    tie.close (tie.spec returns slice-aggregate-judge-code (λ c κs. search needs) (λ c κs. search needs) returns-2 returns-3)

@@ -20,39 +20,12 @@ judged j =
     let size : s .state .at + s .came - s .state .at ≡ s .came = omega arith in
     j .judge-settings .ensures ∙ rw size
 
-add-end : tie.Need-add-end
-add-end c = search needs
-
-sub-judge-settings : tie.Need-sub-judge-settings
-sub-judge-settings c = search needs
-
-part-judge-settings-start : tie.Need-part-judge-settings-start
-part-judge-settings-start c = search needs
-
-part-judge-settings-end : tie.Need-part-judge-settings-end
-part-judge-settings-end c = search needs
-
-judge-settings-requires : tie.Need-judge-settings-requires
-judge-settings-requires c κs = search needs
-
-refuse-requires : tie.Need-refuse-requires
-refuse-requires c κs = search needs
-
 returns : tie.Need-returns
 returns c =
     let j = c .before .before .before in
     let q = j .before .before in
     let s = q .before in
     settings-refused _ (long q) _ _ (s .pre .0) (s .pre .1) (judged j) (c .before .before .if1 .taken) (c .refuse .ensures)
-
-two-bytes-requires : tie.Need-two-bytes-requires
-two-bytes-requires c κs = search needs
-
-mul-t13 : tie.Need-mul-t13
-mul-t13 c = search needs
-
-add-t19 : tie.Need-add-t19
-add-t19 c = search needs
 
 returns-2 : tie.Need-returns-2
 returns-2 c =
@@ -63,16 +36,5 @@ returns-2 c =
 
 pub settings-spec : {M : Type 1} → statement M
 settings-spec =
-    tie.close
-    (tie.spec
-    add-end
-    sub-judge-settings
-    part-judge-settings-start
-    part-judge-settings-end
-    judge-settings-requires
-    refuse-requires
-    returns
-    two-bytes-requires
-    mul-t13
-    add-t19
-    returns-2)
+    tie.close (tie.spec (λ c. search needs) (λ c. search needs) (λ c. search needs) (λ c. search needs) (λ c κs. search needs) (λ c κs. search needs) returns
+    (λ c κs. search needs) (λ c. search needs) (λ c. search needs) returns-2)

@@ -1,13 +1,13 @@
--- `session::answer` meets its contract: the decoder refuses nothing, and its answer makes the line. Assumes nothing.
+-- `answers::answer` meets its contract: the decoder refuses nothing, and its answer makes the line. Assumes nothing.
 use mathlib.Core.Path.{_∙_}
 use native.Mathlib.Omega.{arith}
 use lib.ListN.{length-take}
 use Rattle.lines.proofs.Text.{lent, counted}
 use Rattle.program.specs.FrameClaims.{Room}
-use Rattle.session.proofs.Answers.{answered}
+use Rattle.answers.proofs.Answers.{answered}
 use borrow.Author.Needs.{needs}
-use Rattle.session.proofs.answer.Statement.{statement}
-use Rattle.session.proofs.answer.Tie as tie
+use Rattle.answers.proofs.answer.Statement.{statement}
+use Rattle.answers.proofs.answer.Tie as tie
 
 -- the arrays' lengths
 room : (c : tie.After-decode-arg6)

@@ -1,4 +1,4 @@
--- `session::frame_line` meets its contract: nothing, a refusal, or the frame's line. Assumes nothing.
+-- `answers::frame_line` meets its contract: nothing, a refusal, or the frame's line. Assumes nothing.
 use mathlib.Core.Path.{_≡_, sym, ap, _∙_}
 use native.Mathlib.Omega.{arith}
 use lib.ListN.{length, take, length-take}
@@ -7,10 +7,10 @@ use Rattle.model.specs.Records.{codeOf}
 use Rattle.program.specs.Frames.{costsOf, judgeFrame, frameLine}
 use Rattle.program.proofs.Frames as Frames
 use Rattle.program.proofs.Frames.{length-costs, costs-left}
-use Rattle.session.proofs.Answers.{none, frame-refused, frame-sound, bits-of, code-long}
+use Rattle.answers.proofs.Answers.{none, frame-refused, frame-sound, bits-of, code-long}
 use borrow.Author.Needs.{needs}
-use Rattle.session.proofs.frame_line.Statement.{statement}
-use Rattle.session.proofs.frame_line.Tie as tie
+use Rattle.answers.proofs.frame_line.Statement.{statement}
+use Rattle.answers.proofs.frame_line.Tie as tie
 
 bits : (c : tie.After-two-bytes) → c .two-bytes .result ≡ codeOf (c .before .before .before .before .args .code .now) .bits
 bits c = c .two-bytes .ensures .0 ∙ sym (bits-of _)
@@ -34,9 +34,6 @@ read-frame-requires c κs =
     let s = c .before .before .before .before .before in
     let e = bits (c .before) in
     (omega (arith, e, s .pre .0 .bits), omega (arith, e, s .pre .0 .bits))
-
-refusal-requires : tie.Need-refusal-requires
-refusal-requires c κs = search needs
 
 returns-2 : tie.Need-returns-2
 returns-2 c =
@@ -82,13 +79,4 @@ returns-3 c =
 
 pub frame-line-spec : {M : Type 1} → statement M
 frame-line-spec =
-    tie.close
-    (tie.spec
-    returns
-    two-bytes-requires
-    read-frame-requires
-    refusal-requires
-    returns-2
-    slice-aggregate-answer
-    answer-requires
-    returns-3)
+    tie.close (tie.spec returns two-bytes-requires read-frame-requires (λ c κs. search needs) returns-2 slice-aggregate-answer answer-requires returns-3)
