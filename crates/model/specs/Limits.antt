@@ -1,5 +1,5 @@
 -- The limits that document 01 sets and that a run's numbers keep, by name. Definitions only.
-use Prim.Native.Nat.{ℕ, _^_}
+use Prim.Native.Nat.{ℕ, _+_, _*_, _^_}
 
 -- ---- 'Code records'
 -- "bits n (3 to 4,096), checks m (1 to 2,048)"
@@ -9,6 +9,14 @@ mostBits = 4096
 abbrev pub mostChecks : ℕ
 mostChecks = 2048
 
+-- "The sum of d − 2 over all checks is at most 8,192."
+abbrev pub mostTriples : ℕ
+mostTriples = 8192
+
+-- no code has more variables
+abbrev pub mostVariables : ℕ
+mostVariables = mostBits + mostTriples
+
 -- "a one-byte degree d (3 to 32)"
 abbrev pub leastDegree : ℕ
 leastDegree = 3
@@ -16,13 +24,14 @@ leastDegree = 3
 abbrev pub mostDegree : ℕ
 mostDegree = 32
 
--- "The sum of d − 2 over all checks is at most 8,192."
-abbrev pub mostTriples : ℕ
-mostTriples = 8192
+-- ---- what the code of a run takes
+-- so many iterations may be done before one more
+abbrev pub mostDone : ℕ
+mostDone = 3999
 
--- no variable has a higher number: every bit and every auxiliary
-abbrev pub mostVariables : ℕ
-mostVariables = 12288
+-- the magnitude of s after that one: "s never leaves −65,536 .. 32,768 × K"
+abbrev pub mostRow : ℕ
+mostRow = 32768 * (mostDone + 1)
 
 -- ---- 'One iteration'
 -- "cost weight W (1 to 65,535), ratio A (0 to 1,023 …), iterations K (1 to 1,000)"
@@ -35,26 +44,17 @@ mostRatio = 1023
 abbrev pub mostIterations : ℕ
 mostIterations = 1000
 
--- a cost that is not −32,768 is at most this large
-abbrev pub mostCost : ℕ
-mostCost = 32767
-
--- ---- what the code of a run takes
--- so many iterations may be done before one more
-abbrev pub mostDone : ℕ
-mostDone = 3999
-
--- the magnitude of s after so many and one: 32,768 × 4,000
-abbrev pub mostRow : ℕ
-mostRow = 131072000
-
--- of S, and of 256 × S + W × L
+-- the magnitude of S, and of 256 × S + W × L
 abbrev pub mostSum : ℕ
 mostSum = 2 ^ 40
 
 abbrev pub mostNumerator : ℕ
 mostNumerator = 2 ^ 49
 
--- of 256 × e − A
+-- a cost that is not −32,768 is at most this large
+abbrev pub mostCost : ℕ
+mostCost = 32767
+
+-- 256 × e − A of a variable in every check
 abbrev pub mostDivisor : ℕ
-mostDivisor = 2097152
+mostDivisor = 1024 * mostChecks
