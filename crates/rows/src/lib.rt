@@ -9,7 +9,7 @@ ghost use Rattle.quotient.specs.Quotient.{unit};
 ghost use Rattle.model.specs.Limits.{mostRow};
 ghost use Rattle.model.specs.Iteration.{at, sign, rowSum, slack, multiplier, renewed};
 ghost use Rattle.model.specs.Run.{squareOfChange};
-ghost use Rattle.rows.specs.Sides.{changeOf};
+ghost use Rattle.rows.specs.Sides.{changeOf, mostChanges};
 
 // "The four sums of a triple": the signs of c1 - c2 - c3, -c1 + c2 - c3, -c1 - c2 + c3, c1 + c2 + c3.
 const SIGNS: [[i32; 3]; 4] = [[1, -1, -1], [-1, 1, -1], [-1, -1, 1], [1, 1, 1]];
@@ -165,7 +165,7 @@ fn added(a: u64, b: u64, c: u64, d: u64) -> u64
 
 pub fn changes(old: [i32; 4], new: [i32; 4], side: i32) -> u64
     requires { ⌜ (natAbs side ≤ 1) × ((r : ℕ) → (natAbs (at old r) ≤ mostRow) × (natAbs (at new r) ≤ mostRow)) ⌝ }
-    ensures { λ n. ⌜ n ≡ sumℕ 4 (λ r. changeOf side (at old r) (at new r)) ⌝ }
+    ensures { λ n. ⌜ (n ≡ sumℕ 4 (λ r. changeOf side (at old r) (at new r))) × (n ≤ mostChanges) ⌝ }
 {
     added(
         change_at(old, new, 0, side),

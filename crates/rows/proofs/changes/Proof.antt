@@ -1,6 +1,6 @@
 -- `rows::changes` meets its contract. Assumes nothing.
 use mathlib.Core.Path.{_≡_, ap, _∙_}
-use Prim.Native.Nat.{ℕ, _+_, _*_}
+use Prim.Native.Nat.{ℕ, _+_, _*_, _≤_}
 use native.Mathlib.Omega.{arith}
 use lib.IntN.{ℤ}
 use mir.Syntax.{w32}
@@ -9,7 +9,7 @@ use Rattle.integers.proofs.Sums.{sumℕ-bound}
 use Rattle.integers.proofs.Machine.{Worth, within-raw, held}
 use Rattle.model.specs.Limits.{mostRow}
 use Rattle.model.specs.Iteration.{at}
-use Rattle.rows.specs.Sides.{changeOf}
+use Rattle.rows.specs.Sides.{changeOf, mostChanges}
 use Rattle.rows.proofs.Four.{sum-four, change-small}
 use Rattle.rows.proofs.Signs.{raw}
 use Rattle.rows.proofs.changes.Statement.{statement}
@@ -48,11 +48,14 @@ summed c =
     sum-four (of s (s .args .side)) _ _ _ _
     (is s 0 _ (c .before .before .before .change-at .ensures)) (is s 1 _ (c .before .before .change-at2 .ensures)) (is s 2 _ (c .before .change-at3 .ensures)) (is s 3 _ (c .change-at4 .ensures))
 
+small : (c : tie.After-change-at4) → sumℕ 4 (of (start c) (start c .args .side)) ≤ mostChanges
+small c = let s = start c in sumℕ-bound 4 (mostRow * mostRow) (of s (s .args .side)) (λ r _. change-small (s .args .side) (s .pre .0) _ _ (s .pre .1 r))
+
 added-requires : tie.Need-added-requires
-added-requires c κs = let s = start c in omega (arith, summed c, sumℕ-bound 4 (mostRow * mostRow) (of s (s .args .side)) (λ r _. change-small (s .args .side) (s .pre .0) _ _ (s .pre .1 r)))
+added-requires c κs = omega (arith, summed c, small c)
 
 returns : tie.Need-returns
-returns c = c .added .ensures ∙ summed (c .before)
+returns c = (c .added .ensures ∙ summed (c .before), omega (arith, c .added .ensures, summed (c .before), small (c .before)))
 
 pub changes-spec : {M : Type 1} → statement M
 changes-spec =
