@@ -18,24 +18,29 @@ use Rattle.lists.specs.Tabulated.{tab, over}
 use Rattle.lists.proofs.Tests.{and-left, and-false}
 use Rattle.lists.proofs.Tabulated.{getD-tab, tab-same, tab-getD, length-over, over-in, over-out, over-sets, over-same, over-self}
 use Rattle.quotient.specs.Quotient.{unit}
-use Rattle.model.specs.Limits.{mostTriples, mostRow}
+use Rattle.model.specs.Limits.{mostTriples, mostDone, mostRow}
 use Rattle.model.specs.Causes.{_if_}
 use Rattle.model.specs.Splitting.{member}
 use Rattle.model.specs.Iteration.{at, sumAt, row, slack, multiplier, renewed, renewedAt}
 use Rattle.model.specs.Run.{squareOfChange, changes, settledBy}
+use Rattle.model.specs.Bounds.{RowsWithin}
+use Rattle.model.proofs.Rows.{at-tab}
 use Rattle.model.proofs.Bounds.{rowSum-bound, renewed-multiplier, renewed-slack, multiplier-change}
 use Rattle.rows.specs.Sides.{changeOf}
 use Rattle.rows.proofs.Four.{side-multiplier, side-slack}
 use Rattle.layout.specs.Transposed.{cell, lane, stored, place, straight}
 use Rattle.layout.proofs.Arranged.{arranged-at, sum-arranged}
-use Rattle.layout.proofs.Places.{place-first, place-four, cell-tab, transposed}
-use Rattle.renewal.specs.InPlace.{Small, fourChanges, renewedFour, renewedIn, renewedAll, Aligned, Left, renewedFrom, changesFrom, Renewed}
+use Rattle.layout.proofs.Places.{place-first, place-four, cell-tab, cell-is, transposed}
+use Rattle.renewal.specs.InPlace.{Small, tripleChanges, fourChanges, renewedFour, renewedIn, renewedAll, Aligned, Left, renewedFrom, changesFrom, Renewed}
 
 -- ---- how large
 pub small-abs : (z : ℤ) → Small z → natAbs z ≤ mostRow
 small-abs z h = omega (arith, about z, h .0, h .1)
 
--- the cells of four triples, before and after
+-- the rows of a triple and the cells of four triples, before and after
+pub old-rows : (s : List ℤ) (t : ℕ) → ((i : ℕ) → 4 * t ≤ i → Small (at s i)) → (r : ℕ) → natAbs (at (tab 4 (λ r. row s t r)) r) ≤ mostRow
+old-rows s t small r = at-tab (λ z. natAbs z ≤ mostRow) 4 (λ r. row s t r) r (λ _. small-abs (row s t r) (small (4 * t + r) (omega arith))) (omega arith)
+
 pub old-cells : (s : List ℤ) (t : ℕ) → ((i : ℕ) → 4 * t ≤ i → Small (at s i)) → (k r : ℕ) → natAbs (cell (tab 4 (lane s t)) k r) ≤ mostRow
 old-cells s t small k r =
     cell-tab (λ z. natAbs z ≤ mostRow) (λ k r. row s (t + r) k) k r (λ _ _. small-abs (row s (t + r) k) (small (4 * (t + r) + k) (omega arith))) (omega arith)
@@ -60,10 +65,18 @@ module _ (ts : List ℕ) (c : List ℤ) (unit-most : (v : ℕ) → natAbs (at c 
       let d = abs-difference (slack (renewed z sum)) (slack z) 65536 (omega (arith, renewed-slack z sum (sum-small t r l))) (omega (arith, h .1)) in
       rw (side-slack z, side-slack (renewed z sum)) (mul-le-mul d d)
 
+  pub new-rows : (s : List ℤ) (t : ℕ) → ((i : ℕ) → 4 * t ≤ i → Small (at s i)) → (r : ℕ) → natAbs (at (tab 4 (λ r. renewed (row s t r) (sumAt ts c t r))) r) ≤ mostRow
+  new-rows s t small r =
+      at-tab (λ z. natAbs z ≤ mostRow) 4 (λ r. renewed (row s t r) (sumAt ts c t r)) r (λ l. new-abs (row s t r) t r l (small (4 * t + r) (omega arith))) (omega arith)
+
   pub new-cells : (s : List ℤ) (t : ℕ) → ((i : ℕ) → 4 * t ≤ i → Small (at s i)) → (k r : ℕ) → natAbs (cell (renewedFour ts s c t) k r) ≤ mostRow
   new-cells s t small k r =
       cell-tab (λ z. natAbs z ≤ mostRow) (λ k r. renewed (row s (t + r) k) (sumAt ts c (t + k) r)) k r
       (λ _ l. new-abs (row s (t + r) k) (t + k) r l (small (4 * (t + r) + k) (omega arith))) (omega arith)
+
+-- nothing is done
+pub at-first : {T : ℕ} {s : List ℤ} → 4 * T ≡ length s → RowsWithin mostDone s → Left T 0 s
+at-first e w = record { long = sym e; small = λ i _. (w .multipliers i, w .slacks i) }
 
 module _ (T : ℕ) (ts : List ℕ) (c : List ℤ) where
   -- ---- what is renewed, and what it adds to a total
@@ -135,9 +148,105 @@ module _ (T : ℕ) (ts : List ℕ) (c : List ℤ) where
       let m : (4 * t + r) % 4 ≡ r = omega arith in
       rw (place-first T (4 * t + r) (omega arith), d, m)
 
+  module _ (t : ℕ) (s s′ old new′ : List ℤ) (m z a b : ℕ) (h : t < T % 4) (left : Left T t s)
+      (old-is : old ≡ tab 4 (λ r. row s t r)) (new-is : new′ ≡ tab 4 (λ r. renewed (row s t r) (sumAt ts c t r))) where
+    triple-total : (side : ℤ) → tripleChanges side old new′ ≡ sumℕ 1 (λ j. changesAt side s (t + j))
+    triple-total side =
+        let e : t + 0 ≡ t = omega arith in
+        ap₂ (tripleChanges side) old-is new-is
+        ∙ rw e (sumℕ-same 4 (λ r. changeOf side (row s t r) (renewed (row s t r) (sumAt ts c t r))) (λ r. changeOf side (row s t r) (new s (4 * t + r)))
+        (λ r l. ap (changeOf side (row s t r)) (new-first s t r h l)) ∙ omega arith)
+
+    pub triple-renewed : s′ ≡ sets s (4 * t) (tab 4 (at new′)) → a ≡ m + tripleChanges (pos 1) old new′ → b ≡ z + tripleChanges (negsuc 0) old new′ → Renewed T ts c t (t + 1) s s′ m a z b
+    triple-renewed put p q =
+        step 1 t s s′ (λ r. renewed (row s t r) (sumAt ts c t r)) (omega arith) left (put ∙ ap (λ (k : List ℤ). sets s (4 * t) (tab 4 (at k))) new-is) (λ r l. new-first s t r h l)
+        m z a b (p ∙ ap (λ (x : ℕ). m + x) (triple-total (pos 1))) (q ∙ ap (λ (x : ℕ). z + x) (triple-total (negsuc 0)))
+
   -- ---- four triples
   new-four : (s : List ℤ) (t k r : ℕ) → Aligned T t → k < 4 → r < 4 → renewed (row s (t + r) k) (sumAt ts c (t + k) r) ≡ new s (4 * (t + r) + k)
   new-four s t k r a l m =
       let d : (4 * (t + k) + r) / 4 ≡ t + k = omega arith in
       let e : (4 * (t + k) + r) % 4 ≡ r = omega arith in
       rw (place-four T t r k (omega (arith, a)) (a .1) (a .0) m l, d, e)
+
+  module _ (t : ℕ) (s s′ : List ℤ) (m z : ℕ) (a : Aligned T t) (h : t < T) (left : Left T t s) where
+    four-total : (side : ℤ) → fourChanges side (tab 4 (lane s t)) (renewedFour ts s c t) ≡ sumℕ 4 (λ j. changesAt side s (t + j))
+    four-total side =
+        sumℕ-swap 4 4 (λ k r. changeOf side (row s (t + r) k) (renewed (row s (t + r) k) (sumAt ts c (t + k) r)))
+        ∙ sumℕ-same 4 (λ r. sumℕ 4 (λ k. changeOf side (row s (t + r) k) (renewed (row s (t + r) k) (sumAt ts c (t + k) r)))) (λ r. changesAt side s (t + r)) (λ r l.
+        sumℕ-same 4 (λ k. changeOf side (row s (t + r) k) (renewed (row s (t + r) k) (sumAt ts c (t + k) r))) (λ k. changeOf side (row s (t + r) k) (new s (4 * (t + r) + k))) (λ k g.
+        ap (changeOf side (row s (t + r) k)) (new-four s t k r a g l)))
+
+    pub four-renewed : s′ ≡ stored s t (renewedFour ts s c t)
+        → Renewed T ts c t (t + 4) s s′ m (m + fourChanges (pos 1) (tab 4 (lane s t)) (renewedFour ts s c t)) z (z + fourChanges (negsuc 0) (tab 4 (lane s t)) (renewedFour ts s c t))
+    four-renewed put =
+        step 4 t s s′ (λ j. cell (renewedFour ts s c t) (j % 4) (j / 4)) (omega (arith, a)) left put
+        (λ j l. let e : 4 * (t + j / 4) + j % 4 ≡ 4 * t + j = omega arith in
+        cell-is (λ k r. renewed (row s (t + r) k) (sumAt ts c (t + k) r)) (j % 4) (j / 4) (omega arith) (omega arith) ∙ new-four s t (j % 4) (j / 4) a (omega arith) (omega arith) ∙ ap (new s) e)
+        m z _ _ (ap (λ (x : ℕ). m + x) (four-total (pos 1))) (ap (λ (x : ℕ). z + x) (four-total (negsuc 0)))
+
+  -- ---- nothing more, one after another, all
+  pub renewed-none : (t m z : ℕ) (s : List ℤ) → Left T t s → Renewed T ts c t t s s m m z z
+  renewed-none t m z s left = record { left = left; rows = refl; of-multipliers = refl; of-slacks = refl }
+
+  pub both : {t u v m m′ m″ z z′ z″ : ℕ} {s s′ s″ : List ℤ} → Renewed T ts c t u s s′ m m′ z z′ → Renewed T ts c u v s′ s″ m′ m″ z′ z″ → Renewed T ts c t v s s″ m m″ z z″
+  both p q = record { left = q .left; rows = q .rows ∙ p .rows; of-multipliers = q .of-multipliers ∙ p .of-multipliers; of-slacks = q .of-slacks ∙ p .of-slacks }
+
+  pub all-done : (s : List ℤ) → length s ≡ 4 * T → renewedFrom T ts c T s ≡ s
+  all-done s e = tab-same (4 * T) (entry T s) (at s) (done T s) ∙ ap (λ (n : ℕ). tab n (at s)) (sym e) ∙ tab-getD s (pos 0)
+
+  -- ---- how large the totals get
+  module _ (few : T ≤ mostTriples) (unit-most : (v : ℕ) → natAbs (at c v) ≤ unit) where
+    most : (side : ℤ) → ((z : ℤ) (t r : ℕ) → r < 4 → Small z → changeOf side z (renewed z (sumAt ts c t r)) ≤ 4294967296) → (s : List ℤ) → Left T 0 s → changesFrom T ts c side 0 s ≤ 2 ^ 47
+    most side one s left =
+        omega (arith, sumℕ-bound (T - 0) (4 * 4294967296) (λ j. changesAt side s (0 + j)) (λ j _.
+        sumℕ-bound 4 4294967296 (λ r. changeOf side (row s (0 + j) r) (new s (4 * (0 + j) + r))) (λ r _.
+        one (row s (0 + j) r) (place T (4 * (0 + j) + r) / 4) (place T (4 * (0 + j) + r) % 4) (omega arith) (left .small (4 * (0 + j) + r) (omega arith)))))
+
+    pub totals-small : {u a b : ℕ} {s s′ : List ℤ} → Left T 0 s → Renewed T ts c 0 u s s′ 0 a 0 b → (a ≤ 2 ^ 47) × (b ≤ 2 ^ 47)
+    totals-small {s} left r =
+        (omega (arith, r .of-multipliers, most (pos 1) (multiplier-most ts c unit-most) s left), omega (arith, r .of-slacks, most (negsuc 0) (slack-most ts c unit-most) s left))
+
+  -- ---- in the order of document 01
+  module _ (s : List ℤ) where
+    new-place : (i : ℕ) → i < 4 * T → new s (place T i) ≡ renewedAt ts (straight T s) c i
+    new-place i h = rw (transposed T .back i h, arranged-at (4 * T) (place T) s i h)
+
+    pub all-straight : straight T (renewedFrom T ts c 0 s) ≡ renewedAll T ts s c
+    all-straight =
+        tab-same (4 * T) (λ i. at (renewedFrom T ts c 0 s) (place T i)) (renewedAt ts (straight T s) c) (λ i h.
+        getD-tab (4 * T) (entry 0 s) (place T i) (pos 0) (transposed T .below i h) ∙ to-do 0 s (place T i) (omega arith) ∙ new-place i h)
+
+    pub whole : (side : ℤ) (part : ℤ → ℕ) → ((z : ℤ) → multiplier (side *ℤ z) ≡ part z) → changesFrom T ts c side 0 s ≡ changes part T (straight T s) (renewedAll T ts s c)
+    unfolding changes
+    whole side part is =
+        let h : ℕ → ℕ = λ i. changeOf side (at s i) (new s i) in
+        let g : ℕ → ℕ = λ i. squareOfChange (part (at (straight T s) i)) (part (at (renewedAll T ts s c) i)) in
+        let all : T - 0 ≡ T = omega arith in
+        ap (λ (n : ℕ). sumℕ n (λ j. sumℕ 4 (λ r. h (4 * (0 + j) + r)))) all
+        ∙ sumℕ-same T (λ j. sumℕ 4 (λ r. h (4 * (0 + j) + r))) (λ t. sumℕ 4 (λ r. h (4 * t + r))) (λ t _. let e : 0 + t ≡ t = omega arith in rw e)
+        ∙ sumℕ-fours T h
+        ∙ sym (sum-arranged (transposed T) h)
+        ∙ sumℕ-same (4 * T) (λ i. h (place T i)) g (λ i l.
+        rw (is (at s (place T i)), is (new s (place T i)), arranged-at (4 * T) (place T) s i l, getD-tab (4 * T) (renewedAt ts (straight T s) c) i (pos 0) l, new-place i l))
+        ∙ sym (sumℕ-fours T g)
+
+-- ---- the loop's test: t is below n, and neither total exceeds x
+pub met : (t n a b x : ℕ) → ((ltb t n && leb a x) && leb b x) ≡ true → t < n
+met t n a b x h = ltb-true t n (and-left (ltb t n) (leb a x) (and-left (ltb t n && leb a x) (leb b x) h))
+
+pub unmet : (t n a b x : ℕ) → ((ltb t n && leb a x) && leb b x) ≡ false → a ≤ x → b ≤ x → n ≤ t
+unmet t n a b x h p q = ltb-false t n (and-false (ltb t n) (leb a x) (and-false (ltb t n && leb a x) (leb b x) h (le-leb b x q)) (le-leb a x p))
+
+-- ---- totals that are not the whole ones where one of them exceeds x
+pub settled-is : (x a b A B : ℕ) → a ≤ A → b ≤ B → (a ≤ x → b ≤ x → (a ≡ A) × (b ≡ B)) → 1 if (leb a x && leb b x) ≡ 1 if (leb A x && leb B x)
+settled-is x a b A B h k w = by (leb a x) (leb b x) refl refl
+  where
+    none : (t : Bool) → (t && false) ≡ false
+    none true = refl
+    none false = refl
+
+    by : (p q : Bool) → leb a x ≡ p → leb b x ≡ q → 1 if (leb a x && leb b x) ≡ 1 if (leb A x && leb B x)
+    by true true e f = let same = w (leb-true a x e) (leb-true b x f) in ap₂ (λ (u v : ℕ). 1 if (leb u x && leb v x)) (same .0) (same .1)
+    by true false e f = rw (e, f, lt-leb B x (omega (arith, leb-false b x f)), none (leb A x))
+    by false q e f = rw (e, lt-leb A x (omega (arith, leb-false a x e)))
