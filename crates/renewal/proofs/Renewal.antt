@@ -1,6 +1,6 @@
 -- The rows of T triples, as one triple or four triples after the other are renewed with the values c. Assumes nothing.
 use mathlib.Core.Bool.{Bool, cond, true, false, _&&_}
-use mathlib.Core.List.{List}
+use mathlib.Core.List.{List, [], _∷_}
 use mathlib.Core.Path.{_≡_, refl, sym, ap, ap₂, _∙_}
 use Prim.Native.Nat.{ℕ, _+_, _-_, _*_, _/_, _%_, _^_, _≤_, _<_}
 use native.Mathlib.Decide.{decLt}
@@ -9,7 +9,7 @@ use native.Mathlib.Omega.{arith}
 use borrow.Author.Tests.{ltb-true, ltb-false, leb-true, leb-false, le-leb, lt-leb, lt-ltb, le-ltb}
 use lib.Dec.{leb, ltb}
 use lib.IntN.{ℤ, pos, negsuc, natAbs, _*ℤ_}
-use lib.ListN.{length}
+use lib.ListN.{length, getD}
 use lib.Seq.{sets}
 use Rattle.integers.specs.Sum.{sumℕ}
 use Rattle.integers.proofs.Sums.{sumℕ-same, sumℕ-split, sumℕ-bound, sumℕ-swap, sumℕ-fours}
@@ -73,6 +73,22 @@ module _ (ts : List ℕ) (c : List ℤ) (unit-most : (v : ℕ) → natAbs (at c 
   new-cells s t small k r =
       cell-tab (λ z. natAbs z ≤ mostRow) (λ k r. renewed (row s (t + r) k) (sumAt ts c (t + k) r)) k r
       (λ _ l. new-abs (row s (t + r) k) (t + k) r l (small (4 * (t + r) + k) (omega arith))) (omega arith)
+
+-- ---- totals that are not the whole ones where one of them exceeds x
+settled-is : (x a b A B : ℕ) → a ≤ A → b ≤ B → (a ≤ x → b ≤ x → (a ≡ A) × (b ≡ B)) → 1 if (leb a x && leb b x) ≡ 1 if (leb A x && leb B x)
+settled-is x a b A B h k w = by (leb a x) (leb b x) refl refl
+  where
+    none : (t : Bool) → (t && false) ≡ false
+    none true = refl
+    none false = refl
+
+    by : (p q : Bool) → leb a x ≡ p → leb b x ≡ q → 1 if (leb a x && leb b x) ≡ 1 if (leb A x && leb B x)
+    by true true e f = let same = w (leb-true a x e) (leb-true b x f) in ap₂ (λ (u v : ℕ). 1 if (leb u x && leb v x)) (same .0) (same .1)
+    by true false e f = rw (e, f, lt-leb B x (omega (arith, leb-false b x f)), none (leb A x))
+    by false q e f = rw (e, lt-leb A x (omega (arith, leb-false a x e)))
+
+grown : (a f w A : ℕ) → a + f ≡ 0 + w → w ≡ A → (a ≤ A) × (f ≡ 0 → a ≡ A)
+grown a f w A p q = (omega arith, λ z. omega arith)
 
 -- nothing is done
 pub at-first : {T : ℕ} {s : List ℤ} → 4 * T ≡ length s → RowsWithin mostDone s → Left T 0 s
@@ -169,21 +185,24 @@ module _ (T : ℕ) (ts : List ℕ) (c : List ℤ) where
       let e : (4 * (t + k) + r) % 4 ≡ r = omega arith in
       rw (place-four T t r k (omega (arith, a)) (a .1) (a .0) m l, d, e)
 
-  module _ (t : ℕ) (s s′ : List ℤ) (m z : ℕ) (a : Aligned T t) (h : t < T) (left : Left T t s) where
-    four-total : (side : ℤ) → fourChanges side (tab 4 (lane s t)) (renewedFour ts s c t) ≡ sumℕ 4 (λ j. changesAt side s (t + j))
+  module _ (t : ℕ) (s s′ : List ℤ) (q : List (List (List ℤ))) (m z a b : ℕ) (al : Aligned T t) (h : t < T) (left : Left T t s)
+      (q-is : q ≡ tab 4 (lane s t) ∷ renewedFour ts s c t ∷ []) where
+    four-total : (side : ℤ) → fourChanges side (getD q 0 []) (getD q 1 []) ≡ sumℕ 4 (λ j. changesAt side s (t + j))
     four-total side =
-        sumℕ-swap 4 4 (λ k r. changeOf side (row s (t + r) k) (renewed (row s (t + r) k) (sumAt ts c (t + k) r)))
-        ∙ sumℕ-same 4 (λ r. sumℕ 4 (λ k. changeOf side (row s (t + r) k) (renewed (row s (t + r) k) (sumAt ts c (t + k) r)))) (λ r. changesAt side s (t + r)) (λ r l.
-        sumℕ-same 4 (λ k. changeOf side (row s (t + r) k) (renewed (row s (t + r) k) (sumAt ts c (t + k) r))) (λ k. changeOf side (row s (t + r) k) (new s (4 * (t + r) + k))) (λ k g.
-        ap (changeOf side (row s (t + r) k)) (new-four s t k r a g l)))
+        let new′ : ℕ → ℕ → ℤ = λ k r. renewed (row s (t + r) k) (sumAt ts c (t + k) r) in
+        ap (λ (q : List (List (List ℤ))). fourChanges side (getD q 0 []) (getD q 1 [])) q-is
+        ∙ sumℕ-swap 4 4 (λ k r. changeOf side (row s (t + r) k) (new′ k r))
+        ∙ sumℕ-same 4 (λ r. sumℕ 4 (λ k. changeOf side (row s (t + r) k) (new′ k r))) (λ r. changesAt side s (t + r)) (λ r l.
+        sumℕ-same 4 (λ k. changeOf side (row s (t + r) k) (new′ k r)) (λ k. changeOf side (row s (t + r) k) (new s (4 * (t + r) + k))) (λ k g.
+        ap (changeOf side (row s (t + r) k)) (new-four s t k r al g l)))
 
-    pub four-renewed : s′ ≡ stored s t (renewedFour ts s c t)
-        → Renewed T ts c t (t + 4) s s′ m (m + fourChanges (pos 1) (tab 4 (lane s t)) (renewedFour ts s c t)) z (z + fourChanges (negsuc 0) (tab 4 (lane s t)) (renewedFour ts s c t))
-    four-renewed put =
-        step 4 t s s′ (λ j. cell (renewedFour ts s c t) (j % 4) (j / 4)) (omega (arith, a)) left put
+    pub four-renewed : s′ ≡ stored s t (renewedFour ts s c t) → a ≡ m + fourChanges (pos 1) (getD q 0 []) (getD q 1 []) → b ≡ z + fourChanges (negsuc 0) (getD q 0 []) (getD q 1 [])
+        → Renewed T ts c t (t + 4) s s′ m a z b
+    four-renewed put e f =
+        step 4 t s s′ (λ j. cell (renewedFour ts s c t) (j % 4) (j / 4)) (omega (arith, al)) left put
         (λ j l. let e : 4 * (t + j / 4) + j % 4 ≡ 4 * t + j = omega arith in
-        cell-is (λ k r. renewed (row s (t + r) k) (sumAt ts c (t + k) r)) (j % 4) (j / 4) (omega arith) (omega arith) ∙ new-four s t (j % 4) (j / 4) a (omega arith) (omega arith) ∙ ap (new s) e)
-        m z _ _ (ap (λ (x : ℕ). m + x) (four-total (pos 1))) (ap (λ (x : ℕ). z + x) (four-total (negsuc 0)))
+        cell-is (λ k r. renewed (row s (t + r) k) (sumAt ts c (t + k) r)) (j % 4) (j / 4) (omega arith) (omega arith) ∙ new-four s t (j % 4) (j / 4) al (omega arith) (omega arith) ∙ ap (new s) e)
+        m z a b (e ∙ ap (λ (x : ℕ). m + x) (four-total (pos 1))) (f ∙ ap (λ (x : ℕ). z + x) (four-total (negsuc 0)))
 
   -- ---- nothing more, one after another, all
   pub renewed-none : (t m z : ℕ) (s : List ℤ) → Left T t s → Renewed T ts c t t s s m m z z
@@ -217,7 +236,7 @@ module _ (T : ℕ) (ts : List ℕ) (c : List ℤ) where
         tab-same (4 * T) (λ i. at (renewedFrom T ts c 0 s) (place T i)) (renewedAt ts (straight T s) c) (λ i h.
         getD-tab (4 * T) (entry 0 s) (place T i) (pos 0) (transposed T .below i h) ∙ to-do 0 s (place T i) (omega arith) ∙ new-place i h)
 
-    pub whole : (side : ℤ) (part : ℤ → ℕ) → ((z : ℤ) → multiplier (side *ℤ z) ≡ part z) → changesFrom T ts c side 0 s ≡ changes part T (straight T s) (renewedAll T ts s c)
+    whole : (side : ℤ) (part : ℤ → ℕ) → ((z : ℤ) → multiplier (side *ℤ z) ≡ part z) → changesFrom T ts c side 0 s ≡ changes part T (straight T s) (renewedAll T ts s c)
     unfolding changes
     whole side part is =
         let h : ℕ → ℕ = λ i. changeOf side (at s i) (new s i) in
@@ -231,22 +250,18 @@ module _ (T : ℕ) (ts : List ℕ) (c : List ℤ) where
         rw (is (at s (place T i)), is (new s (place T i)), arranged-at (4 * T) (place T) s i l, getD-tab (4 * T) (renewedAt ts (straight T s) c) i (pos 0) l, new-place i l))
         ∙ sym (sumℕ-fours T g)
 
+    -- whether the totals of u triples tell that the run is settled
+    pub settled : (x u a b : ℕ) (s′ : List ℤ) → Renewed T ts c 0 u s s′ 0 a 0 b → (a ≤ x → b ≤ x → u ≡ T) → 1 if (leb a x && leb b x) ≡ settledBy x T (straight T s) (renewedAll T ts s c)
+    unfolding settledBy
+    settled x u a b s′ r w =
+        let none : u ≡ T → (side : ℤ) → changesFrom T ts c side u s′ ≡ 0 = λ e side. let z : T - u ≡ 0 = omega arith in ap (λ (n : ℕ). sumℕ n (λ j. changesAt side s′ (u + j))) z in
+        let p = grown a _ _ _ (r .of-multipliers) (whole (pos 1) multiplier side-multiplier) in
+        let q = grown b _ _ _ (r .of-slacks) (whole (negsuc 0) slack side-slack) in
+        settled-is x a b _ _ (p .0) (q .0) (λ h k. (p .1 (none (w h k) (pos 1)), q .1 (none (w h k) (negsuc 0))))
+
 -- ---- the loop's test: t is below n, and neither total exceeds x
 pub met : (t n a b x : ℕ) → ((ltb t n && leb a x) && leb b x) ≡ true → t < n
 met t n a b x h = ltb-true t n (and-left (ltb t n) (leb a x) (and-left (ltb t n && leb a x) (leb b x) h))
 
 pub unmet : (t n a b x : ℕ) → ((ltb t n && leb a x) && leb b x) ≡ false → a ≤ x → b ≤ x → n ≤ t
 unmet t n a b x h p q = ltb-false t n (and-false (ltb t n) (leb a x) (and-false (ltb t n && leb a x) (leb b x) h (le-leb b x q)) (le-leb a x p))
-
--- ---- totals that are not the whole ones where one of them exceeds x
-pub settled-is : (x a b A B : ℕ) → a ≤ A → b ≤ B → (a ≤ x → b ≤ x → (a ≡ A) × (b ≡ B)) → 1 if (leb a x && leb b x) ≡ 1 if (leb A x && leb B x)
-settled-is x a b A B h k w = by (leb a x) (leb b x) refl refl
-  where
-    none : (t : Bool) → (t && false) ≡ false
-    none true = refl
-    none false = refl
-
-    by : (p q : Bool) → leb a x ≡ p → leb b x ≡ q → 1 if (leb a x && leb b x) ≡ 1 if (leb A x && leb B x)
-    by true true e f = let same = w (leb-true a x e) (leb-true b x f) in ap₂ (λ (u v : ℕ). 1 if (leb u x && leb v x)) (same .0) (same .1)
-    by true false e f = rw (e, f, lt-leb B x (omega (arith, leb-false b x f)), none (leb A x))
-    by false q e f = rw (e, lt-leb A x (omega (arith, leb-false a x e)))

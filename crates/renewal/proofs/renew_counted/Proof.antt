@@ -1,75 +1,100 @@
+-- `renewal::renew_counted` meets its contract: with t triples done the list and the totals will be the same in the end. Assumes nothing.
+use mathlib.Core.Path.{_∙_}
+use Prim.Native.Nat.{_+_, _-_, _≤_}
+use native.Mathlib.Omega.{arith}
+use borrow.Author.Needs.{needs}
+use Rattle.renewal.specs.InPlace.{Aligned, Renewed}
+use Rattle.renewal.proofs.Renewal.{old-cells, new-cells, four-renewed, renewed-none, both, at-first, totals-small, met, unmet}
 use Rattle.renewal.proofs.renew_counted.Statement.{statement}
 use Rattle.renewal.proofs.renew_counted.Tie as tie
-use Rattle.renewal.proofs.renew_counted.Reads as reads
-use Rattle.renewal.proofs.renew_counted.Lts as lts
-use Rattle.renewal.proofs.renew_first.Reads as renew-first-reads
-use Rattle.renewal.proofs.renew_four.Reads as renew-four-reads
-use Rattle.renewal.proofs.with_four.Reads as with-four-reads
 
 abbrev Inv-loop : tie.InvT-loop
-Inv-loop triples values rows₀ count tolerance totals₀ t₀ rows totals t = ?
+Inv-loop triples values rows₀ count tolerance totals₀ t₀ rows totals t =
+    Aligned count t × Renewed count triples values t₀ t rows₀ rows (totals₀ .multipliers) (totals .multipliers) (totals₀ .slacks) (totals .slacks)
 
 abbrev μ-loop : tie.MeasureT-loop
-μ-loop triples values rows₀ count tolerance totals₀ t₀ rows totals t = ?
+μ-loop triples values rows₀ count tolerance totals₀ t₀ rows totals t = count - t
 
--- src/lib.rt:164:9
-renew-first-requires : tie.Need-renew-first-requires Inv-loop μ-loop
-renew-first-requires c κs = ?
-
--- src/lib.rt:166:5
 loop-holds : tie.Need-loop-holds Inv-loop μ-loop
-loop-holds c = ?
+loop-holds c =
+    let b = c .before in
+    let a = b .before .before .before .args in
+    ((omega arith, omega arith), renewed-none (a .count) (a .triples .now) (a .values .now) _ _ _ (b .renew-first .last .1 .1 .0) (b .renew-first .ensures .left))
 
--- src/lib.rt:167:20
+-- ---- in the loop
+abbrev first : tie.At-loop Inv-loop μ-loop → tie.After-renew-first Inv-loop μ-loop
+first l = l .before .before
+
+abbrev start : tie.At-loop Inv-loop μ-loop → tie.Start Inv-loop μ-loop
+start l = first l .before .before .before
+
+-- from the start
+whole : (l : tie.At-loop Inv-loop μ-loop) → let a = start l .args in
+    Renewed (a .count) (a .triples .now) (a .values .now) 0 (l .loop .t) (a .rows .now) (l .loop .rows) 0 (l .loop .totals .multipliers) 0 (l .loop .totals .slacks)
+whole l = let a = start l .args in both (a .count) (a .triples .now) (a .values .now) (first l .renew-first .ensures) (l .loop .inv .1)
+
+abbrev at-test : tie.Then1 Inv-loop μ-loop → tie.At-loop Inv-loop μ-loop
+at-test c = c .before .before .before
+
+-- four triples more are there
+room : (c : tie.Then1 Inv-loop μ-loop) → at-test c .loop .t + 4 ≤ start (at-test c) .args .count
+room c =
+    let l = at-test c in
+    omega (arith, l .loop .inv .0, met (l .loop .t) (start l .args .count) (l .loop .totals .multipliers) (l .loop .totals .slacks) (start l .args .tolerance) (c .if1 .taken))
+
 renew-four-requires : tie.Need-renew-four-requires Inv-loop μ-loop
-renew-four-requires c κs = ?
+renew-four-requires c κs =
+    let l = at-test (c .before) in
+    let h = start l .pre in
+    let r = room (c .before) in
+    ((omega (arith, h .0, r), omega (arith, h .0, r), omega (arith, whole l .left .long, r)), (h .1 .0, whole l .left .small))
 
--- src/lib.rt:168:36
-array-copy-out-with-four : tie.Need-array-copy-out-with-four Inv-loop μ-loop
-array-copy-out-with-four c = ?
+abbrev renewed : tie.After-renew-four Inv-loop μ-loop → tie.Then1 Inv-loop μ-loop
+renewed c = c .before .before
 
--- src/lib.rt:168:45
-array-copy-out-with-four-2 : tie.Need-array-copy-out-with-four-2 Inv-loop μ-loop
-array-copy-out-with-four-2 c = ?
-
--- src/lib.rt:168:9
 with-four-requires : tie.Need-with-four-requires Inv-loop μ-loop
-with-four-requires c κs = ?
+with-four-requires c κs =
+    let n = c .before .before .before in
+    let l = at-test (renewed n) in
+    let s = start l in
+    let a = s .args in
+    let small = totals-small (a .count) (a .triples .now) (a .values .now) (s .pre .0 .0) (s .pre .1 .0 .1) (at-first (s .pre .0 .2) (s .pre .1 .1)) (whole l) in (
+      (omega (arith, small), omega (arith, small)),
+      λ k r. rw (n .renew-four .ensures .0) (
+        old-cells (l .loop .rows) (l .loop .t) (whole l .left .small) k r,
+        new-cells (a .triples .now) (a .values .now) (s .pre .1 .0 .1) (l .loop .rows) (l .loop .t) (whole l .left .small) k r,
+      ),
+    )
 
--- src/lib.rt:169:9
 add-t : tie.Need-add-t Inv-loop μ-loop
-add-t c = ?
+add-t c = let n = renewed (c .before .before .before .before) in omega (arith, start (at-test n) .pre .0, room n)
 
--- src/lib.rt:166:5
 loop-less : tie.Need-loop-less Inv-loop μ-loop
-loop-less c = ?
+loop-less c = omega (arith, room (renewed (c .before .before .before .before)))
 
--- src/lib.rt:166:5
 loop-again : tie.Need-loop-again Inv-loop μ-loop
-loop-again c = ?
+loop-again c =
+    let n = c .before .before .before .before in
+    let l = at-test (renewed n) in
+    let a = start l .args in
+    let h = room (renewed n) in (
+      (omega (arith, h), omega (arith, l .loop .inv .0, h)),
+      both (a .count) (a .triples .now) (a .values .now) (l .loop .inv .1) (four-renewed (a .count) (a .triples .now) (a .values .now) (l .loop .t) (l .loop .rows) (n .renew-four .last .1 .1 .0)
+          (n .renew-four .result) _ _ _ _ (l .loop .inv .0) (omega (arith, h)) (whole l .left) (n .renew-four .ensures .0) (n .renew-four .ensures .1) (c .with-four .ensures .0) (c .with-four .ensures .1)),
+    )
 
--- src/lib.rt:149:1
 same-length : tie.Need-same-length Inv-loop μ-loop
-same-length c = ?
+same-length c = let l = c .before .before .before in whole l .left .long ∙ start l .pre .0 .2
 
--- src/lib.rt:149:1
 returns : tie.Need-returns Inv-loop μ-loop
-returns c = ?
+returns c =
+    let l = c .before .before .before in
+    let a = start l .args in (
+      l .loop .inv .0,
+      (λ p q. omega (arith, l .loop .inv .0, unmet (l .loop .t) (a .count) (l .loop .totals .multipliers) (l .loop .totals .slacks) (a .tolerance) (c .if1 .left) p q), whole l),
+    )
 
 pub renew-counted-spec : {M : Type 1} → statement M
 renew-counted-spec =
-    tie.close
-    (tie.spec
-    Inv-loop
-    μ-loop
-    renew-first-requires
-    loop-holds
-    renew-four-requires
-    array-copy-out-with-four
-    array-copy-out-with-four-2
-    with-four-requires
-    add-t
-    loop-less
-    loop-again
-    same-length
-    returns)
+    tie.close (tie.spec Inv-loop μ-loop (λ c κs. search needs) loop-holds renew-four-requires (λ c. search needs) (λ c. search needs) with-four-requires add-t
+    loop-less loop-again same-length returns)

@@ -2,7 +2,7 @@
 use mathlib.Core.Path.{_≡_, refl, sym, ap, _∙_}
 use Prim.Native.Nat.{ℕ, _+_, _-_, _≤_}
 use native.Mathlib.Omega.{arith}
-use Rattle.renewal.specs.InPlace.{Aligned, Left, renewedFrom, Renewed}
+use Rattle.renewal.specs.InPlace.{Aligned, Left, renewedFrom}
 use Rattle.renewal.proofs.Renewal.{four-renewed, all-done}
 use Rattle.renewal.proofs.renew_rest.Statement.{statement}
 use Rattle.renewal.proofs.renew_rest.Tie as tie
@@ -41,7 +41,8 @@ loop-again c =
     let l = c .before .before .before .before in
     let a = start l .args in
     let h = room (c .before .before .before) in
-    let r = four-renewed (a .count) (a .triples .now) (a .values .now) (l .loop .t) (l .loop .rows) (c .before .renew-four .last .1 .1 .0) 0 0 (l .loop .inv .0) (omega arith) (l .loop .inv .1) (c .before .renew-four .ensures .1) in
+    let r = four-renewed (a .count) (a .triples .now) (a .values .now) (l .loop .t) (l .loop .rows) (c .before .renew-four .last .1 .1 .0)
+        (c .before .renew-four .result) 0 0 _ _ (l .loop .inv .0) (omega (arith, h)) (l .loop .inv .1) (c .before .renew-four .ensures .0) (c .before .renew-four .ensures .1) refl refl in
     ((omega arith, omega (arith, l .loop .inv .0, h)), r .left, r .rows ∙ l .loop .inv .2)
 
 same-length : tie.Need-same-length Inv-loop μ-loop

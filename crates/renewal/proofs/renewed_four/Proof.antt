@@ -12,35 +12,14 @@ use borrow.Author.Needs.{needs}
 use Rattle.renewal.proofs.renewed_four.Statement.{statement}
 use Rattle.renewal.proofs.renewed_four.Tie as tie
 
-array-copy-out-renewed-triple : tie.Need-array-copy-out-renewed-triple
-array-copy-out-renewed-triple c = search needs
-
 renewed-triple-requires : tie.Need-renewed-triple-requires
 renewed-triple-requires c κs = let s = c .before .before in ((omega (arith, s .pre .0), omega (arith, s .pre .0)), (s .pre .1 .0, s .pre .1 .1 _))
-
-add-renewed-triple : tie.Need-add-renewed-triple
-add-renewed-triple c = search needs
-
-array-copy-out-renewed-triple-2 : tie.Need-array-copy-out-renewed-triple-2
-array-copy-out-renewed-triple-2 c = search needs
 
 renewed-triple-requires-2 : tie.Need-renewed-triple-requires-2
 renewed-triple-requires-2 c κs = let s = c .before .before .before .before in ((omega (arith, s .pre .0), omega (arith, s .pre .0)), (s .pre .1 .0, s .pre .1 .1 _))
 
-add-renewed-triple-2 : tie.Need-add-renewed-triple-2
-add-renewed-triple-2 c = search needs
-
-array-copy-out-renewed-triple-3 : tie.Need-array-copy-out-renewed-triple-3
-array-copy-out-renewed-triple-3 c = search needs
-
 renewed-triple-requires-3 : tie.Need-renewed-triple-requires-3
 renewed-triple-requires-3 c κs = let s = c .before .before .before .before .before .before in ((omega (arith, s .pre .0), omega (arith, s .pre .0)), (s .pre .1 .0, s .pre .1 .1 _))
-
-add-renewed-triple-3 : tie.Need-add-renewed-triple-3
-add-renewed-triple-3 c = search needs
-
-array-copy-out-renewed-triple-4 : tie.Need-array-copy-out-renewed-triple-4
-array-copy-out-renewed-triple-4 c = search needs
 
 renewed-triple-requires-4 : tie.Need-renewed-triple-requires-4
 renewed-triple-requires-4 c κs = let s = c .before .before .before .before .before .before .before .before in ((omega (arith, s .pre .0), omega (arith, s .pre .0)), (s .pre .1 .0, s .pre .1 .1 _))
@@ -59,17 +38,5 @@ returns c =
 
 pub renewed-four-spec : {M : Type 1} → statement M
 renewed-four-spec =
-    tie.close
-    (tie.spec
-    array-copy-out-renewed-triple
-    renewed-triple-requires
-    add-renewed-triple
-    array-copy-out-renewed-triple-2
-    renewed-triple-requires-2
-    add-renewed-triple-2
-    array-copy-out-renewed-triple-3
-    renewed-triple-requires-3
-    add-renewed-triple-3
-    array-copy-out-renewed-triple-4
-    renewed-triple-requires-4
-    returns)
+    tie.close (tie.spec (λ c. search needs) renewed-triple-requires (λ c. search needs) (λ c. search needs) renewed-triple-requires-2 (λ c. search needs)
+    (λ c. search needs) renewed-triple-requires-3 (λ c. search needs) (λ c. search needs) renewed-triple-requires-4 returns)

@@ -73,11 +73,4 @@ returns c =
 
 pub renewed-triple-spec : {M : Type 1} → statement M
 renewed-triple-spec =
-    tie.close
-    (tie.spec
-    value-at-requires
-    value-at-requires-2
-    value-at-requires-3
-    row-sums-requires
-    renewed-rows-requires
-    returns)
+    tie.close (tie.spec value-at-requires value-at-requires-2 value-at-requires-3 row-sums-requires renewed-rows-requires returns)
