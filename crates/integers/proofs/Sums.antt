@@ -1,4 +1,5 @@
 -- Sums over a range. Assumes nothing.
+use mathlib.Core.Logic.{_≢_}
 use mathlib.Core.Path.{_≡_, refl, sym, ap₂}
 use Prim.Native.Nat.{ℕ, zero, suc, _+_, _*_, _≤_, _<_}
 use native.Mathlib.Decide.{decLt}
@@ -49,6 +50,24 @@ sumℕ-term n k f h = omega (arith, sumℕ-begin n (suc k) f h)
 pub sumℕ-bound : (n u : ℕ) (f : ℕ → ℕ) → ((k : ℕ) → k < n → f k ≤ u) → sumℕ n f ≤ n * u
 sumℕ-bound zero u f h = omega arith
 sumℕ-bound (suc n) u f h = omega (arith, sumℕ-bound n u f (λ k l. h k (omega arith)), h n (omega arith))
+
+-- one term alone counts
+pub sumℕ-only : (n k : ℕ) (f : ℕ → ℕ) → k < n → ((i : ℕ) → i < n → i ≢ k → f i ≡ 0) → sumℕ n f ≡ f k
+sumℕ-only zero k f l h = absurd (omega arith)
+sumℕ-only (suc n) k f l h = by (sumℕ-only n k f) (decLt k n)
+  where
+    by : (k < n → ((i : ℕ) → i < n → i ≢ k → f i ≡ 0) → sumℕ n f ≡ f k) → Dec (k < n) → sumℕ (suc n) f ≡ f k
+    by ih (yes m) = rw (ih m (λ i g. h i (omega arith)), h n (omega arith) (λ e. omega arith)) (omega arith)
+    by ih (no m) = let e : k ≡ n = omega arith in rw (e, sumℕ-zero n f (λ i g. h i (omega arith) (λ e. omega arith))) (omega arith)
+
+-- sums of sums: in the other order, and over all terms at once
+pub sumℕ-swap : (m n : ℕ) (f : ℕ → ℕ → ℕ) → sumℕ m (λ i. sumℕ n (f i)) ≡ sumℕ n (λ j. sumℕ m (λ i. f i j))
+sumℕ-swap zero n f = sym (sumℕ-zero n (λ _. 0) (λ _ _. refl))
+sumℕ-swap (suc m) n f = rw (sumℕ-swap m n f) (sym (sumℕ-add n (λ j. sumℕ m (λ i. f i j)) (f m)))
+
+pub sumℕ-fours : (n : ℕ) (f : ℕ → ℕ) → sumℕ n (λ t. sumℕ 4 (λ r. f (4 * t + r))) ≡ sumℕ (4 * n) f
+sumℕ-fours zero f = refl
+sumℕ-fours (suc n) f = let e : 4 * suc n ≡ 4 * n + 4 = omega arith in rw (sumℕ-fours n f, e) (sym (sumℕ-split (4 * n) 4 f))
 
 -- ---- of integers
 pub sumℤ-same : (n : ℕ) (f g : ℕ → ℤ) → ((k : ℕ) → k < n → f k ≡ g k) → sumℤ n f ≡ sumℤ n g

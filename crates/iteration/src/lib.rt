@@ -1,4 +1,4 @@
-// One iteration (document 01) on lists of exact length: S and c for each variable, four rows for each triple, which stand turned while a run goes.
+// One iteration (document 01) on lists of exact length: S and c for each variable, four rows for each triple, which stand transposed while a run goes.
 // Rows of fewer than 4,000 iterations are taken.
 ghost use mathlib.Core.Path.{_≡_};
 ghost use Prim.Native.Nat.{_*_};
@@ -8,7 +8,7 @@ ghost use Rattle.model.specs.Iteration.{State};
 ghost use Rattle.model.specs.Iteration as Iteration;
 ghost use Rattle.model.specs.Run.{settledBy};
 ghost use Rattle.model.specs.Bounds.{RowsWithin, held, Lent};
-ghost use Rattle.layout.specs.Turned.{straight};
+ghost use Rattle.layout.specs.Transposed.{straight};
 ghost use Rattle.values.specs.Divisors.{Tables};
 use model::Settings;
 
@@ -45,5 +45,5 @@ pub fn iterate(
         inverses,
         values,
     );
-    renewal::renew(triples, values, rows, count, settings.tolerance as u64)
+    renewal::renew_rows(triples, values, rows, count, settings.tolerance as u64)
 }

@@ -1,14 +1,15 @@
-// Rows in a list: those of one triple, and those of four triples, which stand turned while a run goes. So the compiler works four triples
+// Rows in a list: those of one triple, and those of four triples, which stand transposed while a run goes. So the compiler works four triples
 // out side by side.
 ghost use mathlib.Core.Path.{_≡_};
-ghost use Prim.Native.Nat.{ℕ, _+_, _-_, _*_, _%_, _≤_, _<_};
+ghost use Prim.Native.Nat.{ℕ, _+_, _-_, _*_, _/_, _%_, _≤_, _<_};
 ghost use lib.IntN.{natAbs};
 ghost use lib.ListN.{length};
 ghost use lib.Seq.{sets};
 ghost use Rattle.lists.specs.Tabulated.{tab};
 ghost use Rattle.model.specs.Splitting.{member};
 ghost use Rattle.model.specs.Iteration.{at, row};
-ghost use Rattle.layout.specs.Turned.{entry, lane, stored, straight};
+ghost use Rattle.model.specs.Limits.{mostTriples, mostRow};
+ghost use Rattle.layout.specs.Transposed.{cell, lane, stored, straight};
 
 // ---- one triple
 
@@ -20,15 +21,15 @@ fn index(x: u16) -> usize
 
 // The variable at position p of triple t.
 pub fn variable(triples: &[u16], t: usize, p: usize) -> usize
-    requires { ⌜ (t ≤ 8192) × (p < 3) × (3 * t + p < length (now triples)) ⌝ }
+    requires { ⌜ (t ≤ mostTriples) × (p < 3) × (3 * t + p < length (now triples)) ⌝ }
     ensures { λ v. ⌜ v ≡ member (now (triples .entry)) t p ⌝ }
 {
     index(triples[3 * t + p])
 }
 
-// Entries 4t to 4t + 3: the rows of triple t, where they are not turned.
+// Entries 4t to 4t + 3: the rows of triple t, where they are not transposed.
 pub fn load(rows: &[i32], t: usize) -> [i32; 4]
-    requires { ⌜ (t ≤ 8192) × (4 * t + 3 < length (now rows)) ⌝ }
+    requires { ⌜ (t ≤ mostTriples) × (4 * t + 3 < length (now rows)) ⌝ }
     ensures { λ l. ⌜ l ≡ tab 4 (λ r. row (now (rows .entry)) t r) ⌝ }
 {
     let i = 4 * t;
@@ -36,8 +37,8 @@ pub fn load(rows: &[i32], t: usize) -> [i32; 4]
 }
 
 pub fn store(rows: &mut [i32], t: usize, s: [i32; 4])
-    requires { ⌜ (t ≤ 8192) × (4 * t + 3 < length (now rows)) ⌝ }
-    requires { ⌜ ((r : ℕ) → natAbs (at s r) ≤ 524288000) ⌝ }
+    requires { ⌜ (t ≤ mostTriples) × (4 * t + 3 < length (now rows)) ⌝ }
+    requires { ⌜ ((r : ℕ) → natAbs (at s r) ≤ 4 * mostRow) ⌝ }
     ensures { λ _. ⌜ now (rows .exit) ≡ sets (now (rows .entry)) (4 * t) (tab 4 (at s)) ⌝ }
 {
     let i = 4 * t;
@@ -49,24 +50,24 @@ pub fn store(rows: &mut [i32], t: usize, s: [i32; 4])
 
 // ---- four triples
 
-// Entry j of each four.
+// Cell j of each four.
 fn column(q: [[i32; 4]; 4], j: usize) -> [i32; 4]
-    requires { ⌜ (j < 4) × ((k i : ℕ) → natAbs (entry q k i) ≤ 131072000) ⌝ }
-    ensures { λ l. ⌜ l ≡ tab 4 (λ k. entry q k j) ⌝ }
+    requires { ⌜ (j < 4) × ((k i : ℕ) → natAbs (cell q k i) ≤ mostRow) ⌝ }
+    ensures { λ l. ⌜ l ≡ tab 4 (λ k. cell q k j) ⌝ }
 {
     [q[0][j], q[1][j], q[2][j], q[3][j]]
 }
 
-// Rows turned, or turned back.
-fn turn(q: [[i32; 4]; 4]) -> [[i32; 4]; 4]
-    requires { ⌜ ((k j : ℕ) → natAbs (entry q k j) ≤ 131072000) ⌝ }
-    ensures { λ l. ⌜ l ≡ tab 4 (λ j. tab 4 (λ k. entry q k j)) ⌝ }
+// Rows transposed, or transposed back.
+fn transpose(q: [[i32; 4]; 4]) -> [[i32; 4]; 4]
+    requires { ⌜ ((k j : ℕ) → natAbs (cell q k j) ≤ mostRow) ⌝ }
+    ensures { λ l. ⌜ l ≡ tab 4 (λ j. tab 4 (λ k. cell q k j)) ⌝ }
 {
     [column(q, 0), column(q, 1), column(q, 2), column(q, 3)]
 }
 
 fn load_all(rows: &[i32], t: usize) -> [[i32; 4]; 4]
-    requires { ⌜ (t ≤ 8188) × (4 * t + 15 < length (now rows)) ⌝ }
+    requires { ⌜ (t + 4 ≤ mostTriples) × (4 * t + 15 < length (now rows)) ⌝ }
     ensures { λ l. ⌜ l ≡ tab 4 (λ k. tab 4 (λ j. row (now (rows .entry)) (t + k) j)) ⌝ }
 {
     [
@@ -78,10 +79,8 @@ fn load_all(rows: &[i32], t: usize) -> [[i32; 4]; 4]
 }
 
 fn store_all(rows: &mut [i32], t: usize, q: [[i32; 4]; 4])
-    requires { ⌜ (t ≤ 8188) × (4 * t + 15 < length (now rows)) × ((k j : ℕ) → natAbs (entry q k j) ≤ 131072000) ⌝ }
-    ensures { λ _. ⌜ now (rows .exit)
-        ≡ sets (sets (sets (sets (now (rows .entry)) (4 * t) (tab 4 (entry q 0))) (4 * (t + 1)) (tab 4 (entry q 1)))
-        (4 * (t + 2)) (tab 4 (entry q 2))) (4 * (t + 3)) (tab 4 (entry q 3)) ⌝ }
+    requires { ⌜ (t + 4 ≤ mostTriples) × (4 * t + 15 < length (now rows)) × ((k j : ℕ) → natAbs (cell q k j) ≤ mostRow) ⌝ }
+    ensures { λ _. ⌜ now (rows .exit) ≡ sets (now (rows .entry)) (4 * t) (tab 16 (λ j. cell q (j / 4) (j % 4))) ⌝ }
 {
     store(rows, t, q[0]);
     store(rows, t + 1, q[1]);
@@ -91,24 +90,24 @@ fn store_all(rows: &mut [i32], t: usize, q: [[i32; 4]; 4])
 
 // The rows of the four triples from t on.
 pub fn load_four(rows: &[i32], t: usize) -> [[i32; 4]; 4]
-    requires { ⌜ (t ≤ 8188) × (4 * t + 15 < length (now rows)) × ((i : ℕ) → 4 * t ≤ i → natAbs (at (now rows) i) ≤ 131072000) ⌝ }
+    requires { ⌜ (t + 4 ≤ mostTriples) × (4 * t + 15 < length (now rows)) × ((i : ℕ) → 4 * t ≤ i → natAbs (at (now rows) i) ≤ mostRow) ⌝ }
     ensures { λ l. ⌜ l ≡ tab 4 (lane (now (rows .entry)) t) ⌝ }
 {
-    turn(load_all(rows, t))
+    transpose(load_all(rows, t))
 }
 
 pub fn store_four(rows: &mut [i32], t: usize, q: [[i32; 4]; 4])
-    requires { ⌜ (t ≤ 8188) × (4 * t + 15 < length (now rows)) × ((k j : ℕ) → natAbs (entry q k j) ≤ 131072000) ⌝ }
+    requires { ⌜ (t + 4 ≤ mostTriples) × (4 * t + 15 < length (now rows)) × ((k j : ℕ) → natAbs (cell q k j) ≤ mostRow) ⌝ }
     ensures { λ _. ⌜ now (rows .exit) ≡ stored (now (rows .entry)) t q ⌝ }
 {
-    store_all(rows, t, turn(q))
+    store_all(rows, t, transpose(q))
 }
 
 // ---- all
 
-// The rows of all triples, turned back.
+// The rows of all triples, transposed back.
 pub fn straighten(rows: &mut [i32], count: usize)
-    requires { ⌜ (count ≤ 8192) × (4 * count ≡ length (now rows)) × ((i : ℕ) → natAbs (at (now rows) i) ≤ 131072000) ⌝ }
+    requires { ⌜ (count ≤ mostTriples) × (4 * count ≡ length (now rows)) × ((i : ℕ) → natAbs (at (now rows) i) ≤ mostRow) ⌝ }
     ensures { λ _. ⌜ now (rows .exit) ≡ straight count (now (rows .entry)) ⌝ }
 {
     let mut t = count % 4;

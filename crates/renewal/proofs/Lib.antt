@@ -1,2 +1,1 @@
 pub mod Renewal
-pub mod Squares

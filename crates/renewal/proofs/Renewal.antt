@@ -1,268 +1,267 @@
--- The rows, as one triple or four triples after the other are renewed: of T triples, whose rows stand in s, with the values c. Assumes nothing.
-use mathlib.Core.Bool.{Bool, true, false, _&&_}
-use mathlib.Core.List.{List}
+-- The rows of T triples, as one triple or four triples after the other are renewed with the values c. Assumes nothing.
+use mathlib.Core.Bool.{Bool, cond, true, false, _&&_}
+use mathlib.Core.List.{List, [], _∷_}
 use mathlib.Core.Path.{_≡_, refl, sym, ap, ap₂, _∙_}
-use Prim.Native.Nat.{ℕ, zero, suc, _+_, _-_, _*_, _/_, _%_, _^_, _≤_, _<_}
+use Prim.Native.Nat.{ℕ, _+_, _-_, _*_, _/_, _%_, _^_, _≤_, _<_}
 use native.Mathlib.Decide.{decLt}
+use native.Mathlib.Nat.{mul-le-mul}
 use native.Mathlib.Omega.{arith}
-use borrow.Author.Tests.{ltb-true, ltb-false, leb-true, leb-false, le-leb, lt-leb}
-use lib.Dec.{T, leb, ltb}
-use lib.IntN.{ℤ, pos, natAbs, _-ℤ_}
-use lib.ListN.{length}
+use borrow.Author.Tests.{ltb-true, ltb-false, leb-true, leb-false, le-leb, lt-leb, lt-ltb, le-ltb}
+use lib.Dec.{leb, ltb}
+use lib.IntN.{ℤ, pos, negsuc, natAbs, _*ℤ_}
+use lib.ListN.{length, getD}
 use lib.Seq.{sets}
 use Rattle.integers.specs.Sum.{sumℕ}
-use Rattle.integers.proofs.Sums.{sumℕ-same, sumℕ-begin, sumℕ-split}
+use Rattle.integers.proofs.Sums.{sumℕ-same, sumℕ-split, sumℕ-bound, sumℕ-swap, sumℕ-fours}
 use Rattle.integers.proofs.Linear.{about, abs-difference}
 use Rattle.lists.specs.Tabulated.{tab, over}
 use Rattle.lists.proofs.Tests.{and-left, and-false}
-use Rattle.lists.proofs.Tabulated.{length-tab, getD-tab, tab-same, tab-getD, length-over, over-in, over-out, over-sets, over-same, over-self, over-whole, over-under, tab-over}
-use Rattle.model.specs.Iteration.{at, sumAt, row, slack, multiplier, renewed, renewedAt}
+use Rattle.lists.proofs.Tabulated.{getD-tab, tab-same, tab-getD, length-over, over-in, over-out, over-sets, over-same, over-self}
+use Rattle.quotient.specs.Quotient.{unit}
+use Rattle.model.specs.Limits.{mostTriples, mostDone, mostRow}
 use Rattle.model.specs.Causes.{_if_}
+use Rattle.model.specs.Splitting.{member}
+use Rattle.model.specs.Iteration.{at, sumAt, row, slack, multiplier, renewed, renewedAt}
 use Rattle.model.specs.Run.{squareOfChange, changes, settledBy}
 use Rattle.model.specs.Bounds.{RowsWithin}
-use Rattle.model.specs.Splitting.{member}
-use Rattle.model.proofs.Bounds.{rowSum-bound, renewed-multiplier, renewed-slack, multiplier-change, changes-bound}
-use Rattle.model.proofs.Rows.{renewed-at}
-use Rattle.layout.specs.Turned.{entry, lane, place, straight}
-use Rattle.layout.proofs.Places.{place-first, place-four, entry-is, straight-first, straight-four, straight-within, by-place}
-use Rattle.renewal.specs.InPlace.{renewedIn, renewedAll}
+use Rattle.model.proofs.Rows.{at-tab}
+use Rattle.model.proofs.Bounds.{rowSum-bound, renewed-multiplier, renewed-slack, multiplier-change}
+use Rattle.rows.specs.Sides.{changeOf}
+use Rattle.rows.proofs.Four.{side-multiplier, side-slack}
+use Rattle.layout.specs.Transposed.{cell, lane, stored, place, straight}
+use Rattle.layout.proofs.Arranged.{arranged-at, sum-arranged}
+use Rattle.layout.proofs.Places.{place-first, place-four, cell-tab, cell-is, transposed}
+use Rattle.renewal.specs.InPlace.{Small, tripleChanges, fourChanges, renewedFour, renewedIn, renewedAll, Aligned, Left, renewedFrom, changesFrom, Renewed}
 
--- ---- the test of a loop that goes on while t is below n and neither total exceeds x
-pub going : (t n a b x : ℕ) → ((ltb t n && leb a x) && leb b x) ≡ true → t < n
-going t n a b x h = ltb-true t n (and-left (ltb t n) (leb a x) (and-left (ltb t n && leb a x) (leb b x) h))
+-- ---- how large
+pub small-abs : (z : ℤ) → Small z → natAbs z ≤ mostRow
+small-abs z h = omega (arith, about z, h .0, h .1)
 
-pub ended : (t n a b x : ℕ) → ((ltb t n && leb a x) && leb b x) ≡ false → a ≤ x → b ≤ x → n ≤ t
-ended t n a b x h p q = ltb-false t n (and-false (ltb t n) (leb a x) (and-false (ltb t n && leb a x) (leb b x) h (le-leb b x q)) (le-leb a x p))
+-- the rows of a triple and the cells of four triples, before and after
+pub old-rows : (s : List ℤ) (t : ℕ) → ((i : ℕ) → 4 * t ≤ i → Small (at s i)) → (r : ℕ) → natAbs (at (tab 4 (λ r. row s t r)) r) ≤ mostRow
+old-rows s t small r = at-tab (λ z. natAbs z ≤ mostRow) 4 (λ r. row s t r) r (λ _. small-abs (row s t r) (small (4 * t + r) (omega arith))) (omega arith)
 
--- t is where a four of T triples begins, or T
-pub record Aligned (T t : ℕ) : Type 0 where
-  pub least : T % 4 ≤ t
-  pub fours : (T - t) % 4 ≡ 0
-  pub most : t ≤ T
+pub old-cells : (s : List ℤ) (t : ℕ) → ((i : ℕ) → 4 * t ≤ i → Small (at s i)) → (k r : ℕ) → natAbs (cell (tab 4 (lane s t)) k r) ≤ mostRow
+old-cells s t small k r =
+    cell-tab (λ z. natAbs z ≤ mostRow) (λ k r. row s (t + r) k) k r (λ _ _. small-abs (row s (t + r) k) (small (4 * (t + r) + k) (omega arith))) (omega arith)
 
-pub four-left : (T t : ℕ) → Aligned T t → t < T → t + 4 ≤ T
-four-left T t a h = omega (arith, a .fours)
+module _ (ts : List ℕ) (c : List ℤ) (unit-most : (v : ℕ) → natAbs (at c v) ≤ unit) where
+  sum-small : (t r : ℕ) → r < 4 → natAbs (sumAt ts c t r) ≤ 3 * unit
+  sum-small t r l = rowSum-bound r _ _ _ l (unit-most (member ts t 0)) (unit-most (member ts t 1)) (unit-most (member ts t 2))
 
-pub next-four : (T t : ℕ) → Aligned T t → t < T → Aligned T (t + 4)
-next-four T t a h = record { least = omega (arith, a .least); fours = omega (arith, a .fours); most = four-left T t a h }
+  pub new-abs : (z : ℤ) (t r : ℕ) → r < 4 → Small z → natAbs (renewed z (sumAt ts c t r)) ≤ mostRow
+  new-abs z t r l h = let sum = sumAt ts c t r in let k = sum-small t r l in omega (arith, about (renewed z sum), renewed-multiplier z sum k, renewed-slack z sum k, h .0)
 
-module _ (T : ℕ) (ts : List ℕ) (s c : List ℤ) where
-  -- entry i, renewed; and what the list is with the first t triples renewed
-  abbrev pub new : ℕ → ℤ
-  new i = renewedIn T ts s c i
+  -- the square of a change: by 65,536 at most, on both sides
+  pub multiplier-most : (z : ℤ) (t r : ℕ) → r < 4 → Small z → changeOf (pos 1) z (renewed z (sumAt ts c t r)) ≤ 4294967296
+  multiplier-most z t r l h =
+      let sum = sumAt ts c t r in
+      let d = multiplier-change z sum (sum-small t r l) in
+      rw (side-multiplier z, side-multiplier (renewed z sum)) (mul-le-mul d d)
 
-  abbrev pub renewedTo : ℕ → List ℤ
-  renewedTo t = over (4 * t) new s
+  pub slack-most : (z : ℤ) (t r : ℕ) → r < 4 → Small z → changeOf (negsuc 0) z (renewed z (sumAt ts c t r)) ≤ 4294967296
+  slack-most z t r l h =
+      let sum = sumAt ts c t r in
+      let d = abs-difference (slack (renewed z sum)) (slack z) 65536 (omega (arith, renewed-slack z sum (sum-small t r l))) (omega (arith, h .1)) in
+      rw (side-slack z, side-slack (renewed z sum)) (mul-le-mul d d)
 
-  -- ---- one of the first triples, before and after
-  abbrev pub oldOne : ℕ → List ℤ
-  oldOne t = tab 4 (λ r. row s t r)
+  pub new-rows : (s : List ℤ) (t : ℕ) → ((i : ℕ) → 4 * t ≤ i → Small (at s i)) → (r : ℕ) → natAbs (at (tab 4 (λ r. renewed (row s t r) (sumAt ts c t r))) r) ≤ mostRow
+  new-rows s t small r =
+      at-tab (λ z. natAbs z ≤ mostRow) 4 (λ r. renewed (row s t r) (sumAt ts c t r)) r (λ l. new-abs (row s t r) t r l (small (4 * t + r) (omega arith))) (omega arith)
 
-  abbrev pub newOne : ℕ → List ℤ
-  newOne t = tab 4 (λ r. new (4 * t + r))
+  pub new-cells : (s : List ℤ) (t : ℕ) → ((i : ℕ) → 4 * t ≤ i → Small (at s i)) → (k r : ℕ) → natAbs (cell (renewedFour ts s c t) k r) ≤ mostRow
+  new-cells s t small k r =
+      cell-tab (λ z. natAbs z ≤ mostRow) (λ k r. renewed (row s (t + r) k) (sumAt ts c (t + k) r)) k r
+      (λ _ l. new-abs (row s (t + r) k) (t + k) r l (small (4 * (t + r) + k) (omega arith))) (omega arith)
 
-  pub old-one : (t : ℕ) → tab 4 (λ r. row (renewedTo t) t r) ≡ oldOne t
-  old-one t = tab-same 4 (λ r. row (renewedTo t) t r) (λ r. row s t r) (λ r l. over-out (4 * t) new s (4 * t + r) (pos 0) (omega arith))
+-- ---- totals that are not the whole ones where one of them exceeds x
+settled-is : (x a b A B : ℕ) → a ≤ A → b ≤ B → (a ≤ x → b ≤ x → (a ≡ A) × (b ≡ B)) → 1 if (leb a x && leb b x) ≡ 1 if (leb A x && leb B x)
+settled-is x a b A B h k w = by (leb a x) (leb b x) refl refl
+  where
+    none : (t : Bool) → (t && false) ≡ false
+    none true = refl
+    none false = refl
 
-  new-first : (t r : ℕ) → t < T % 4 → r < 4 → new (4 * t + r) ≡ renewed (row s t r) (sumAt ts c t r)
-  new-first t r h l =
+    by : (p q : Bool) → leb a x ≡ p → leb b x ≡ q → 1 if (leb a x && leb b x) ≡ 1 if (leb A x && leb B x)
+    by true true e f = let same = w (leb-true a x e) (leb-true b x f) in ap₂ (λ (u v : ℕ). 1 if (leb u x && leb v x)) (same .0) (same .1)
+    by true false e f = rw (e, f, lt-leb B x (omega (arith, leb-false b x f)), none (leb A x))
+    by false q e f = rw (e, lt-leb A x (omega (arith, leb-false a x e)))
+
+grown : (a f w A : ℕ) → a + f ≡ 0 + w → w ≡ A → (a ≤ A) × (f ≡ 0 → a ≡ A)
+grown a f w A p q = (omega arith, λ z. omega arith)
+
+-- nothing is done
+pub at-first : {T : ℕ} {s : List ℤ} → 4 * T ≡ length s → RowsWithin mostDone s → Left T 0 s
+at-first e w = record { long = sym e; small = λ i _. (w .multipliers i, w .slacks i) }
+
+module _ (T : ℕ) (ts : List ℕ) (c : List ℤ) where
+  -- ---- what is renewed, and what it adds to a total
+  abbrev new : List ℤ → ℕ → ℤ
+  new s i = renewedIn T ts s c i
+
+  abbrev entry : ℕ → List ℤ → ℕ → ℤ
+  entry t s i = cond (ltb i (4 * t)) (at s i) (new s i)
+
+  abbrev changesAt : ℤ → List ℤ → ℕ → ℕ
+  changesAt side s t = sumℕ 4 (λ r. changeOf side (row s t r) (new s (4 * t + r)))
+
+  done : (t : ℕ) (s : List ℤ) (i : ℕ) → i < 4 * t → entry t s i ≡ at s i
+  done t s i h = rw (lt-ltb i (4 * t) h)
+
+  to-do : (t : ℕ) (s : List ℤ) (i : ℕ) → 4 * t ≤ i → entry t s i ≡ new s i
+  to-do t s i h = rw (le-ltb i (4 * t) h)
+
+  -- ---- the n triples from t on are renewed: their entries are stored
+  module _ (n t : ℕ) (s s′ : List ℤ) (f : ℕ → ℤ) (room : t + n ≤ T) (left : Left T t s)
+      (put : s′ ≡ sets s (4 * t) (tab (4 * n) f)) (are : (j : ℕ) → j < 4 * n → f j ≡ new s (4 * t + j)) where
+    list-is : s′ ≡ over (4 * (t + n)) (entry t s) s
+    list-is =
+        let e : 4 * t + 4 * n ≡ 4 * (t + n) = omega arith in
+        put
+        ∙ ap₂ (λ (k l : List ℤ). sets k (4 * t) l)
+        (sym (over-same (4 * t) (entry t s) (at s) s (done t s) ∙ over-self (4 * t) s (pos 0) (omega (arith, left .long))))
+        (tab-same (4 * n) f (λ j. entry t s (4 * t + j)) (λ j h. are j h ∙ sym (to-do t s (4 * t + j) (omega arith))))
+        ∙ over-sets (4 * n) (4 * t) (entry t s) s (omega (arith, left .long))
+        ∙ ap (λ (m : ℕ). over m (entry t s) s) e
+
+    kept : (i : ℕ) → 4 * (t + n) ≤ i → at s′ i ≡ at s i
+    kept i h = ap (λ (l : List ℤ). at l i) list-is ∙ over-out (4 * (t + n)) (entry t s) s i (pos 0) h
+
+    entry-same : (i : ℕ) → Dec (i < 4 * (t + n)) → entry (t + n) s′ i ≡ entry t s i
+    entry-same i (yes l) = done (t + n) s′ i l ∙ ap (λ (k : List ℤ). at k i) list-is ∙ over-in (4 * (t + n)) (entry t s) s i (pos 0) l
+    entry-same i (no l) =
+        to-do (t + n) s′ i (omega arith)
+        ∙ ap (λ (z : ℤ). renewed z (sumAt ts c (place T i / 4) (place T i % 4))) (kept i (omega arith))
+        ∙ sym (to-do t s i (omega arith))
+
+    total : (side : ℤ) → sumℕ n (λ j. changesAt side s (t + j)) + changesFrom T ts c side (t + n) s′ ≡ changesFrom T ts c side t s
+    total side =
+        let m = T - (t + n) in
+        let e : n + m ≡ T - t = omega arith in
+        let same : (j : ℕ) → j < m → changesAt side s′ (t + n + j) ≡ changesAt side s (t + (n + j))
+        = λ j _. let g : t + (n + j) ≡ t + n + j = omega arith in
+            rw g (sumℕ-same 4 (λ r. changeOf side (row s′ (t + n + j) r) (new s′ (4 * (t + n + j) + r))) (λ r. changeOf side (row s (t + n + j) r) (new s (4 * (t + n + j) + r)))
+            (λ r _. rw (kept (4 * (t + n + j) + r) (omega arith)))) in
+        ap (λ (x : ℕ). sumℕ n (λ j. changesAt side s (t + j)) + x) (sumℕ-same m (λ j. changesAt side s′ (t + n + j)) (λ j. changesAt side s (t + (n + j))) same)
+        ∙ sym (sumℕ-split n m (λ j. changesAt side s (t + j)))
+        ∙ ap (λ (k : ℕ). sumℕ k (λ j. changesAt side s (t + j))) e
+
+    step : (m z a b : ℕ) → a ≡ m + sumℕ n (λ j. changesAt (pos 1) s (t + j)) → b ≡ z + sumℕ n (λ j. changesAt (negsuc 0) s (t + j)) → Renewed T ts c t (t + n) s s′ m a z b
+    step m z a b p q = record {
+      left = record {
+        long = ap length list-is ∙ length-over (4 * (t + n)) (entry t s) s (omega (arith, left .long)) ∙ left .long;
+        small = λ i h. rw (kept i h) (left .small i (omega arith));
+      };
+      rows = tab-same (4 * T) (entry (t + n) s′) (entry t s) (λ i _. entry-same i (decLt i (4 * (t + n))));
+      of-multipliers = omega (arith, total (pos 1));
+      of-slacks = omega (arith, total (negsuc 0));
+    }
+
+  -- ---- one of the first triples
+  new-first : (s : List ℤ) (t r : ℕ) → t < T % 4 → r < 4 → renewed (row s t r) (sumAt ts c t r) ≡ new s (4 * t + r)
+  new-first s t r h l =
       let d : (4 * t + r) / 4 ≡ t = omega arith in
       let m : (4 * t + r) % 4 ≡ r = omega arith in
       rw (place-first T (4 * t + r) (omega arith), d, m)
 
-  pub new-one : (t : ℕ) → t < T % 4 → tab 4 (λ r. renewed (row s t r) (sumAt ts c t r)) ≡ newOne t
-  new-one t h = tab-same 4 (λ r. renewed (row s t r) (sumAt ts c t r)) (λ r. new (4 * t + r)) (λ r l. sym (new-first t r h l))
+  module _ (t : ℕ) (s s′ old new′ : List ℤ) (m z a b : ℕ) (h : t < T % 4) (left : Left T t s)
+      (old-is : old ≡ tab 4 (λ r. row s t r)) (new-is : new′ ≡ tab 4 (λ r. renewed (row s t r) (sumAt ts c t r))) where
+    triple-total : (side : ℤ) → tripleChanges side old new′ ≡ sumℕ 1 (λ j. changesAt side s (t + j))
+    triple-total side =
+        let e : t + 0 ≡ t = omega arith in
+        ap₂ (tripleChanges side) old-is new-is
+        ∙ rw e (sumℕ-same 4 (λ r. changeOf side (row s t r) (renewed (row s t r) (sumAt ts c t r))) (λ r. changeOf side (row s t r) (new s (4 * t + r)))
+        (λ r l. ap (changeOf side (row s t r)) (new-first s t r h l)) ∙ omega arith)
 
-  pub put-one : (t : ℕ) → 4 * t + 4 ≤ length s → sets (renewedTo t) (4 * t) (newOne t) ≡ renewedTo (suc t)
-  put-one t h = let e : 4 * t + 4 ≡ 4 * suc t = omega arith in rw (over-sets 4 (4 * t) new s h, e)
+    pub triple-renewed : s′ ≡ sets s (4 * t) (tab 4 (at new′)) → a ≡ m + tripleChanges (pos 1) old new′ → b ≡ z + tripleChanges (negsuc 0) old new′ → Renewed T ts c t (t + 1) s s′ m a z b
+    triple-renewed put p q =
+        step 1 t s s′ (λ r. renewed (row s t r) (sumAt ts c t r)) (omega arith) left (put ∙ ap (λ (k : List ℤ). sets s (4 * t) (tab 4 (at k))) new-is) (λ r l. new-first s t r h l)
+        m z a b (p ∙ ap (λ (x : ℕ). m + x) (triple-total (pos 1))) (q ∙ ap (λ (x : ℕ). z + x) (triple-total (negsuc 0)))
 
-  -- ---- four triples, from t on: before and after, and the squares of the changes
-  abbrev pub oldFour : ℕ → List (List ℤ)
-  oldFour t = tab 4 (lane s t)
-
-  abbrev pub newFour : ℕ → List (List ℤ)
-  newFour t = tab 4 (λ k. tab 4 (λ r. renewed (row s (t + r) k) (sumAt ts c (t + k) r)))
-
-  abbrev pub fourChanges : (ℤ → ℕ) → ℕ → ℕ
-  fourChanges part t = sumℕ 4 (λ k. sumℕ 4 (λ r. squareOfChange (part (entry (oldFour t) k r)) (part (entry (newFour t) k r))))
-
-  -- entries before m do not matter to them
-  module _ (f : ℕ → ℤ) (m t : ℕ) (h : m ≤ 4 * t) where
-    kept : (r k : ℕ) → row (over m f s) (t + r) k ≡ row s (t + r) k
-    kept r k = over-out m f s (4 * (t + r) + k) (pos 0) (omega arith)
-
-    pub old-four : tab 4 (lane (over m f s) t) ≡ oldFour t
-    old-four = tab-same 4 (lane (over m f s) t) (lane s t) (λ k _. tab-same 4 (λ r. row (over m f s) (t + r) k) (λ r. row s (t + r) k) (λ r _. kept r k))
-
-    pub old-new : tab 4 (λ k. tab 4 (λ r. renewed (row (over m f s) (t + r) k) (sumAt ts c (t + k) r))) ≡ newFour t
-    old-new =
-        tab-same 4 (λ k. tab 4 (λ r. renewed (row (over m f s) (t + r) k) (sumAt ts c (t + k) r))) (λ k. tab 4 (λ r. renewed (row s (t + r) k) (sumAt ts c (t + k) r))) (λ k _.
-        tab-same 4 (λ r. renewed (row (over m f s) (t + r) k) (sumAt ts c (t + k) r)) (λ r. renewed (row s (t + r) k) (sumAt ts c (t + k) r)) (λ r _. ap (λ (z : ℤ). renewed z (sumAt ts c (t + k) r)) (kept r k)))
-
-  new-turned : (t k r : ℕ) → Aligned T t → k < 4 → r < 4 → new (4 * (t + r) + k) ≡ renewed (row s (t + r) k) (sumAt ts c (t + k) r)
-  new-turned t k r a l m =
+  -- ---- four triples
+  new-four : (s : List ℤ) (t k r : ℕ) → Aligned T t → k < 4 → r < 4 → renewed (row s (t + r) k) (sumAt ts c (t + k) r) ≡ new s (4 * (t + r) + k)
+  new-four s t k r a l m =
       let d : (4 * (t + k) + r) / 4 ≡ t + k = omega arith in
       let e : (4 * (t + k) + r) % 4 ≡ r = omega arith in
-      rw (place-four T t r k (a .least) (a .fours) (a .most) m l, d, e)
+      rw (place-four T t r k (omega (arith, a)) (a .1) (a .0) m l, d, e)
 
-  pub new-entry : (t k r : ℕ) → Aligned T t → k < 4 → r < 4 → entry (newFour t) k r ≡ new (4 * (t + r) + k)
-  new-entry t k r a l m = entry-is (λ k r. renewed (row s (t + r) k) (sumAt ts c (t + k) r)) k r l m ∙ sym (new-turned t k r a l m)
+  module _ (t : ℕ) (s s′ : List ℤ) (q : List (List (List ℤ))) (m z a b : ℕ) (al : Aligned T t) (h : t < T) (left : Left T t s)
+      (q-is : q ≡ tab 4 (lane s t) ∷ renewedFour ts s c t ∷ []) where
+    four-total : (side : ℤ) → fourChanges side (getD q 0 []) (getD q 1 []) ≡ sumℕ 4 (λ j. changesAt side s (t + j))
+    four-total side =
+        let new′ : ℕ → ℕ → ℤ = λ k r. renewed (row s (t + r) k) (sumAt ts c (t + k) r) in
+        ap (λ (q : List (List (List ℤ))). fourChanges side (getD q 0 []) (getD q 1 [])) q-is
+        ∙ sumℕ-swap 4 4 (λ k r. changeOf side (row s (t + r) k) (new′ k r))
+        ∙ sumℕ-same 4 (λ r. sumℕ 4 (λ k. changeOf side (row s (t + r) k) (new′ k r))) (λ r. changesAt side s (t + r)) (λ r l.
+        sumℕ-same 4 (λ k. changeOf side (row s (t + r) k) (new′ k r)) (λ k. changeOf side (row s (t + r) k) (new s (4 * (t + r) + k))) (λ k g.
+        ap (changeOf side (row s (t + r) k)) (new-four s t k r al g l)))
 
-  -- ---- the fours from `from` on, renewed
-  module _ (from : ℕ) where
-    abbrev pub rest : List ℤ
-    rest = over (4 * from) (at s) (tab (4 * T) new)
+    pub four-renewed : s′ ≡ stored s t (renewedFour ts s c t) → a ≡ m + fourChanges (pos 1) (getD q 0 []) (getD q 1 []) → b ≡ z + fourChanges (negsuc 0) (getD q 0 []) (getD q 1 [])
+        → Renewed T ts c t (t + 4) s s′ m a z b
+    four-renewed put e f =
+        step 4 t s s′ (λ j. cell (renewedFour ts s c t) (j % 4) (j / 4)) (omega (arith, al)) left put
+        (λ j l. let e : 4 * (t + j / 4) + j % 4 ≡ 4 * t + j = omega arith in
+        cell-is (λ k r. renewed (row s (t + r) k) (sumAt ts c (t + k) r)) (j % 4) (j / 4) (omega arith) (omega arith) ∙ new-four s t (j % 4) (j / 4) al (omega arith) (omega arith) ∙ ap (new s) e)
+        m z a b (e ∙ ap (λ (x : ℕ). m + x) (four-total (pos 1))) (f ∙ ap (λ (x : ℕ). z + x) (four-total (negsuc 0)))
 
-    pub rest-first : from ≤ T → 4 * T ≡ length s → over (4 * from) (at rest) s ≡ s
-    rest-first h e =
-        over-same (4 * from) (at rest) (at s) s (λ i l. over-in (4 * from) (at s) (tab (4 * T) new) i (pos 0) l) ∙ over-self (4 * from) s (pos 0) (omega arith)
+  -- ---- nothing more, one after another, all
+  pub renewed-none : (t m z : ℕ) (s : List ℤ) → Left T t s → Renewed T ts c t t s s m m z z
+  renewed-none t m z s left = record { left = left; rows = refl; of-multipliers = refl; of-slacks = refl }
 
-    pub rest-at : (i : ℕ) → 4 * from ≤ i → i < 4 * T → at rest i ≡ new i
-    rest-at i h k = over-out (4 * from) (at s) (tab (4 * T) new) i (pos 0) h ∙ getD-tab (4 * T) new i (pos 0) k
+  pub both : {t u v m m′ m″ z z′ z″ : ℕ} {s s′ s″ : List ℤ} → Renewed T ts c t u s s′ m m′ z z′ → Renewed T ts c u v s′ s″ m′ m″ z′ z″ → Renewed T ts c t v s s″ m m″ z z″
+  both p q = record { left = q .left; rows = q .rows ∙ p .rows; of-multipliers = q .of-multipliers ∙ p .of-multipliers; of-slacks = q .of-slacks ∙ p .of-slacks }
 
-    length-rest : from ≤ T → length rest ≡ 4 * T
-    length-rest h = length-over (4 * from) (at s) (tab (4 * T) new) (omega (arith, length-tab (4 * T) new)) ∙ length-tab (4 * T) new
+  pub all-done : (s : List ℤ) → length s ≡ 4 * T → renewedFrom T ts c T s ≡ s
+  all-done s e = tab-same (4 * T) (entry T s) (at s) (done T s) ∙ ap (λ (n : ℕ). tab n (at s)) (sym e) ∙ tab-getD s (pos 0)
 
-    pub rest-whole : from ≤ T → 4 * T ≡ length s → over (4 * T) (at rest) s ≡ rest
-    rest-whole h e = over-whole (4 * T) (at rest) s (omega arith) ∙ ap (λ n. tab n (at rest)) (sym (length-rest h)) ∙ tab-getD rest (pos 0)
+  -- ---- how large the totals get
+  module _ (few : T ≤ mostTriples) (unit-most : (v : ℕ) → natAbs (at c v) ≤ unit) where
+    most : (side : ℤ) → ((z : ℤ) (t r : ℕ) → r < 4 → Small z → changeOf side z (renewed z (sumAt ts c t r)) ≤ 4294967296) → (s : List ℤ) → Left T 0 s → changesFrom T ts c side 0 s ≤ 2 ^ 47
+    most side one s left =
+        omega (arith, sumℕ-bound (T - 0) (4 * 4294967296) (λ j. changesAt side s (0 + j)) (λ j _.
+        sumℕ-bound 4 4294967296 (λ r. changeOf side (row s (0 + j) r) (new s (4 * (0 + j) + r))) (λ r _.
+        one (row s (0 + j) r) (place T (4 * (0 + j) + r) / 4) (place T (4 * (0 + j) + r) % 4) (omega arith) (left .small (4 * (0 + j) + r) (omega arith)))))
 
-  -- the first d triples, then the rest: all of them
-  pub in-two : (d : ℕ) → d ≤ T → over (4 * d) (at (renewedTo d)) (tab (4 * T) (renewedIn T ts (renewedTo d) c)) ≡ tab (4 * T) new
-  in-two d h =
-      tab-over (4 * d) (4 * T) (at (renewedTo d)) (renewedIn T ts (renewedTo d) c) new (omega arith)
-      (λ i l. over-in (4 * d) new s i (pos 0) l)
-      (λ i l. ap (λ (z : ℤ). renewed z (sumAt ts c (place T i / 4) (place T i % 4))) (over-out (4 * d) new s i (pos 0) l))
+    pub totals-small : {u a b : ℕ} {s s′ : List ℤ} → Left T 0 s → Renewed T ts c 0 u s s′ 0 a 0 b → (a ≤ 2 ^ 47) × (b ≤ 2 ^ 47)
+    totals-small {s} left r =
+        (omega (arith, r .of-multipliers, most (pos 1) (multiplier-most ts c unit-most) s left), omega (arith, r .of-slacks, most (negsuc 0) (slack-most ts c unit-most) s left))
 
   -- ---- in the order of document 01
-  abbrev pub σ : List ℤ
-  σ = straight T s
+  module _ (s : List ℤ) where
+    new-place : (i : ℕ) → i < 4 * T → new s (place T i) ≡ renewedAt ts (straight T s) c i
+    new-place i h = rw (transposed T .back i h, arranged-at (4 * T) (place T) s i h)
 
-  pub all-straight : straight T (tab (4 * T) new) ≡ renewedAll T ts s c
-  all-straight =
-      tab-same (4 * T) (λ i. at (tab (4 * T) new) (place T i)) (renewedAt ts σ c) (by-place T (λ i. at (tab (4 * T) new) (place T i) ≡ renewedAt ts σ c i)
-      (λ t r h l.
-      rw (place-first T (4 * t + r) (omega arith), renewed-at ts σ c t r l, straight-first T s (4 * t + r) (omega arith))
-      (getD-tab (4 * T) new (4 * t + r) (pos 0) (omega arith) ∙ new-first t r h l))
-      (λ t k r f g h l m.
-      rw (place-four T t k r f g (omega arith) l m, renewed-at ts σ c (t + k) r m, straight-four T s t k r f g h l m)
-      (getD-tab (4 * T) new (4 * (t + r) + k) (pos 0) (omega arith) ∙ new-turned t k r (record { least = f; fours = g; most = omega arith }) l m)))
+    pub all-straight : straight T (renewedFrom T ts c 0 s) ≡ renewedAll T ts s c
+    all-straight =
+        tab-same (4 * T) (λ i. at (renewedFrom T ts c 0 s) (place T i)) (renewedAt ts (straight T s) c) (λ i h.
+        getD-tab (4 * T) (entry 0 s) (place T i) (pos 0) (transposed T .below i h) ∙ to-do 0 s (place T i) (omega arith) ∙ new-place i h)
 
-  -- ---- how large
-  module _ (small : (v : ℕ) → natAbs (at c v) ≤ 16384) where
-    sum-small : (t r : ℕ) → r < 4 → natAbs (sumAt ts c t r) ≤ 49152
-    sum-small t r l = rowSum-bound r _ _ _ l (small (member ts t 0)) (small (member ts t 1)) (small (member ts t 2))
-
-    renewal-small : (z sum : ℤ) → natAbs sum ≤ 49152 → multiplier z ≤ 32768 * 3999 → natAbs (renewed z sum) ≤ 131072000
-    renewal-small z sum k h = omega (arith, about (renewed z sum), renewed-multiplier z sum k, renewed-slack z sum k)
-
-    pub new-small : (i : ℕ) → multiplier (at s i) ≤ 32768 * 3999 → natAbs (new i) ≤ 131072000
-    new-small i h = renewal-small (at s i) (sumAt ts c (place T i / 4) (place T i % 4)) (sum-small (place T i / 4) (place T i % 4) (omega arith)) h
-
-    pub new-in : (t k r : ℕ) → r < 4 → multiplier (row s (t + r) k) ≤ 32768 * 3999 → natAbs (renewed (row s (t + r) k) (sumAt ts c (t + k) r)) ≤ 131072000
-    new-in t k r l h = renewal-small (row s (t + r) k) (sumAt ts c (t + k) r) (sum-small (t + k) r l) h
-
-  -- ---- the totals over the first t triples
-  module _ (within : RowsWithin 3999 s) (small : (v : ℕ) → natAbs (at c v) ≤ 16384) (few : T ≤ 8192) where
-    abbrev pub all : List ℤ
-    all = renewedAll T ts s c
-
-    row-all : (t r : ℕ) → t < T → r < 4 → row all t r ≡ renewed (row σ t r) (sumAt ts c t r)
-    row-all t r h l = getD-tab (4 * T) (renewedAt ts σ c) (4 * t + r) (pos 0) (omega arith) ∙ renewed-at ts σ c t r l
-
-    pub total-one : (part : ℤ → ℕ) (t : ℕ) → t < T % 4
-        → changes part (suc t) σ all ≡ changes part t σ all + sumℕ 4 (λ r. squareOfChange (part (at (oldOne t) r)) (part (at (newOne t) r)))
+    whole : (side : ℤ) (part : ℤ → ℕ) → ((z : ℤ) → multiplier (side *ℤ z) ≡ part z) → changesFrom T ts c side 0 s ≡ changes part T (straight T s) (renewedAll T ts s c)
     unfolding changes
-    total-one part t h =
-        ap (λ (n : ℕ). changes part t σ all + n)
-        (sumℕ-same 4 (λ r. squareOfChange (part (row σ t r)) (part (row all t r))) (λ r. squareOfChange (part (at (oldOne t) r)) (part (at (newOne t) r))) (λ r l.
-        rw (row-all t r (omega arith) l, straight-first T s (4 * t + r) (omega arith), getD-tab 4 (λ r. row s t r) r (pos 0) l, getD-tab 4 (λ r. new (4 * t + r)) r (pos 0) l, new-first t r h l)))
+    whole side part is =
+        let h : ℕ → ℕ = λ i. changeOf side (at s i) (new s i) in
+        let g : ℕ → ℕ = λ i. squareOfChange (part (at (straight T s) i)) (part (at (renewedAll T ts s c) i)) in
+        let all : T - 0 ≡ T = omega arith in
+        ap (λ (n : ℕ). sumℕ n (λ j. sumℕ 4 (λ r. h (4 * (0 + j) + r)))) all
+        ∙ sumℕ-same T (λ j. sumℕ 4 (λ r. h (4 * (0 + j) + r))) (λ t. sumℕ 4 (λ r. h (4 * t + r))) (λ t _. let e : 0 + t ≡ t = omega arith in rw e)
+        ∙ sumℕ-fours T h
+        ∙ sym (sum-arranged (transposed T) h)
+        ∙ sumℕ-same (4 * T) (λ i. h (place T i)) g (λ i l.
+        rw (is (at s (place T i)), is (new s (place T i)), arranged-at (4 * T) (place T) s i l, getD-tab (4 * T) (renewedAt ts (straight T s) c) i (pos 0) l, new-place i l))
+        ∙ sym (sumℕ-fours T g)
 
-    pub total-four : (part : ℤ → ℕ) (t : ℕ) → Aligned T t → t < T
-        → changes part (t + 4) σ all ≡ changes part t σ all + fourChanges part t
-    unfolding changes
-    total-four part t a h =
-        let of : ℕ → ℕ = λ t. sumℕ 4 (λ r. squareOfChange (part (row σ t r)) (part (row all t r))) in
-        let g = four-left T t a h in
-        sumℕ-split t 4 of
-        ∙ ap (λ (n : ℕ). changes part t σ all + n)
-        (sumℕ-same 4 (λ k. of (t + k)) (λ k. sumℕ 4 (λ r. squareOfChange (part (entry (oldFour t) k r)) (part (entry (newFour t) k r)))) (λ k l.
-        sumℕ-same 4 (λ r. squareOfChange (part (row σ (t + k) r)) (part (row all (t + k) r))) (λ r. squareOfChange (part (entry (oldFour t) k r)) (part (entry (newFour t) k r))) (λ r m.
-        rw (row-all (t + k) r (omega arith) m, straight-four T s t k r (a .least) (a .fours) h l m, entry-is (λ k r. row s (t + r) k) k r l m, entry-is (λ k r. renewed (row s (t + r) k) (sumAt ts c (t + k) r)) k r l m))))
-
-    straight-small : RowsWithin 3999 σ
-    straight-small = straight-within 3999 T s within
-
-    pub total-most : (part : ℤ → ℕ) → ((z sum : ℤ) → natAbs sum ≤ 49152 → slack z ≤ 65536 → natAbs (pos (part (renewed z sum)) -ℤ pos (part z)) ≤ 65536) → (t : ℕ) → t ≤ T → changes part t σ all ≤ 2 ^ 47
-    total-most part moves t h =
-        changes-bound part t σ all (omega arith) (λ u r k l. rw (row-all u r (omega arith) l) (moves (row σ u r) (sumAt ts c u r) (sum-small small u r l) (straight-small .slacks (4 * u + r))))
-
-    pub multipliers-most : (t : ℕ) → t ≤ T → changes multiplier t σ all ≤ 2 ^ 47
-    multipliers-most = total-most multiplier (λ z sum k _. multiplier-change z sum k)
-
-    pub slacks-most : (t : ℕ) → t ≤ T → changes slack t σ all ≤ 2 ^ 47
-    slacks-most = total-most slack (λ z sum k h. abs-difference (slack (renewed z sum)) (slack z) 65536 (omega (arith, renewed-slack z sum k)) (omega (arith, h)))
-
--- ---- the list after its first triples are renewed, and fours from there on
-module _ (T : ℕ) (ts : List ℕ) (s c : List ℤ) where
-  abbrev pub begun : List ℤ
-  begun = renewedTo T ts s c (T % 4)
-
-  abbrev pub begunRest : List ℤ
-  begunRest = rest T ts begun c (T % 4)
-
-  -- up to d
-  pub in-part : (d : ℕ) → T % 4 ≤ d → d ≤ T → 4 * T ≡ length s → over (4 * d) (at begunRest) begun ≡ renewedTo T ts s c d
-  in-part d h k e =
-      over-same (4 * d) (at begunRest) (new T ts s c) begun (λ i l. by i l (decLt i (4 * (T % 4))))
-      ∙ over-under (4 * (T % 4)) (4 * d) (new T ts s c) (new T ts s c) s (omega arith) (omega arith)
-    where
-      by : (i : ℕ) → i < 4 * d → Dec (i < 4 * (T % 4)) → at begunRest i ≡ new T ts s c i
-      by i l (yes m) = over-in (4 * (T % 4)) (at begun) (tab (4 * T) (new T ts begun c)) i (pos 0) m ∙ over-in (4 * (T % 4)) (new T ts s c) s i (pos 0) m
-      by i l (no m) =
-          rest-at T ts begun c (T % 4) i (omega arith) (omega arith)
-          ∙ ap (λ (z : ℤ). renewed z (sumAt ts c (place T i / 4) (place T i % 4))) (over-out (4 * (T % 4)) (new T ts s c) s i (pos 0) (omega arith))
-
-  begun-changes : (part : ℤ → ℕ) (t : ℕ) → T % 4 ≤ t → fourChanges T ts begun c part t ≡ fourChanges T ts s c part t
-  begun-changes part t h =
-      ap₂ (λ (o n : List (List ℤ)). sumℕ 4 (λ k. sumℕ 4 (λ r. squareOfChange (part (entry o k r)) (part (entry n k r)))))
-      (old-four T ts s c (new T ts s c) (4 * (T % 4)) t (omega arith)) (old-new T ts s c (new T ts s c) (4 * (T % 4)) t (omega arith))
-
-  added : (x y z p w q : ℕ) → x + y ≡ p → z ≡ w → q ≡ p + w → x + (y + z) ≡ q
-  added x y z p w q e f g = omega arith
-
-  module _ (within : RowsWithin 3999 s) (small : (v : ℕ) → natAbs (at c v) ≤ 16384) (few : T ≤ 8192) where
-    -- the totals of b fours
-    pub total-fours : (part : ℤ → ℕ) (b : ℕ) → T % 4 + 4 * b ≤ T
-        → changes part (T % 4) (σ T ts s c) (renewedAll T ts s c) + sumℕ b (λ j. fourChanges T ts begun c part (T % 4 + 4 * j)) ≡ changes part (T % 4 + 4 * b) (σ T ts s c) (renewedAll T ts s c)
-    total-fours part zero h = let e : T % 4 + 4 * 0 ≡ T % 4 = omega arith in rw e (omega arith)
-    total-fours part (suc b) h =
-        let t = T % 4 + 4 * b in
-        let e : T % 4 + 4 * suc b ≡ t + 4 = omega arith in
-        let a : Aligned T t = record { least = omega arith; fours = omega arith; most = omega arith } in
-        added _ _ _ _ _ _ (total-fours part b (omega arith)) (begun-changes part t (omega arith)) (rw e (total-four T ts s c within small few part t a (omega arith)))
-
-    -- where those lists and numbers go by other names
-    pub total-so-far : (part : ℤ → ℕ) (s₁ : List ℤ) (f m b : ℕ) → f ≡ T % 4 → s₁ ≡ renewedTo T ts s c f → m ≡ changes part f (σ T ts s c) (renewedAll T ts s c) → f + 4 * b ≤ T
-        → m + sumℕ b (λ j. fourChanges T ts s₁ c part (f + 4 * j)) ≡ changes part (f + 4 * b) (σ T ts s c) (renewedAll T ts s c)
-    total-so-far part s₁ f m b e g h k = rw (h, g, e) (total-fours part b (omega arith))
-
-and-none : (t : Bool) → 1 if (t && false) ≡ 0
-and-none true = refl
-and-none false = refl
-
--- ---- a total that exceeds x before all triples are counted exceeds it in the end
-module _ (x d T : ℕ) (s s′ : List ℤ) (h : d ≤ T) where
-  grown : (part : ℤ → ℕ) (a : ℕ) → a ≡ changes part d s s′ → leb a x ≡ false → leb (changes part T s s′) x ≡ false
-  unfolding changes
-  grown part a e l =
-      lt-leb (changes part T s s′) x (omega (arith, leb-false a x l, sumℕ-begin T d (λ t. sumℕ 4 (λ r. squareOfChange (part (row s t r)) (part (row s′ t r)))) h))
-
-  module _ (a b : ℕ) (p : a ≡ changes multiplier d s s′) (q : b ≡ changes slack d s s′) where
-    by-tests : (m n : Bool) → leb a x ≡ m → leb b x ≡ n → (m ≡ true → n ≡ true → d ≡ T) → 1 if (leb a x && leb b x) ≡ settledBy x T s s′
+    -- whether the totals of u triples tell that the run is settled
+    pub settled : (x u a b : ℕ) (s′ : List ℤ) → Renewed T ts c 0 u s s′ 0 a 0 b → (a ≤ x → b ≤ x → u ≡ T) → 1 if (leb a x && leb b x) ≡ settledBy x T (straight T s) (renewedAll T ts s c)
     unfolding settledBy
-    by-tests true true e f w = let same = w refl refl in ap₂ (λ (u v : ℕ). 1 if (leb u x && leb v x)) (p ∙ ap (λ (n : ℕ). changes multiplier n s s′) same) (q ∙ ap (λ (n : ℕ). changes slack n s s′) same)
-    by-tests true false e f w = rw (e, f, grown slack b q f) (sym (and-none (leb (changes multiplier T s s′) x)))
-    by-tests false n e f w = rw (e, grown multiplier a p e) refl
+    settled x u a b s′ r w =
+        let none : u ≡ T → (side : ℤ) → changesFrom T ts c side u s′ ≡ 0 = λ e side. let z : T - u ≡ 0 = omega arith in ap (λ (n : ℕ). sumℕ n (λ j. changesAt side s′ (u + j))) z in
+        let p = grown a _ _ _ (r .of-multipliers) (whole (pos 1) multiplier side-multiplier) in
+        let q = grown b _ _ _ (r .of-slacks) (whole (negsuc 0) slack side-slack) in
+        settled-is x a b _ _ (p .0) (q .0) (λ h k. (p .1 (none (w h k) (pos 1)), q .1 (none (w h k) (negsuc 0))))
 
-    pub settled-is : (a ≤ x → b ≤ x → d ≡ T) → 1 if (leb a x && leb b x) ≡ settledBy x T s s′
-    settled-is w = by-tests (leb a x) (leb b x) refl refl (λ u v. w (leb-true a x u) (leb-true b x v))
+-- ---- the loop's test: t is below n, and neither total exceeds x
+pub met : (t n a b x : ℕ) → ((ltb t n && leb a x) && leb b x) ≡ true → t < n
+met t n a b x h = ltb-true t n (and-left (ltb t n) (leb a x) (and-left (ltb t n && leb a x) (leb b x) h))
+
+pub unmet : (t n a b x : ℕ) → ((ltb t n && leb a x) && leb b x) ≡ false → a ≤ x → b ≤ x → n ≤ t
+unmet t n a b x h p q = ltb-false t n (and-false (ltb t n) (leb a x) (and-false (ltb t n && leb a x) (leb b x) h (le-leb b x q)) (le-leb a x p))

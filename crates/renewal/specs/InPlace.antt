@@ -1,25 +1,73 @@
 -- Rows that are renewed as they stand while a run goes. Definitions only.
+use mathlib.Core.Bool.{cond}
 use mathlib.Core.List.{List}
 use mathlib.Core.Path.{_≡_}
-use Prim.Native.Nat.{ℕ, _*_, _/_, _%_, _≤_, _<_}
-use lib.IntN.{ℤ, natAbs}
-use lib.ListN.{length, getD}
+use Prim.Native.Nat.{ℕ, _+_, _-_, _*_, _/_, _%_, _≤_}
+use lib.Dec.{ltb}
+use lib.IntN.{ℤ, pos, negsuc, natAbs}
+use lib.ListN.{length}
+use Rattle.integers.specs.Sum.{sumℕ}
 use Rattle.lists.specs.Tabulated.{tab}
-use Rattle.model.specs.Iteration.{at, sumAt, renewed, renewedAt}
-use Rattle.layout.specs.Turned.{place, straight}
+use Rattle.quotient.specs.Quotient.{unit}
+use Rattle.model.specs.Limits.{mostTriples, mostDone}
+use Rattle.model.specs.Splitting.{Named}
+use Rattle.model.specs.Iteration.{at, row, sumAt, multiplier, slack, renewed, renewedAt}
+use Rattle.rows.specs.Sides.{changeOf}
+use Rattle.layout.specs.Transposed.{cell, place, straight}
 
 -- lists of exactly T triples: their variables, and their rows
 abbrev pub Sized : ℕ → List ℕ → List ℤ → Type 0
-Sized T ts s = (T ≤ 8192) × (3 * T ≡ length ts) × (4 * T ≡ length s)
+Sized T ts s = (T ≤ mostTriples) × (3 * T ≡ length ts) × (4 * T ≡ length s)
 
 -- every variable of the triples has a value, and no value exceeds U
 abbrev pub Valued : List ℕ → List ℤ → Type 0
-Valued ts c = ((i : ℕ) → i < length ts → getD ts i 0 < length c) × ((v : ℕ) → natAbs (at c v) ≤ 16384)
+Valued ts c = Named ts (length c) × ((v : ℕ) → natAbs (at c v) ≤ unit)
 
--- entry i of the rows of T triples, which stand in s, renewed with the values c
+-- a row of fewer than 4,000 iterations
+abbrev pub Small : ℤ → Type 0
+Small z = (multiplier z ≤ 32768 * mostDone) × (slack z ≤ 65536)
+
+-- ---- the squares of the changes of one side: of the rows of a triple, and of four
+abbrev pub tripleChanges : ℤ → List ℤ → List ℤ → ℕ
+tripleChanges side old new = sumℕ 4 (λ r. changeOf side (at old r) (at new r))
+
+abbrev pub fourChanges : ℤ → List (List ℤ) → List (List ℤ) → ℕ
+fourChanges side old new = sumℕ 4 (λ k. sumℕ 4 (λ r. changeOf side (cell old k r) (cell new k r)))
+
+-- the four triples from t on, whose rows stand transposed in s, renewed with the values c
+abbrev pub renewedFour : List ℕ → List ℤ → List ℤ → ℕ → List (List ℤ)
+renewedFour ts s c t = tab 4 (λ k. tab 4 (λ r. renewed (row s (t + r) k) (sumAt ts c (t + k) r)))
+
+-- ---- the rows of T triples, which stand in s
+-- entry i, renewed with the values c
 abbrev pub renewedIn : ℕ → List ℕ → List ℤ → List ℤ → ℕ → ℤ
 renewedIn T ts s c i = renewed (at s i) (sumAt ts c (place T i / 4) (place T i % 4))
 
 -- all of them, in the order of document 01
 abbrev pub renewedAll : ℕ → List ℕ → List ℤ → List ℤ → List ℤ
 renewedAll T ts s c = tab (4 * T) (renewedAt ts (straight T s) c)
+
+-- t is where a four begins, or T
+abbrev pub Aligned : ℕ → ℕ → Type 0
+Aligned T t = (t ≤ T) × ((T - t) % 4 ≡ 0)
+
+-- the triples before t are done; the rows of the others are as they were
+pub record Left (T t : ℕ) (s : List ℤ) : Type 0 where
+  pub long : length s ≡ 4 * T
+  pub small : (i : ℕ) → 4 * t ≤ i → Small (at s i)
+
+module _ (T : ℕ) (ts : List ℕ) (c : List ℤ) where
+  -- what the list will be when they are renewed too
+  abbrev pub renewedFrom : ℕ → List ℤ → List ℤ
+  renewedFrom t s = tab (4 * T) (λ i. cond (ltb i (4 * t)) (at s i) (renewedIn T ts s c i))
+
+  -- what this will add to the total of one side
+  abbrev pub changesFrom : ℤ → ℕ → List ℤ → ℕ
+  changesFrom side t s = sumℕ (T - t) (λ j. sumℕ 4 (λ r. changeOf side (row s (t + j) r) (renewedIn T ts s c (4 * (t + j) + r))))
+
+  -- Rows and totals with t triples done, then with u: the list and the totals will be the same in the end.
+  pub record Renewed (t u : ℕ) (s s′ : List ℤ) (multipliers multipliers′ slacks slacks′ : ℕ) : Type 0 where
+    pub left : Left T u s′
+    pub rows : renewedFrom u s′ ≡ renewedFrom t s
+    pub of-multipliers : multipliers′ + changesFrom (pos 1) u s′ ≡ multipliers + changesFrom (pos 1) t s
+    pub of-slacks : slacks′ + changesFrom (negsuc 0) u s′ ≡ slacks + changesFrom (negsuc 0) t s

@@ -8,7 +8,7 @@ ghost use Rattle.quotient.specs.Quotient.{quotient};
 ghost use Rattle.model.specs.Iteration.{State};
 ghost use Rattle.model.specs.Run as Run;
 ghost use Rattle.model.specs.Bounds.{RowsWithin, held, Lent};
-ghost use Rattle.layout.specs.Turned.{straight};
+ghost use Rattle.layout.specs.Transposed.{straight};
 ghost use Rattle.values.specs.Divisors.{Tables};
 use model::Ending;
 use model::Settings;

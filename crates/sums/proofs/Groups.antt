@@ -1,4 +1,4 @@
--- The shares of groups of fours, whose rows stand turned, and the sums that they come to. Assumes nothing.
+-- The shares of groups of fours, whose rows stand transposed, and the sums that they come to. Assumes nothing.
 use mathlib.Core.List.{List, [], _∷_}
 use mathlib.Core.Path.{_≡_, sym, ap, ap₂, _∙_}
 use Prim.Native.Nat.{ℕ, _+_, _-_, _*_, _/_, _%_, _≤_, _<_}
@@ -13,7 +13,7 @@ use Rattle.lists.proofs.Tabulated.{length-tab, getD-tab, tab-same, over-in, ove
 use Rattle.model.specs.Iteration.{at, row, share, sumOf}
 use Rattle.model.specs.Bounds.{RowsWithin}
 use Rattle.model.proofs.Rows.{three}
-use Rattle.layout.specs.Turned.{entry, lane, straight}
+use Rattle.layout.specs.Transposed.{cell, lane, straight}
 use Rattle.layout.proofs.Places.{straight-first, straight-four}
 use Rattle.sums.proofs.Sums.{share-four, lane-share-small, part, part-same}
 
@@ -64,32 +64,32 @@ staged-is T s t p i h e g =
 
 -- ---- lists of which the first n entries are the shares of a group
 pub record Staged (s : List ℤ) (t n : ℕ) (q : List (List ℤ)) : Type 0 where
-  pub are : (p i : ℕ) → p < 3 → i < n → entry q p i ≡ staged s t p i
+  pub are : (p i : ℕ) → p < 3 → i < n → cell q p i ≡ staged s t p i
 
 pub staged-lists : (s : List ℤ) (t b n : ℕ) (x y z x′ y′ z′ : List ℤ) → n ≡ 4 * b
     → x′ ≡ over (4 * b) (staged s t 0) x → y′ ≡ over (4 * b) (staged s t 1) y → z′ ≡ over (4 * b) (staged s t 2) z → Staged s t n (x′ ∷ y′ ∷ z′ ∷ [])
 staged-lists s t b n x y z x′ y′ z′ e f g h =
     record {
-      are = λ p i l m. three (λ p. entry (x′ ∷ y′ ∷ z′ ∷ []) p i ≡ staged s t p i) (one 0 x x′ f i (omega (arith, e))) (one 1 y y′ g i (omega (arith, e))) (one 2 z z′ h i (omega (arith, e))) p l;
+      are = λ p i l m. three (λ p. cell (x′ ∷ y′ ∷ z′ ∷ []) p i ≡ staged s t p i) (one 0 x x′ f i (omega (arith, e))) (one 1 y y′ g i (omega (arith, e))) (one 2 z z′ h i (omega (arith, e))) p l;
     }
   where
     one : (p : ℕ) (old l : List ℤ) → l ≡ over (4 * b) (staged s t p) old → (i : ℕ) → i < 4 * b → at l i ≡ staged s t p i
     one p old l e i h = ap (λ (k : List ℤ). at k i) e ∙ over-in (4 * b) (staged s t p) old i (pos 0) h
 
 module _ {s : List ℤ} {t n : ℕ} {q : List (List ℤ)} (g : Staged s t n q) where
-  pub staged-small : RowsWithin 3999 s → (p i : ℕ) → p < 3 → i < n → natAbs (entry q p i) ≤ 524288000
+  pub staged-small : RowsWithin 3999 s → (p i : ℕ) → p < 3 → i < n → natAbs (cell q p i) ≤ 524288000
   staged-small w p i l h = rw (g .are p i l h) (lane-share-small s w (t + 4 * (i / 4)) (i % 4) p l)
 
   -- the group is given to sums of the triples before it
   pub group-more : (ts : List ℕ) (T N : ℕ) (l : List ℤ) → T % 4 ≤ t → (T - t) % 4 ≡ 0 → t + n ≤ T → l ≡ tab N (sumOf ts t (straight T s))
-      → tab (length l) (λ u. at l u +ℤ sumℤ n (λ i. part ts u (t + i) (λ p. entry q p i))) ≡ tab N (sumOf ts (t + n) (straight T s))
+      → tab (length l) (λ u. at l u +ℤ sumℤ n (λ i. part ts u (t + i) (λ p. cell q p i))) ≡ tab N (sumOf ts (t + n) (straight T s))
   unfolding sumOf
   group-more ts T N l h e k is =
       let S = straight T s in
-      let given : ℕ → ℕ → ℤ = λ u i. part ts u (t + i) (λ p. entry q p i) in
+      let given : ℕ → ℕ → ℤ = λ u i. part ts u (t + i) (λ p. cell q p i) in
       let all : ℕ → ℕ → ℤ = λ u t. part ts u t (share S t) in
       let long : length l ≡ N = ap length is ∙ length-tab N (sumOf ts t S) in
       let same : (u i : ℕ) → i < n → given u i ≡ all u (t + i)
-      = λ u i m. part-same ts u (t + i) (λ p. entry q p i) (share S (t + i)) (λ p v. g .are p i v m ∙ staged-is T s t p i h e (omega arith)) in
+      = λ u i m. part-same ts u (t + i) (λ p. cell q p i) (share S (t + i)) (λ p v. g .are p i v m ∙ staged-is T s t p i h e (omega arith)) in
       rw long (tab-same N (λ u. at l u +ℤ sumℤ n (given u)) (sumOf ts (t + n) S) (λ u m.
       ap₂ _+ℤ_ (ap (λ (k : List ℤ). at k u) is ∙ getD-tab N (sumOf ts t S) u (pos 0) m) (sumℤ-same n (given u) (λ i. all u (t + i)) (same u)) ∙ sym (sumℤ-split t n (all u))))

@@ -21,7 +21,7 @@ use Rattle.model.specs.Iteration.{at, sign, row, slack, multiplier, share, _whe
 use Rattle.model.specs.Bounds.{RowsWithin}
 use Rattle.model.specs.Splitting.{member}
 use Rattle.model.proofs.Rows.{signed-abs, at-tab}
-use Rattle.layout.specs.Turned.{lane}
+use Rattle.layout.specs.Transposed.{lane}
 
 -- one entry of a list of sums is increased
 pub increased : (l : List ℤ) (v : ℕ) (x : ℤ) → v < length l → set l v (at l v +ℤ x) ≡ tab (length l) (λ u. at l u +ℤ (x when eqb v u))

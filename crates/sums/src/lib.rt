@@ -12,7 +12,7 @@ ghost use Rattle.lists.specs.Tabulated.{tab, over};
 ghost use Rattle.model.specs.Splitting.{member};
 ghost use Rattle.model.specs.Iteration.{at, share, _when_, sumOf};
 ghost use Rattle.model.specs.Bounds.{RowsWithin};
-ghost use Rattle.layout.specs.Turned.{entry, lane, straight};
+ghost use Rattle.layout.specs.Transposed.{cell, lane, straight};
 
 fn clear(sums: &mut [i64])
     ensures { λ _. ⌜ now (sums .exit) ≡ tab (length (now (sums .entry))) (λ _. pos 0) ⌝ }
@@ -48,7 +48,7 @@ fn give(triples: &[u16], t: usize, shares: [i32; 3], sums: &mut [i64])
     add(sums, v2, shares[2]);
 }
 
-// The first triples, whose rows are not turned.
+// The first triples, whose rows are not transposed.
 fn give_first(triples: &[u16], rows: &[i32], first: usize, sums: &mut [i64])
     requires { ⌜ (first ≤ 8192) × (3 * first ≤ length (now triples)) × (4 * first ≤ length (now rows)) × (RowsWithin 3999 (now rows)) ⌝ }
     requires { ⌜ ((i : ℕ) → i < length (now triples) → getD (now triples) i 0 < length (now sums)) ⌝ }
@@ -110,7 +110,7 @@ fn give_group(
     requires { ⌜ ((i : ℕ) → i < length (now triples) → getD (now triples) i 0 < length (now sums)) × ((v : ℕ) → natAbs (at (now sums) v) ≤ 2 ^ 58) ⌝ }
     ensures { λ _. ⌜ now (sums .exit) ≡ tab (length (now (sums .entry))) (λ u. at (now (sums .entry)) u
         +ℤ sumℤ n (λ i. sumℤ 3 (λ p.
-        entry (now (x .entry) ∷ now (y .entry) ∷ now (z .entry) ∷ []) p i when eqb (member (now (triples .entry)) (t + i) p) u))) ⌝ }
+        cell (now (x .entry) ∷ now (y .entry) ∷ now (z .entry) ∷ []) p i when eqb (member (now (triples .entry)) (t + i) p) u))) ⌝ }
 {
     let mut i = 0;
     while i < n {

@@ -14,7 +14,7 @@ use Rattle.model.specs.Run.{settledBy}
 use Rattle.model.specs.Bounds.{RowsWithin, Ready, held, Bounds}
 use Rattle.model.specs.Splitting.{System}
 use Rattle.model.proofs.Bounds.{bounds}
-use Rattle.layout.specs.Turned.{straight}
+use Rattle.layout.specs.Transposed.{straight}
 use Rattle.layout.proofs.Places.{straight-back}
 use Rattle.iteration.proofs.iterate.Statement.{statement}
 use Rattle.iteration.proofs.iterate.Tie as tie
@@ -100,11 +100,11 @@ module _ (c : tie.After-renew) where
   unfolding iterate valuesOf
   values-length = ap length values-are ∙ length-tab (g (first given) .variables) (valueOf quotient (g (first given)) (first given .args .settings) (costs (first given)) (b (first given) .sums))
 
-cast-renew : tie.Need-cast-renew
-cast-renew c = search needs
+cast-renew-rows : tie.Need-cast-renew-rows
+cast-renew-rows c = search needs
 
-renew-requires-2 : tie.Need-renew-requires-2
-renew-requires-2 c κs =
+renew-rows-requires : tie.Need-renew-rows-requires
+renew-rows-requires c κs =
     let m = c .before .before .before .before in
     let s = first (given m) in
     ((is-ready s .triples, s .pre .0 .members, s .pre .0 .rows), (((λ i h. rw (values-length m) (s .pre .0 .below i h)), (λ v. rw (values-are m) (bound s .values v))), within s))
@@ -119,12 +119,12 @@ same-length-2 c = search needs
 same-length-3 : tie.Need-same-length-3
 same-length-3 c = search needs
 
-rows-are : (c : tie.After-rows) → straight (first (given (c .before .before .before .before .before .before)) .args .count) (c .before .renew2 .last .1 .1 .0) ≡ b (first (given (c .before .before .before .before .before .before))) .rows
+rows-are : (c : tie.After-rows) → straight (first (given (c .before .before .before .before .before .before)) .args .count) (c .before .renew-rows .last .1 .1 .0) ≡ b (first (given (c .before .before .before .before .before .before))) .rows
 unfolding iterate rowsOf
 rows-are c =
     let m = c .before .before .before .before .before .before in
     let s = first (given m) in
-    c .before .renew2 .ensures .0 .0 ∙ ap (λ (l : List ℤ). tab (4 * s .args .count) (renewedAt (g s .members) (a s .rows) l)) (values-are m)
+    c .before .renew-rows .ensures .0 .0 ∙ ap (λ (l : List ℤ). tab (4 * s .args .count) (renewedAt (g s .members) (a s .rows) l)) (values-are m)
 
 equal : (x y : State) → x .sums ≡ y .sums → x .values ≡ y .values → x .rows ≡ y .rows → x ≡ y
 equal x y p q r =
@@ -135,9 +135,9 @@ returns c =
     let m = c .before .before .before .before .before .before in
     let s = first (given m) in
     let settled : ℕ → List ℤ → List ℤ → ℕ = settledBy (s .args .settings .tolerance) in (
-      equal (record { sums = given m .gather .last .1 .1 .1 .0; values = m .renew .last .1 .1 .1 .1 .1 .1 .1 .0; rows = straight (s .args .count) (c .before .renew2 .last .1 .1 .0) }) (b s)
+      equal (record { sums = given m .gather .last .1 .1 .1 .0; values = m .renew .last .1 .1 .1 .1 .1 .1 .1 .0; rows = straight (s .args .count) (c .before .renew-rows .last .1 .1 .0) }) (b s)
           (sums-are (given m)) (values-are m) (rows-are c),
-      (c .before .renew2 .ensures .0 .1, c .before .renew2 .ensures .1 ∙ ap (settled (s .args .count) (a s .rows)) (sym (c .before .renew2 .ensures .0 .0))),
+      (c .before .renew-rows .ensures .0 .1, c .before .renew-rows .ensures .1 ∙ ap (settled (s .args .count) (a s .rows)) (sym (c .before .renew-rows .ensures .0 .0))),
     )
 
 pub iterate-spec : {M : Type 1} → statement M
@@ -146,8 +146,8 @@ iterate-spec =
     (tie.spec
     gather-requires
     renew-requires
-    cast-renew
-    renew-requires-2
+    cast-renew-rows
+    renew-rows-requires
     same-length
     same-length-2
     same-length-3

@@ -11,27 +11,6 @@ use borrow.Author.Needs.{needs}
 use Rattle.layout.proofs.load_all.Statement.{statement}
 use Rattle.layout.proofs.load_all.Tie as tie
 
-load-requires : tie.Need-load-requires
-load-requires c κs = search needs
-
-add-load : tie.Need-add-load
-add-load c = search needs
-
-load-requires-2 : tie.Need-load-requires-2
-load-requires-2 c κs = search needs
-
-add-load-2 : tie.Need-add-load-2
-add-load-2 c = search needs
-
-load-requires-3 : tie.Need-load-requires-3
-load-requires-3 c κs = search needs
-
-add-load-3 : tie.Need-add-load-3
-add-load-3 c = search needs
-
-load-requires-4 : tie.Need-load-requires-4
-load-requires-4 c κs = search needs
-
 returns : tie.Need-returns
 returns c =
     let s = c .before .before .before .before in
@@ -42,13 +21,5 @@ returns c =
 
 pub load-all-spec : {M : Type 1} → statement M
 load-all-spec =
-    tie.close
-    (tie.spec
-    load-requires
-    add-load
-    load-requires-2
-    add-load-2
-    load-requires-3
-    add-load-3
-    load-requires-4
-    returns)
+    tie.close (tie.spec (λ c κs. search needs) (λ c. search needs) (λ c κs. search needs) (λ c. search needs) (λ c κs. search needs) (λ c. search needs)
+    (λ c κs. search needs) returns)

@@ -8,8 +8,8 @@ use lib.ListN.{length}
 use Rattle.lists.specs.Tabulated.{over}
 use Rattle.lists.proofs.Tabulated.{getD-tab, tab-same, length-over, over-out, over-same, over-self, over-whole}
 use Rattle.model.specs.Iteration.{at, row}
-use Rattle.layout.specs.Turned.{entry, stored, place, straight}
-use Rattle.layout.proofs.Places.{entry-tab, entry-is, four-more, straight-first, straight-four}
+use Rattle.layout.specs.Transposed.{cell, stored, place, straight}
+use Rattle.layout.proofs.Places.{cell-tab, cell-is, four-more, straight-first, straight-four}
 use Rattle.layout.proofs.straighten.Statement.{statement}
 use Rattle.layout.proofs.straighten.Tie as tie
 
@@ -49,20 +49,20 @@ room c = omega (arith, c .before .loop .inv .1, c .loop-test .taken)
 load-all-requires : tie.Need-load-all-requires Inv-loop μ-loop
 load-all-requires c κs = let l = c .before .before in (omega (arith, start l .pre .0, room (c .before)), omega (arith, long l, room (c .before)))
 
-read : (c : tie.After-load-all Inv-loop μ-loop) (k j : ℕ) → k < 4 → j < 4 → let l = c .before .before .before in entry (c .load-all .result) k j ≡ row (ss l) (l .loop .t + k) j
+read : (c : tie.After-load-all Inv-loop μ-loop) (k j : ℕ) → k < 4 → j < 4 → let l = c .before .before .before in cell (c .load-all .result) k j ≡ row (ss l) (l .loop .t + k) j
 read c k j h m =
     let l = c .before .before .before in
     let t = l .loop .t in
-    ap (λ (q : List (List ℤ)). entry q k j) (c .load-all .ensures)
-    ∙ entry-is (λ k j. row (l .loop .rows) (t + k) j) k j h m
+    ap (λ (q : List (List ℤ)). cell q k j) (c .load-all .ensures)
+    ∙ cell-is (λ k j. row (l .loop .rows) (t + k) j) k j h m
     ∙ ap (λ (s : List ℤ). row s (t + k) j) (l .loop .inv .3)
     ∙ over-out (4 * t) (goal l) (ss l) (4 * (t + k) + j) (pos 0) (omega arith)
 
-within : (c : tie.After-load-all Inv-loop μ-loop) (k j : ℕ) → natAbs (entry (c .load-all .result) k j) ≤ 131072000
+within : (c : tie.After-load-all Inv-loop μ-loop) (k j : ℕ) → natAbs (cell (c .load-all .result) k j) ≤ 131072000
 within c k j =
     let l = c .before .before .before in
     let t = l .loop .t in
-    rw (c .load-all .ensures) (entry-tab (λ z. natAbs z ≤ 131072000) (λ k j. row (l .loop .rows) (t + k) j) k j (λ h m.
+    rw (c .load-all .ensures) (cell-tab (λ z. natAbs z ≤ 131072000) (λ k j. row (l .loop .rows) (t + k) j) k j (λ h m.
     rw (l .loop .inv .3, over-out (4 * t) (goal l) (ss l) (4 * (t + k) + j) (pos 0) (omega arith)) (start l .pre .2 (4 * (t + k) + j))) (omega arith))
 
 store-four-requires : tie.Need-store-four-requires Inv-loop μ-loop
@@ -112,15 +112,4 @@ returns c =
 
 pub straighten-spec : {M : Type 1} → statement M
 straighten-spec =
-    tie.close
-    (tie.spec
-    Inv-loop
-    μ-loop
-    loop-holds
-    load-all-requires
-    store-four-requires
-    add-t
-    loop-less
-    loop-again
-    same-length
-    returns)
+    tie.close (tie.spec Inv-loop μ-loop loop-holds load-all-requires store-four-requires add-t loop-less loop-again same-length returns)

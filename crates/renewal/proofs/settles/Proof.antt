@@ -11,4 +11,5 @@ returns-2 : tie.Need-returns-2
 returns-2 c = sym (ap (λ t. 1 if t) (c .if1 .left))
 
 pub settles-spec : {M : Type 1} → statement M
-settles-spec = tie.close (tie.spec returns returns-2)
+settles-spec =
+    tie.close (tie.spec returns returns-2)

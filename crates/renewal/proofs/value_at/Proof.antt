@@ -9,18 +9,6 @@ use Rattle.model.specs.Iteration.{at}
 use Rattle.renewal.proofs.value_at.Statement.{statement}
 use Rattle.renewal.proofs.value_at.Tie as tie
 
-variable-requires : tie.Need-variable-requires
-variable-requires c κs = search needs
-
-mul-wide : tie.Need-mul-wide
-mul-wide c = search needs
-
-shared-slice-copy-out-wide : tie.Need-shared-slice-copy-out-wide
-shared-slice-copy-out-wide c = search needs
-
-wide-requires : tie.Need-wide-requires
-wide-requires c κs = search needs
-
 returns : tie.Need-returns
 returns c =
     let s = c .before .before .before .before in
@@ -30,5 +18,4 @@ returns c =
 
 pub value-at-spec : {M : Type 1} → statement M
 value-at-spec =
-    tie.close
-    (tie.spec variable-requires mul-wide shared-slice-copy-out-wide wide-requires returns)
+    tie.close (tie.spec (λ c κs. search needs) (λ c. search needs) (λ c. search needs) (λ c κs. search needs) returns)

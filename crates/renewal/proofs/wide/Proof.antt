@@ -16,4 +16,5 @@ returns : tie.Need-returns
 returns c = stored (value c) w32 tt .is
 
 pub wide-spec : {M : Type 1} → statement M
-wide-spec = tie.close (tie.spec cast-result returns)
+wide-spec =
+    tie.close (tie.spec cast-result returns)

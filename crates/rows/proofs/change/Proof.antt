@@ -28,18 +28,6 @@ new c =
 difference : (c : tie.After-wide2) → Worth (toZ w64 (ofZ w64 (c .before .before .wide .result)) -ℤ toZ w64 (ofZ w64 (c .wide2 .result))) (pos (multiplier (c .before .before .before .before .args .b)) -ℤ pos (multiplier (c .before .before .before .before .args .a))) 262144000
 difference c = minus (new (c .before .before)) (old c)
 
-positive-requires : tie.Need-positive-requires
-positive-requires c κs = search needs
-
-wide-requires : tie.Need-wide-requires
-wide-requires c κs = search needs
-
-positive-requires-2 : tie.Need-positive-requires-2
-positive-requires-2 c κs = search needs
-
-wide-requires-2 : tie.Need-wide-requires-2
-wide-requires-2 c κs = search needs
-
 sub-square : tie.Need-sub-square
 sub-square c = fits (difference c) w64 tt
 
@@ -51,12 +39,4 @@ returns c = c .square .ensures ∙ ap (λ (z : ℤ). natAbs z * natAbs z) (store
 
 pub change-spec : {M : Type 1} → statement M
 change-spec =
-    tie.close
-    (tie.spec
-    positive-requires
-    wide-requires
-    positive-requires-2
-    wide-requires-2
-    sub-square
-    square-requires
-    returns)
+    tie.close (tie.spec (λ c κs. search needs) (λ c κs. search needs) (λ c κs. search needs) (λ c κs. search needs) sub-square square-requires returns)

@@ -20,20 +20,8 @@ module _ (s : tie.Start) where
   new : Worth (raw (s .args .side) *ℤ raw (at (s .args .t2) (s .args .r))) (s .args .side *ℤ at (s .args .t2) (s .args .r)) 131072000
   new = times side (held w32 (at (s .args .t2) (s .args .r)) 131072000 tt (s .pre .3))
 
-mul-change : tie.Need-mul-change
-mul-change c = search needs
-
-array-copy-out-change : tie.Need-array-copy-out-change
-array-copy-out-change c = search needs
-
 mul-change-2 : tie.Need-mul-change-2
 mul-change-2 c = fits (old (c .before)) w32 tt
-
-mul-change-3 : tie.Need-mul-change-3
-mul-change-3 c = search needs
-
-array-copy-out-change-2 : tie.Need-array-copy-out-change-2
-array-copy-out-change-2 c = search needs
 
 mul-change-4 : tie.Need-mul-change-4
 mul-change-4 c = fits (new (c .before .before)) w32 tt
@@ -48,13 +36,4 @@ returns c =
 
 pub change-at-spec : {M : Type 1} → statement M
 change-at-spec =
-    tie.close
-    (tie.spec
-    mul-change
-    array-copy-out-change
-    mul-change-2
-    mul-change-3
-    array-copy-out-change-2
-    mul-change-4
-    change-requires
-    returns)
+    tie.close (tie.spec (λ c. search needs) (λ c. search needs) mul-change-2 (λ c. search needs) (λ c. search needs) mul-change-4 change-requires returns)

@@ -1,17 +1,16 @@
 -- `rows::changes` meets its contract. Assumes nothing.
 use mathlib.Core.Path.{_≡_, ap, _∙_}
-use Prim.Native.Nat.{ℕ, _+_, _≤_}
-use native.Mathlib.Nat.{mul-le-mul}
+use Prim.Native.Nat.{ℕ, _+_, _*_, _≤_}
 use native.Mathlib.Omega.{arith}
-use lib.IntN.{ℤ, natAbs, _*ℤ_}
+use lib.IntN.{ℤ}
 use mir.Syntax.{w32}
 use Rattle.integers.specs.Sum.{sumℕ}
 use Rattle.integers.proofs.Sums.{sumℕ-bound}
-use Rattle.integers.proofs.Linear.{abs-mul}
 use Rattle.integers.proofs.Machine.{Worth, within-raw, held}
-use Rattle.model.specs.Iteration.{at, multiplier}
-use Rattle.model.specs.Run.{squareOfChange}
-use Rattle.rows.proofs.Four.{sum-four, square-small, multiplier-small}
+use Rattle.model.specs.Limits.{mostRow}
+use Rattle.model.specs.Iteration.{at}
+use Rattle.rows.specs.Sides.{changeOf, mostChanges}
+use Rattle.rows.proofs.Four.{sum-four, change-small}
 use Rattle.rows.proofs.Signs.{raw}
 use Rattle.rows.proofs.changes.Statement.{statement}
 use Rattle.rows.proofs.changes.Tie as tie
@@ -19,22 +18,13 @@ use Rattle.rows.proofs.changes.Tie as tie
 module _ (s : tie.Start) where
   -- the square at row r
   abbrev of : ℤ → ℕ → ℕ
-  of side r = squareOfChange (multiplier (side *ℤ at (s .args .old) r)) (multiplier (side *ℤ at (s .args .new) r))
+  of side r = changeOf side (at (s .args .old) r) (at (s .args .new) r)
 
   side : Worth (raw (s .args .side)) (s .args .side) 1
   side = held w32 (s .args .side) 1 tt (s .pre .0)
 
   is : (r n : ℕ) → n ≡ of (raw (s .args .side)) r → n ≡ of (s .args .side) r
   is r n e = e ∙ ap (λ (z : ℤ). of z r) (side .is)
-
-  sided : (z : ℤ) → natAbs z ≤ 131072000 → natAbs (s .args .side *ℤ z) ≤ 131072000
-  sided z h = rw (abs-mul (s .args .side) z) (mul-le-mul (s .pre .0) h)
-
-  small : (r : ℕ) → of (s .args .side) r ≤ 17179869184000000
-  small r =
-      let x = at (s .args .old) r in
-      let y = at (s .args .new) r in
-      square-small multiplier multiplier-small (s .args .side *ℤ x) (s .args .side *ℤ y) (sided x (s .pre .1 r .0), sided y (s .pre .1 r .1))
 
 change-at-requires : tie.Need-change-at-requires
 change-at-requires c κs = (omega arith, within-raw (side c), c .pre .1 _ .0, c .pre .1 _ .1)
@@ -58,13 +48,15 @@ summed c =
     sum-four (of s (s .args .side)) _ _ _ _
     (is s 0 _ (c .before .before .before .change-at .ensures)) (is s 1 _ (c .before .before .change-at2 .ensures)) (is s 2 _ (c .before .change-at3 .ensures)) (is s 3 _ (c .change-at4 .ensures))
 
+small : (c : tie.After-change-at4) → sumℕ 4 (of (start c) (start c .args .side)) ≤ mostChanges
+small c = let s = start c in sumℕ-bound 4 (mostRow * mostRow) (of s (s .args .side)) (λ r _. change-small (s .args .side) (s .pre .0) _ _ (s .pre .1 r))
+
 added-requires : tie.Need-added-requires
-added-requires c κs = let s = start c in omega (arith, summed c, sumℕ-bound 4 17179869184000000 (of s (s .args .side)) (λ r _. small s r))
+added-requires c κs = omega (arith, summed c, small c)
 
 returns : tie.Need-returns
-returns c = c .added .ensures ∙ summed (c .before)
+returns c = (c .added .ensures ∙ summed (c .before), omega (arith, c .added .ensures, summed (c .before), small (c .before)))
 
 pub changes-spec : {M : Type 1} → statement M
 changes-spec =
-    tie.close
-    (tie.spec change-at-requires change-at-requires-2 change-at-requires-3 change-at-requires-4 added-requires returns)
+    tie.close (tie.spec change-at-requires change-at-requires-2 change-at-requires-3 change-at-requires-4 added-requires returns)

@@ -11,18 +11,6 @@ use Rattle.rows.proofs.Signs.{is-minus, is-plus}
 use Rattle.rows.proofs.plus.Statement.{statement}
 use Rattle.rows.proofs.plus.Tie as tie
 
-mul-if1 : tie.Need-mul-if1
-mul-if1 c = search needs
-
-mul-if1-2 : tie.Need-mul-if1-2
-mul-if1-2 c = search needs
-
-index-1-if1 : tie.Need-index-1-if1
-index-1-if1 c = search needs
-
-index-2-if1 : tie.Need-index-2-if1
-index-2-if1 c = search needs
-
 minus : (x : ℤ) → pos 0 ≡ negsuc 0 *ℤ x +ℤ x
 minus x = rw (split x) (simp toℕ (omega arith))
 
@@ -42,4 +30,5 @@ returns-2 c =
     rw (held w32 (s .args .x) 16384 tt (s .pre .2) .is, is-plus (s .args .r) (s .args .p) (s .pre .0) (s .pre .1) (c .if1 .left)) (twice (s .args .x))
 
 pub plus-spec : {M : Type 1} → statement M
-plus-spec = tie.close (tie.spec mul-if1 mul-if1-2 index-1-if1 index-2-if1 returns returns-2)
+plus-spec =
+    tie.close (tie.spec (λ c. search needs) (λ c. search needs) (λ c. search needs) (λ c. search needs) returns returns-2)

@@ -25,4 +25,5 @@ returns-2 c =
     same (c .before) ∙ make-≡ z (pos (multiplier z)) (omega (arith, about z, ltZ-false z (pos 0) (ap (λ (z : ℤ). ltZ z (pos 0)) (sym (same (c .before))) ∙ c .if1 .left)))
 
 pub positive-spec : {M : Type 1} → statement M
-positive-spec = tie.close (tie.spec returns returns-2)
+positive-spec =
+    tie.close (tie.spec returns returns-2)

@@ -15,18 +15,6 @@ use Rattle.rows.proofs.Signs.{raw}
 use Rattle.rows.proofs.share.Statement.{statement}
 use Rattle.rows.proofs.share.Tie as tie
 
-signed-requires : tie.Need-signed-requires
-signed-requires c κs = search needs
-
-signed-requires-2 : tie.Need-signed-requires-2
-signed-requires-2 c κs = search needs
-
-signed-requires-3 : tie.Need-signed-requires-3
-signed-requires-3 c κs = search needs
-
-signed-requires-4 : tie.Need-signed-requires-4
-signed-requires-4 c κs = search needs
-
 -- what a call of `signed` gave
 given : (s : tie.Start) (r : ℕ) (x z : ℤ) → r < 4 → natAbs x ≤ 131072000 → mag z < 2 ^ hbits w32 → z ≡ sign r (s .args .p) *ℤ raw x → Worth (raw z) (sign r (s .args .p) *ℤ x) 131072000
 given s r x z h k f e =
@@ -73,13 +61,5 @@ returns c =
 
 pub share-spec : {M : Type 1} → statement M
 share-spec =
-    tie.close
-    (tie.spec
-    signed-requires
-    signed-requires-2
-    add-result
-    signed-requires-3
-    add-result-2
-    signed-requires-4
-    add-result-3
+    tie.close (tie.spec (λ c κs. search needs) (λ c κs. search needs) add-result (λ c κs. search needs) add-result-2 (λ c κs. search needs) add-result-3
     returns)

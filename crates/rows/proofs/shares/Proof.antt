@@ -73,13 +73,4 @@ returns c =
 
 pub shares-spec : {M : Type 1} → statement M
 shares-spec =
-    tie.close
-    (tie.spec
-    size-at-requires
-    size-at-requires-2
-    size-at-requires-3
-    size-at-requires-4
-    share-requires
-    share-requires-2
-    share-requires-3
-    returns)
+    tie.close (tie.spec size-at-requires size-at-requires-2 size-at-requires-3 size-at-requires-4 share-requires share-requires-2 share-requires-3 returns)

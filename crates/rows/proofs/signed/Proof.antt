@@ -11,18 +11,6 @@ use Rattle.rows.proofs.Signs.{raw, is-minus, is-plus}
 use Rattle.rows.proofs.signed.Statement.{statement}
 use Rattle.rows.proofs.signed.Tie as tie
 
-mul-if1 : tie.Need-mul-if1
-mul-if1 c = search needs
-
-mul-if1-2 : tie.Need-mul-if1-2
-mul-if1-2 c = search needs
-
-index-1-if1 : tie.Need-index-1-if1
-index-1-if1 c = search needs
-
-index-2-if1 : tie.Need-index-2-if1
-index-2-if1 c = search needs
-
 x : (s : tie.Start) → Worth (raw (s .args .x)) (s .args .x) 131072000
 x s = held w32 (s .args .x) 131072000 tt (s .pre .2)
 
@@ -52,4 +40,4 @@ returns-2 c =
 
 pub signed-spec : {M : Type 1} → statement M
 signed-spec =
-    tie.close (tie.spec mul-if1 mul-if1-2 index-1-if1 index-2-if1 sub-result returns returns-2)
+    tie.close (tie.spec (λ c. search needs) (λ c. search needs) (λ c. search needs) (λ c. search needs) sub-result returns returns-2)

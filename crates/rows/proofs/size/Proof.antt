@@ -35,4 +35,5 @@ returns-2 c =
     row s .is ∙ above-abs (s .args .s) (ap (λ (z : ℤ). ltZ z (pos 0)) (sym (row s .is)) ∙ c .if1 .left) ∙ ap pos (whole (s .args .s))
 
 pub size-spec : {M : Type 1} → statement M
-size-spec = tie.close (tie.spec sub-result returns returns-2)
+size-spec =
+    tie.close (tie.spec sub-result returns returns-2)

@@ -9,19 +9,11 @@ use Rattle.model.specs.Iteration.{at, slack, multiplier}
 use Rattle.rows.proofs.size_at.Statement.{statement}
 use Rattle.rows.proofs.size_at.Tie as tie
 
-mul-size : tie.Need-mul-size
-mul-size c = search needs
-
-array-copy-out-size : tie.Need-array-copy-out-size
-array-copy-out-size c = search needs
-
-size-requires : tie.Need-size-requires
-size-requires c κs = search needs
-
 returns : tie.Need-returns
 returns c =
     let s = c .before .before in
     read-back w32 (c .size .ok) (c .size .ensures ∙ ap (λ (z : ℤ). pos (slack z + multiplier z)) (held w32 (at (s .args .t1) (s .args .r)) 131072000 tt (s .pre .1) .is))
 
 pub size-at-spec : {M : Type 1} → statement M
-size-at-spec = tie.close (tie.spec mul-size array-copy-out-size size-requires returns)
+size-at-spec =
+    tie.close (tie.spec (λ c. search needs) (λ c. search needs) (λ c κs. search needs) returns)

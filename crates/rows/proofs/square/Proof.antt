@@ -25,4 +25,5 @@ returns : tie.Need-returns
 returns c = ap natAbs (stored (value c) w64 tt .is)
 
 pub square-spec : {M : Type 1} → statement M
-square-spec = tie.close (tie.spec mul-result cast-result returns)
+square-spec =
+    tie.close (tie.spec mul-result cast-result returns)

@@ -19,7 +19,7 @@ use Rattle.model.specs.Run.{settledBy, start}
 use Rattle.model.specs.Bounds.{Ready, held}
 use Rattle.model.specs.Code.{triples, variables}
 use Rattle.model.specs.Splitting.{System}
-use Rattle.layout.specs.Turned.{straight}
+use Rattle.layout.specs.Transposed.{straight}
 use Rattle.layout.proofs.Places.{straight-zero, straight-back}
 use Rattle.run.proofs.Going.{Going, going-start, going-next, going-end, weaker}
 use Rattle.run.proofs.iterations.Statement.{statement}

@@ -10,7 +10,7 @@ use Rattle.lists.specs.Tabulated.{tab, over}
 use Rattle.lists.proofs.Tabulated.{length-tab, tab-same, length-over}
 use Rattle.model.specs.Iteration.{sumOf}
 use Rattle.model.proofs.Rows.{at-tab}
-use Rattle.layout.specs.Turned.{straight}
+use Rattle.layout.specs.Transposed.{straight}
 use Rattle.sums.proofs.Sums.{sums-small}
 use Rattle.layout.proofs.Places.{straight-within}
 use Rattle.sums.proofs.Groups.{staged, sum-first, Staged, staged-lists, staged-small, group-more}

@@ -16,14 +16,14 @@ use Rattle.lists.specs.Tabulated.{tab}
 use Rattle.lists.proofs.Tabulated.{length-tab, getD-tab, tab-same, tab-getD}
 use Rattle.model.specs.Iteration.{at}
 use Rattle.model.proofs.Rows.{three, at-tab}
-use Rattle.layout.specs.Turned.{entry}
+use Rattle.layout.specs.Transposed.{cell}
 use Rattle.sums.proofs.Sums.{part, part-small, triples-small}
 use Rattle.sums.proofs.give_group.Statement.{statement}
 use Rattle.sums.proofs.give_group.Tie as tie
 
 -- what triple t + i gives variable u
 abbrev parts : List ℕ → ℕ → List (List ℤ) → ℕ → ℕ → ℤ
-parts ts t q u i = part ts u (t + i) (λ p. entry q p i)
+parts ts t q u i = part ts u (t + i) (λ p. cell q p i)
 
 abbrev Inv-loop : tie.InvT-loop
 Inv-loop triples t n x y z sums₀ i₀ sums i =
@@ -57,15 +57,15 @@ long : (l : tie.At-loop Inv-loop μ-loop) → length (l .loop .sums) ≡ length 
 long l = ap length (l .loop .inv .1) ∙ length-tab (length (old (start l))) (sumsAt (start l) (l .loop .i))
 
 -- a share, and a sum, that is small
-small : (s : tie.Start Inv-loop μ-loop) (i : ℕ) → i < s .args .n → (p : ℕ) → p < 3 → natAbs (entry (lists s) p i) ≤ 524288000
-small s i h = let b = s .pre .1 .0 i h in three (λ p. natAbs (entry (lists s) p i) ≤ 524288000) (b .0) (b .1) (b .2)
+small : (s : tie.Start Inv-loop μ-loop) (i : ℕ) → i < s .args .n → (p : ℕ) → p < 3 → natAbs (cell (lists s) p i) ≤ 524288000
+small s i h = let b = s .pre .1 .0 i h in three (λ p. natAbs (cell (lists s) p i) ≤ 524288000) (b .0) (b .1) (b .2)
 
 sums-small : (l : tie.At-loop Inv-loop μ-loop) (v : ℕ) → natAbs (at (l .loop .sums) v) ≤ 2 ^ 59
 sums-small l v =
     let s = start l in
     let i = l .loop .i in
     let given : natAbs (sumℤ i (more s v)) ≤ 1572864000 * i
-    = triples-small i (more s v) (λ k h. part-small (s .args .triples .now) v (s .args .t + k) (λ p. entry (lists s) p k) (small s k (omega (arith, l .loop .inv .0)))) in
+    = triples-small i (more s v) (λ k h. part-small (s .args .triples .now) v (s .args .t + k) (λ p. cell (lists s) p k) (small s k (omega (arith, l .loop .inv .0)))) in
     rw (l .loop .inv .1) (at-tab (λ z. natAbs z ≤ 2 ^ 59) (length (old s)) (sumsAt s i) v (λ _. omega (arith, abs-add (at (old s) v) (sumℤ i (more s v)), s .pre .1 .1 .1 v, given, l .loop .inv .0, s .pre .0 .0)) (omega arith))
 
 add-give : tie.Need-add-give Inv-loop μ-loop
@@ -96,20 +96,20 @@ read c =
     let of : List ℤ → ℤ = λ x. toZ w32 (ofZ w32 (at x (c .before .loop .i))) in
     of (s .args .x .now) ∷ of (s .args .y .now) ∷ of (s .args .z .now) ∷ []
 
-read-is : (c : tie.In-loop Inv-loop μ-loop) → read c ≡ tab 3 (λ p. entry (lists (start (c .before))) p (c .before .loop .i))
+read-is : (c : tie.In-loop Inv-loop μ-loop) → read c ≡ tab 3 (λ p. cell (lists (start (c .before))) p (c .before .loop .i))
 unfolding read
 read-is c =
     let s = start (c .before) in
     let i = c .before .loop .i in
-    let of : (p : ℕ) → p < 3 → toZ w32 (ofZ w32 (entry (lists s) p i)) ≡ entry (lists s) p i
-    = λ p h. held w32 (entry (lists s) p i) 524288000 tt (small s i (c .loop-test .taken) p h) .is in
+    let of : (p : ℕ) → p < 3 → toZ w32 (ofZ w32 (cell (lists s) p i)) ≡ cell (lists s) p i
+    = λ p h. held w32 (cell (lists s) p i) 524288000 tt (small s i (c .loop-test .taken) p h) .is in
     rw (of 0 (omega arith), of 1 (omega arith), of 2 (omega arith))
 
 read-small : (c : tie.In-loop Inv-loop μ-loop) (p : ℕ) → natAbs (at (read c) p) ≤ 524288000
 read-small c p =
     let s = start (c .before) in
     let i = c .before .loop .i in
-    rw (read-is c) (at-tab (λ z. natAbs z ≤ 524288000) 3 (λ p. entry (lists s) p i) p (small s i (c .loop-test .taken) p) (omega arith))
+    rw (read-is c) (at-tab (λ z. natAbs z ≤ 524288000) 3 (λ p. cell (lists s) p i) p (small s i (c .loop-test .taken) p) (omega arith))
 
 abbrev in-loop : tie.After-sums Inv-loop μ-loop → tie.In-loop Inv-loop μ-loop
 in-loop c = c .before .before .before .before .before .before

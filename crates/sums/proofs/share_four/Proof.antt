@@ -14,7 +14,7 @@ use Rattle.lists.proofs.Tabulated.{getD-tab}
 use Rattle.model.specs.Iteration.{at, share}
 use Rattle.model.proofs.Rows.{at-tab}
 use Rattle.rows.proofs.Four.{four-are}
-use Rattle.layout.specs.Turned.{lane}
+use Rattle.layout.specs.Transposed.{lane}
 use Rattle.sums.proofs.Sums.{formed, formed-read, reached, lane-small, lane-share-small}
 use Rattle.sums.proofs.share_four.Statement.{statement}
 use Rattle.sums.proofs.share_four.Tie as tie

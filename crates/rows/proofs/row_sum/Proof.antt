@@ -1,4 +1,4 @@
--- `rows::sum` meets its contract. Assumes nothing.
+-- `rows::row_sum` meets its contract. Assumes nothing.
 use mathlib.Core.Path.{_≡_, refl, sym, ap, _∙_}
 use Prim.Native.Nat.{ℕ, _*_, _^_, _≤_, _<_}
 use native.Mathlib.Omega.{arith}
@@ -11,20 +11,11 @@ use Rattle.integers.proofs.Linear.{split, toℕ, abs-add, abs-mul}
 use Rattle.integers.proofs.Machine.{Worth, fits, stored, local, held, literal, plus, minus, times}
 use Rattle.model.specs.Iteration.{sign, rowSum}
 use Rattle.model.proofs.Rows.{signed-abs}
-use Rattle.rows.proofs.sum.Statement.{statement}
-use Rattle.rows.proofs.sum.Tie as tie
+use Rattle.rows.proofs.row_sum.Statement.{statement}
+use Rattle.rows.proofs.row_sum.Tie as tie
 
 abbrev raw : ℤ → ℤ
 raw z = toZ w32 (ofZ w32 z)
-
-plus-requires : tie.Need-plus-requires
-plus-requires c κs = search needs
-
-plus-requires-2 : tie.Need-plus-requires-2
-plus-requires-2 c κs = search needs
-
-plus-requires-3 : tie.Need-plus-requires-3
-plus-requires-3 c κs = search needs
 
 -- what a call of `plus` gave
 half : (r p : ℕ) (x z : ℤ) → natAbs x ≤ 16384 → pos 2 *ℤ z ≡ sign r p *ℤ raw x +ℤ raw x → pos 2 *ℤ z ≡ sign r p *ℤ x +ℤ x
@@ -106,7 +97,7 @@ returns c =
     (half r 1 (s .args .b) (v c) (s .pre .2) (c .before .plus2 .ensures))
     (half r 2 (s .args .c) (w c) (s .pre .3) (c .plus3 .ensures))
 
-pub sum-spec : {M : Type 1} → statement M
-sum-spec =
-    tie.close
-    (tie.spec plus-requires plus-requires-2 add-result plus-requires-3 add-result-2 mul-result add-result-3 add-result-4 sub-result returns)
+pub row-sum-spec : {M : Type 1} → statement M
+row-sum-spec =
+    tie.close (tie.spec (λ c κs. search needs) (λ c κs. search needs) add-result (λ c κs. search needs) add-result-2 mul-result add-result-3 add-result-4
+    sub-result returns)

@@ -1,4 +1,4 @@
--- `renewal::renewed_rows` meets its contract. Assumes nothing.
+-- `renewal::renewed_triple` meets its contract. Assumes nothing.
 use mathlib.Core.List.{List}
 use mathlib.Core.Path.{_≡_, ap, _∙_}
 use Prim.Native.Nat.{ℕ, _+_, _*_, _^_, _≤_, _<_}
@@ -14,8 +14,8 @@ use Rattle.model.specs.Iteration.{at, sumAt, renewed}
 use Rattle.model.specs.Splitting.{member}
 use Rattle.model.proofs.Bounds.{rowSum-bound}
 use Rattle.model.proofs.Rows.{at-tab}
-use Rattle.renewal.proofs.renewed_rows.Statement.{statement}
-use Rattle.renewal.proofs.renewed_rows.Tie as tie
+use Rattle.renewal.proofs.renewed_triple.Statement.{statement}
+use Rattle.renewal.proofs.renewed_triple.Tie as tie
 
 abbrev v : tie.Start → ℕ → ℕ
 v s p = member (s .args .triples .now) (s .args .t) p
@@ -24,7 +24,7 @@ abbrev x : tie.Start → ℕ → ℤ
 x s p = at (s .args .values .now) (v s p)
 
 asked : (s : tie.Start) (p : ℕ) → p < 3 → (s .args .t ≤ 8192) × (p < 3) × (3 * s .args .t + p < length (s .args .triples .now)) × (v s p < length (s .args .values .now))
-asked s p h = (omega (arith, s .pre .0), h, omega (arith, s .pre .0), s .pre .1 .0 (3 * s .args .t + p) (omega (arith, s .pre .0)))
+asked s p h = (omega (arith, s .pre .0), h, omega (arith, s .pre .0), s .pre .1 .0 .0 (3 * s .args .t + p) (omega (arith, s .pre .0)))
 
 value-at-requires : tie.Need-value-at-requires
 value-at-requires c κs = asked (c .before) 0 (omega arith)
@@ -37,7 +37,7 @@ value-at-requires-3 c κs = asked (c .before .before .before) 2 (omega arith)
 
 -- what the reads gave
 given : (s : tie.Start) (p : ℕ) (z : ℤ) → mag z < 2 ^ hbits w32 → z ≡ x s p → Worth (toZ w32 (ofZ w32 z)) (x s p) 16384
-given s p z f e = local w32 16384 f e (s .pre .1 .1 .0 (v s p))
+given s p z f e = local w32 16384 f e (s .pre .1 .0 .1 (v s p))
 
 abbrev start : tie.After-value-at3 → tie.Start
 start c = c .before .before .before .before
@@ -51,33 +51,26 @@ second c = given (start c) 1 _ (c .before .value-at2 .ok) (c .before .value-at2 
 third : (c : tie.After-value-at3) → Worth (toZ w32 (ofZ w32 (c .value-at3 .result))) (x (start c) 2) 16384
 third c = given (start c) 2 _ (c .value-at3 .ok) (c .value-at3 .ensures)
 
-sums-requires : tie.Need-sums-requires
-sums-requires c κs = (within-raw (first c), within-raw (second c), within-raw (third c))
+row-sums-requires : tie.Need-row-sums-requires
+row-sums-requires c κs = (within-raw (first c), within-raw (second c), within-raw (third c))
 
-sums-are : (c : tie.After-sums) → c .sums .result ≡ tab 4 (sumAt (start (c .before) .args .triples .now) (start (c .before) .args .values .now) (start (c .before) .args .t))
-sums-are c = c .sums .ensures ∙ rw (first (c .before) .is, second (c .before) .is, third (c .before) .is)
+sums-are : (c : tie.After-row-sums) → c .row-sums .result ≡ tab 4 (sumAt (start (c .before) .args .triples .now) (start (c .before) .args .values .now) (start (c .before) .args .t))
+sums-are c = c .row-sums .ensures ∙ rw (first (c .before) .is, second (c .before) .is, third (c .before) .is)
 
-renew-all-requires : tie.Need-renew-all-requires
-renew-all-requires c κs r =
+renewed-rows-requires : tie.Need-renewed-rows-requires
+renewed-rows-requires c κs r =
     let s = start (c .before) in (
-      s .pre .1 .1 .1 r,
+      s .pre .1 .1 r,
       rw (sums-are c)
           (at-tab (λ z. natAbs z ≤ 49152) 4 (sumAt (s .args .triples .now) (s .args .values .now) (s .args .t)) r
-          (λ h. rowSum-bound r (x s 0) (x s 1) (x s 2) h (s .pre .1 .1 .0 (v s 0)) (s .pre .1 .1 .0 (v s 1)) (s .pre .1 .1 .0 (v s 2))) (omega arith)),
+          (λ h. rowSum-bound r (x s 0) (x s 1) (x s 2) h (s .pre .1 .0 .1 (v s 0)) (s .pre .1 .0 .1 (v s 1)) (s .pre .1 .0 .1 (v s 2))) (omega arith)),
     )
 
 returns : tie.Need-returns
 returns c =
     let s = start (c .before .before) in
-    c .renew-all .ensures ∙ ap (λ (l : List ℤ). tab 4 (λ r. renewed (at (s .args .s) r) (at l r))) (sums-are (c .before))
+    c .renewed-rows .ensures ∙ ap (λ (l : List ℤ). tab 4 (λ r. renewed (at (s .args .s) r) (at l r))) (sums-are (c .before))
 
-pub renewed-rows-spec : {M : Type 1} → statement M
-renewed-rows-spec =
-    tie.close
-    (tie.spec
-    value-at-requires
-    value-at-requires-2
-    value-at-requires-3
-    sums-requires
-    renew-all-requires
-    returns)
+pub renewed-triple-spec : {M : Type 1} → statement M
+renewed-triple-spec =
+    tie.close (tie.spec value-at-requires value-at-requires-2 value-at-requires-3 row-sums-requires renewed-rows-requires returns)

@@ -1,4 +1,4 @@
--- `rows::renew` meets its contract. Assumes nothing.
+-- `rows::renewed_row` meets its contract. Assumes nothing.
 use mathlib.Core.Path.{_≡_, ap, _∙_}
 use native.Mathlib.Omega.{arith}
 use borrow.Author.Needs.{needs}
@@ -8,8 +8,8 @@ use mir.Val.{toZ, ofZ}
 use Rattle.integers.proofs.Machine.{Worth, fits, stored, local, held, literal, plus, minus}
 use Rattle.integers.proofs.Linear.{split, toℕ, about}
 use Rattle.model.specs.Iteration.{at, multiplier}
-use Rattle.rows.proofs.renew.Statement.{statement}
-use Rattle.rows.proofs.renew.Tie as tie
+use Rattle.rows.proofs.renewed_row.Statement.{statement}
+use Rattle.rows.proofs.renewed_row.Tie as tie
 
 abbrev row : tie.Start → ℤ
 row s = at (s .args .t1) (s .args .r)
@@ -36,36 +36,12 @@ returns c =
     let s = c .before .before .before in
     stored (plus (multiplier-is (c .before)) (stored (lowered s) w32 tt)) w32 tt .is ∙ regrouped (pos (multiplier (row s))) (sum s) (pos 16384)
 
-mul-positive : tie.Need-mul-positive
-mul-positive c = search needs
-
-array-copy-out-positive : tie.Need-array-copy-out-positive
-array-copy-out-positive c = search needs
-
-positive-requires : tie.Need-positive-requires
-positive-requires c κs = search needs
-
-mul-result : tie.Need-mul-result
-mul-result c = search needs
-
-array-copy-out-result : tie.Need-array-copy-out-result
-array-copy-out-result c = search needs
-
 sub-result : tie.Need-sub-result
 sub-result c = fits (lowered (c .before .before .before)) w32 tt
 
 add-result : tie.Need-add-result
 add-result c = fits (plus (multiplier-is (c .before)) (stored (lowered (c .before .before .before)) w32 tt)) w32 tt
 
-pub renew-spec : {M : Type 1} → statement M
-renew-spec =
-    tie.close
-    (tie.spec
-    mul-positive
-    array-copy-out-positive
-    positive-requires
-    mul-result
-    array-copy-out-result
-    sub-result
-    add-result
-    returns)
+pub renewed-row-spec : {M : Type 1} → statement M
+renewed-row-spec =
+    tie.close (tie.spec (λ c. search needs) (λ c. search needs) (λ c κs. search needs) (λ c. search needs) (λ c. search needs) sub-result add-result returns)

@@ -1,0 +1,31 @@
+-- `rows::row_sums` meets its contract. Assumes nothing.
+use mathlib.Core.Path.{_≡_, ap, ap₂, _∙_}
+use Prim.Native.Nat.{ℕ}
+use borrow.Author.Needs.{needs}
+use lib.IntN.{ℤ}
+use mir.Facts.{toZ-ofZ}
+use mir.Syntax.{w32}
+use mir.Val.{toZ, ofZ}
+use Rattle.integers.proofs.Machine.{read-back}
+use Rattle.model.specs.Iteration.{rowSum}
+use Rattle.rows.proofs.Four.{four-are}
+use Rattle.rows.proofs.row_sums.Statement.{statement}
+use Rattle.rows.proofs.row_sums.Tie as tie
+
+same : (s : tie.Start) (r : ℕ) → rowSum r (toZ w32 (ofZ w32 (s .args .a))) (toZ w32 (ofZ w32 (s .args .b))) (toZ w32 (ofZ w32 (s .args .c))) ≡ rowSum r (s .args .a) (s .args .b) (s .args .c)
+same s r =
+    ap (λ (z : ℤ). rowSum r z (toZ w32 (ofZ w32 (s .args .b))) (toZ w32 (ofZ w32 (s .args .c)))) (toZ-ofZ (s .fits .a))
+    ∙ ap₂ (λ (y z : ℤ). rowSum r (s .args .a) y z) (toZ-ofZ (s .fits .b)) (toZ-ofZ (s .fits .c))
+
+returns : tie.Need-returns
+returns c =
+    let s = c .before .before .before .before in
+    four-are (λ r. rowSum r (s .args .a) (s .args .b) (s .args .c)) _ _ _ _
+    (read-back w32 (c .before .before .before .row-sum .ok) (c .before .before .before .row-sum .ensures ∙ same s 0))
+    (read-back w32 (c .before .before .row-sum2 .ok) (c .before .before .row-sum2 .ensures ∙ same s 1))
+    (read-back w32 (c .before .row-sum3 .ok) (c .before .row-sum3 .ensures ∙ same s 2))
+    (read-back w32 (c .row-sum4 .ok) (c .row-sum4 .ensures ∙ same s 3))
+
+pub row-sums-spec : {M : Type 1} → statement M
+row-sums-spec =
+    tie.close (tie.spec (λ c κs. search needs) (λ c κs. search needs) (λ c κs. search needs) (λ c κs. search needs) returns)

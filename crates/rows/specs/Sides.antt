@@ -1,0 +1,14 @@
+-- The two sides of a row: with 1 its multiplier, with −1 its slack, which is the multiplier of the row's negative. Definitions only.
+use Prim.Native.Nat.{ℕ, _*_}
+use lib.IntN.{ℤ, _*ℤ_}
+use Rattle.model.specs.Limits.{mostRow}
+use Rattle.model.specs.Iteration.{multiplier}
+use Rattle.model.specs.Run.{squareOfChange}
+
+-- the square of the change of a side, from row a to row b
+abbrev pub changeOf : ℤ → ℤ → ℤ → ℕ
+changeOf side a b = squareOfChange (multiplier (side *ℤ a)) (multiplier (side *ℤ b))
+
+-- four of them are at most this
+abbrev pub mostChanges : ℕ
+mostChanges = 4 * (mostRow * mostRow)
