@@ -23,6 +23,10 @@ changes part T old new = sumℕ T (λ t. sumℕ 4 (λ r. squareOfChange (part (r
 unfoldable pub settledBy : ℕ → ℕ → List ℤ → List ℤ → ℕ
 settledBy X T old new = 1 if (leb (changes multiplier T old new) X && leb (changes slack T old new) X)
 
+-- how the iteration from a to b stops a run of g: 0, it goes on; 1, "the run stops, settled"
+abbrev pub stop : System → Settings → State → State → ℕ
+stop g o a b = settledBy (o .tolerance) (g .triples) (a .rows) (b .rows)
+
 -- ---- the run
 -- "Each of the four rows keeps one signed number s, at first 0." The first c and S do not matter, and are 0.
 unfoldable pub start : System → State
@@ -45,7 +49,7 @@ module _ (div : ℤ → ℤ → ℤ) (g : System) (o : Settings) (costs : List �
   runFrom zero k a = record { k = k; settled = 0; last = a }
   runFrom (suc more) k a =
       let b = iterate div g o costs a in
-      elim (settledBy (o .tolerance) (g .triples) (a .rows) (b .rows)) [
+      elim (stop g o a b) [
         | zero ↦ runFrom more (suc k) b
         | suc settled ↦ record { k = suc k; settled = suc settled; last = b }
       ]
