@@ -1,16 +1,26 @@
--- A range of a list, as its entries are written one by one. Assumes nothing.
+-- How large a value is; a range of a list, as its entries are written one by one. Assumes nothing.
 use mathlib.Core.List.{List}
 use mathlib.Core.Path.{_≡_, ap, _∙_}
-use Prim.Native.Nat.{ℕ, zero, suc, _+_, _-_, _≤_}
+use Prim.Native.Nat.{ℕ, zero, suc, _+_, _-_, _*_, _≤_}
 use native.Mathlib.Omega.{arith}
-use lib.IntN.{ℤ}
-use lib.ListN.{length, set}
+use lib.IntN.{ℤ, natAbs}
+use lib.ListN.{length, getD, set}
 use lib.Seq.{sets}
 use mir.Facts.{toZ-ofZ}
 use mir.Syntax.{Width}
 use mir.Val.{SFits, toZ, ofZ}
 use Rattle.lists.specs.Tabulated.{tab}
 use Rattle.lists.proofs.Tabulated.{tab-same, over-sets, over-whole}
+use Rattle.quotient.specs.Quotient.{unit}
+use Rattle.quotient.specs.Quotient.Laws.{quotient-range}
+use Rattle.model.specs.Iteration.{at, numerator, divisor}
+use Rattle.model.proofs.Rows.{at-tab}
+use Rattle.values.specs.Values.{valueFrom}
+
+pub value-small : (S : List ℤ) (counts : List ℕ) (costs : List ℤ) (W A n v : ℕ) → natAbs (at (tab n (valueFrom S counts costs W A)) v) ≤ unit
+value-small S counts costs W A n v =
+    at-tab (λ z. natAbs z ≤ unit) n (valueFrom S counts costs W A) v
+    (λ _. quotient-range (numerator W (at S v) (at costs v)) (divisor (4 * getD counts v 0) A)) (omega arith)
 
 module _ {A : Type 0} where
   -- one store behind k of them, from n on
