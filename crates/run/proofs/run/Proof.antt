@@ -25,5 +25,4 @@ returns c =
     ∙ cleared-start (s .args .count) (s .args .rows .now) _ (s .pre .0 .rows) (z .clear-i32 .ensures) _ (s .args .settings) (s .args .costs .now) _ _ refl (s .pre .1 .0)
 
 pub run-spec : {M : Type 1} → statement M
-run-spec =
-    tie.close (tie.spec (λ c κs. search needs) run-from-requires (λ c. search needs) (λ c. search needs) (λ c. search needs) returns)
+run-spec = tie.close (tie.spec (λ c κs. search needs) run-from-requires (λ c. search needs) (λ c. search needs) (λ c. search needs) returns)

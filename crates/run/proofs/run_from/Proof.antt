@@ -31,5 +31,5 @@ returns c = let i = c .before .before .before .before .before .before in λ k. r
 
 pub run-from-spec : {M : Type 1} → statement M
 run-from-spec =
-    tie.close (tie.spec (λ c. search needs) (λ c. search needs) (λ c κs. search needs) (λ c. search needs) (λ c. search needs) iterations-requires straighten-requires
-    (λ c. search needs) (λ c. search needs) (λ c. search needs) returns)
+    tie.close (tie.spec (λ c. search needs) (λ c. search needs) (λ c κs. search needs) (λ c. search needs) (λ c. search needs) iterations-requires
+    straighten-requires (λ c. search needs) (λ c. search needs) (λ c. search needs) returns)
