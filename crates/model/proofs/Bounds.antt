@@ -18,7 +18,8 @@ use Rattle.quotient.specs.Quotient.Laws.{quotient-range}
 use Rattle.model.specs.declared.Settings.{Settings}
 use borrow.Author.Tests.{ltb-false}
 use Rattle.model.specs.Causes.{_if_, outside}
-use Rattle.model.specs.Code.{Code}
+use Rattle.model.specs.Limits.{mostChecks, mostTriples, mostWeight, mostRatio, mostCost, mostDone}
+use Rattle.model.specs.Code.{Code, triples, variables}
 use Rattle.model.specs.Sound.{Sound}
 use Rattle.model.specs.Calls.{outOfRange}
 use Rattle.model.specs.Splitting.{System, systemOf, member}
@@ -59,7 +60,7 @@ module _ (s sum : ℤ) (small : natAbs sum ≤ 49152) where
 square : (a b : ℕ) → natAbs (pos b -ℤ pos a) ≤ 65536 → squareOfChange a b ≤ 4294967296
 square a b h = mul-le-mul h h
 
-pub changes-bound : (part : ℤ → ℕ) (T : ℕ) (old new : List ℤ) → T ≤ 8192
+pub changes-bound : (part : ℤ → ℕ) (T : ℕ) (old new : List ℤ) → T ≤ mostTriples
     → ((t r : ℕ) → t < T → r < 4 → natAbs (pos (part (row new t r)) -ℤ pos (part (row old t r))) ≤ 65536) → changes part T old new ≤ 2 ^ 47
 unfolding changes
 changes-bound part T old new few h =
@@ -69,7 +70,7 @@ changes-bound part T old new few h =
     omega (arith, sumℕ-bound T (4 * 4294967296) (λ t. sumℕ 4 (term t)) four)
 
 -- ---- the divisor
-pub divisor-above : (e A : ℕ) → 1 ≤ e → A ≤ 1023 → pos 0 <ℤ divisor (4 * e) A
+pub divisor-above : (e A : ℕ) → 1 ≤ e → A ≤ mostRatio → pos 0 <ℤ divisor (4 * e) A
 divisor-above e A h k = simp toℕ (omega arith)
 
 pub divisor-below : (e A m : ℕ) → e ≤ m → divisor (4 * e) A ≤ℤ pos (1024 * m)
@@ -110,7 +111,7 @@ module _ (g : System) (o : Settings) (costs : List ℤ) (a : State) where
       }
 
 -- ---- one iteration: all its numbers
-module _ (g : System) (o : Settings) (costs : List ℤ) (n : ℕ) (a : State) (ready : Ready g o costs) (within : RowsWithin n (a .rows)) where
+module _ (g : System) (o : Settings) (costs : List ℤ) (n : ℕ) (a : State) (ready : Ready (g .variables) (g .members) (g .triples) o costs) (within : RowsWithin n (a .rows)) where
   abbrev S : ℕ → ℤ
   S v = sumOf (g .members) (g .triples) (a .rows) v
 
@@ -140,25 +141,26 @@ module _ (g : System) (o : Settings) (costs : List ℤ) (n : ℕ) (a : State) (r
       (λ t _. sumℤ-bound 3 (part t) (λ p. u * f t p) (λ p l. when-bound (eqb (member (g .members) t p) v) (share (a .rows) t p) u (share-bound t p l))))
       (le-of-eq (sumℕ-same (g .triples) (λ t. sumℕ 3 (λ p. u * f t p)) (λ t. u * sumℕ 3 (f t)) (λ t _. sumℕ-scale 3 u (f t)) ∙ sumℕ-scale (g .triples) u (λ t. sumℕ 3 (f t))))
 
-  sums : (v : ℕ) → natAbs (at (b′ .sums) v) ≤ 8192 * (32768 * (n + 2))
+  sums : (v : ℕ) → natAbs (at (b′ .sums) v) ≤ mostTriples * (32768 * (n + 2))
   unfolding iterate sumsOf
   sums v =
-      at-tab (λ z. natAbs z ≤ 8192 * (32768 * (n + 2))) (g .variables) S v
-      (λ _. le-trans (sum-bound v) (let m : (4 * (32768 * (n + 2))) * e g o costs a v ≤ (4 * (32768 * (n + 2))) * 2048 = mul-le-mul-left (4 * (32768 * (n + 2))) (ready .few v) in omega arith))
+      let u = 4 * (32768 * (n + 2)) in
+      at-tab (λ z. natAbs z ≤ mostTriples * (32768 * (n + 2))) (g .variables) S v
+      (λ h. le-trans (sum-bound v) (let m : u * e g o costs a v ≤ u * mostChecks = mul-le-mul-left u (ready .few v h) in omega arith))
       (omega arith)
 
-  numerators : n < 4000 → (v : ℕ) → natAbs (numerator (o .weight) (at (b′ .sums) v) (at costs v)) ≤ 2 ^ 48
+  numerators : n ≤ mostDone → (v : ℕ) → natAbs (numerator (o .weight) (at (b′ .sums) v) (at costs v)) ≤ 2 ^ 48
   numerators h v =
       let x = at (b′ .sums) v in
       let y = at costs v in
-      let m : natAbs (pos (o .weight) *ℤ y) ≤ 65535 * 32767 = rw abs-mul (mul-le-mul (ready .weight) (ready .cost v)) in
+      let m : natAbs (pos (o .weight) *ℤ y) ≤ mostWeight * mostCost = rw abs-mul (mul-le-mul (ready .weight) (ready .cost v)) in
       rw (abs-neg (pos 256 *ℤ x +ℤ pos (o .weight) *ℤ y)) (omega (arith, abs-add (pos 256 *ℤ x) (pos (o .weight) *ℤ y), abs-mul (pos 256) x, sums v))
 
   pub bounds : Bounds g o costs n a
   unfolding iterate
   bounds = record {
     divisor-least = λ v h. divisor-above (e g o costs a v) (o .ratio) (ready .some v h) (ready .ratio);
-    divisor-most = λ v. divisor-below (e g o costs a v) (o .ratio) 2048 (ready .few v);
+    divisor-most = λ v h. divisor-below (e g o costs a v) (o .ratio) mostChecks (ready .few v h);
     sums = sums;
     numerators = numerators;
     values = values g o costs a;
@@ -183,17 +185,18 @@ values-after g o costs zero v = rw (none (g .variables) v) (omega arith)
 values-after g o costs (suc n) v = values g o costs (after quotient g o costs n (start g)) v
 
 -- ---- an accepted code, settings and costs are ready
-pub ready : (k : Code) → Sound k → (o : Settings) → outOfRange o ≡ false → (costs : List ℤ) → length costs ≡ k .bits → ((v : ℕ) → natAbs (at costs v) ≤ 32767) → Ready (systemOf k) o costs
+pub ready : (k : Code) → Sound k → (o : Settings) → outOfRange o ≡ false → (costs : List ℤ) → length costs ≡ k .bits → ((v : ℕ) → natAbs (at costs v) ≤ mostCost)
+    → Ready (variables k) (systemOf k .members) (triples k) o costs
 unfolding systemOf
 ready k s o h costs e small =
-    let a = or-false (outside 1 65535 (o .weight)) _ h in
-    let b = or-false (ltb 1023 (o .ratio)) _ (a .1) in
+    let a = or-false (outside 1 mostWeight (o .weight)) _ h in
+    let b = or-false (ltb mostRatio (o .ratio)) _ (a .1) in
     record {
       some = occurs-some k s;
-      few = occurs-few k s;
+      few = λ v _. occurs-few k s v;
       bits = omega (arith, e);
       triples = s .triples-most;
-      weight = within 1 65535 (o .weight) (a .0) .1;
-      ratio = ltb-false 1023 (o .ratio) (b .0);
+      weight = within 1 mostWeight (o .weight) (a .0) .1;
+      ratio = ltb-false mostRatio (o .ratio) (b .0);
       cost = small;
     }

@@ -23,15 +23,16 @@ unfoldable pub triplesFrom : List (List ℕ) → ℕ → List ℕ
 triplesFrom [] a = []
 triplesFrom (c ∷ cs) a = triplesOf c a ++ triplesFrom cs (a + turns c)
 
--- what a run needs of a code: how many variables and triples, and the three variables of each triple
+-- what a run needs of a code: the code, how many variables and triples, and the three variables of each triple
 pub record System : Type 0 where
+  pub code : Code
   pub variables : ℕ
   pub triples : ℕ
   pub members : List ℕ
 
 -- "auxiliaries are numbered n, n + 1, on"
 unfoldable pub systemOf : Code → System
-systemOf k = record { variables = variables k; triples = triples k; members = triplesFrom (k .checks) (k .bits) }
+systemOf k = record { code = k; variables = variables k; triples = triples k; members = triplesFrom (k .checks) (k .bits) }
 
 -- the variable at position p of triple t
 abbrev pub member : List ℕ → ℕ → ℕ → ℕ

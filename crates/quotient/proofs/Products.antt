@@ -102,5 +102,5 @@ module _ (d : ℕ) (least : 0 < d) (most : d ≤ 64512) where
   }
 
   -- of numbers that are these
-  pub prepared-at : (den most inverse : ℤ) → den ≡ pos d → most ≡ pos (unit * d) → inverse ≡ pos (inverseOf d) → Prepared den most inverse
-  prepared-at den most inverse e f g = rw (e, f, g) (prepared-by product-of-inverse)
+  pub prepared-at : (den limit inverse : ℤ) → den ≡ pos d → limit ≡ pos (unit * d) → inverse ≡ pos (inverseOf d) → Prepared den limit inverse
+  prepared-at den limit inverse e f g = rw (e, f, g) (prepared-by product-of-inverse)

@@ -6,24 +6,24 @@ use lib.IntN.{ℤ, pos, negℤ, natAbs, _+ℤ_, _-ℤ_, _*ℤ_}
 use lib.Signed.{_≤ℤ_}
 use Rattle.quotient.specs.Quotient.{unit, signed, quotient}
 
--- x, limited to −most..most
+-- x, limited to −limit..limit
 abbrev pub cut : ℤ → ℤ → ℤ
-cut most x = signed x (min (natAbs x) (natAbs most))
+cut limit x = signed x (min (natAbs x) (natAbs limit))
 
-pub record Product (den most inverse : ℤ) : Type 0 where
-  pub range : (pos 0 ≤ℤ most) × (natAbs most ≤ unit * 2097152)
+pub record Product (den limit inverse : ℤ) : Type 0 where
+  pub range : (pos 0 ≤ℤ limit) × (natAbs limit ≤ unit * 2097152)
   -- the product fits, and raised by U + 1/2 and divided, all at the scale of 2 ^ 47, it is U and the quotient of −x
-  pub fits : (x : ℤ) → natAbs (cut most x *ℤ inverse) ≤ 2 ^ 61 + 2 ^ 46
-  pub quotients : (x : ℤ) → pos (natAbs (pos (2 ^ 61 + 2 ^ 46) -ℤ cut most x *ℤ inverse) / 2 ^ 47) ≡ pos unit +ℤ quotient (negℤ x) den
+  pub fits : (x : ℤ) → natAbs (cut limit x *ℤ inverse) ≤ 2 ^ 61 + 2 ^ 46
+  pub quotients : (x : ℤ) → pos (natAbs (pos (2 ^ 61 + 2 ^ 46) -ℤ cut limit x *ℤ inverse) / 2 ^ 47) ≡ pos unit +ℤ quotient (negℤ x) den
 
--- most and inverse stand for den
+-- limit and inverse stand for den
 pub Prepared : ℤ → ℤ → ℤ → Type 0
-Prepared den most inverse = Product den most inverse
+Prepared den limit inverse = Product den limit inverse
 
-pub prepared-by : {den most inverse : ℤ} → Product den most inverse → Prepared den most inverse
+pub prepared-by : {den limit inverse : ℤ} → Product den limit inverse → Prepared den limit inverse
 unfolding Prepared
 prepared-by n = n
 
-pub product-of : {den most inverse : ℤ} → Prepared den most inverse → Product den most inverse
+pub product-of : {den limit inverse : ℤ} → Prepared den limit inverse → Product den limit inverse
 unfolding Prepared
 product-of p = p

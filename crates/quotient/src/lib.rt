@@ -14,13 +14,13 @@ const SCALE: i64 = 140737488355328;
 // (16384 + 1/2) * 2^47
 const RAISE: i64 = 2305913377957871616;
 
-// x, limited to -most..=most.
-fn limited(x: i64, most: i64) -> i64
-    requires { ⌜ (pos 0 ≤ℤ most) × (natAbs most ≤ unit * 2097152) ⌝ }
-    ensures { λ r. ⌜ r ≡ signed x (min (natAbs x) (natAbs most)) ⌝ }
+// x, limited to -limit..=limit.
+fn limited(x: i64, limit: i64) -> i64
+    requires { ⌜ (pos 0 ≤ℤ limit) × (natAbs limit ≤ unit * 2097152) ⌝ }
+    ensures { λ r. ⌜ r ≡ signed x (min (natAbs x) (natAbs limit)) ⌝ }
 {
-    let high = if most < x { most } else { x };
-    let least = -most;
+    let high = if limit < x { limit } else { x };
+    let least = -limit;
     if high < least { least } else { high }
 }
 
@@ -55,17 +55,17 @@ pub fn divide(num: i64, den: i64) -> i16
 
 // What stands for a divisor in `divide_opposite`.
 pub struct Divisor {
-    pub most: i64,
+    pub limit: i64,
     pub inverse: i64,
 }
 
 // 16384 * den, and the next whole number above 2^47 / den.
 pub fn prepare(den: i64) -> Divisor
     requires { ⌜ (pos 0 <ℤ den) × (den ≤ℤ pos 64512) ⌝ }
-    ensures { λ r. ⌜ Prepared den (r .most) (r .inverse) ⌝ }
+    ensures { λ r. ⌜ Prepared den (r .limit) (r .inverse) ⌝ }
 {
     Divisor {
-        most: UNIT * den,
+        limit: UNIT * den,
         inverse: SCALE / den + 1,
     }
 }
@@ -78,11 +78,11 @@ fn raised(x: i64, inverse: i64) -> u64
     ((RAISE - x * inverse) as u64) / (SCALE as u64)
 }
 
-// -x / den, rounded to the nearest whole number, halves away from zero, and limited to -16384..=16384, for the den that most and inverse stand for.
+// -x / den, rounded to the nearest whole number, halves away from zero, and limited to -16384..=16384, for the den that limit and inverse stand for.
 // The inverse exceeds 2^47 / den, so halves go away from zero on both sides.
-pub fn divide_opposite(x: i64, most: i64, inverse: i64) -> i16
-    requires { ⌜ ((den : ℤ) × Prepared den most inverse) ⌝ }
-    ensures { λ r. ⌜ ((den : ℤ) → Prepared den most inverse → r ≡ quotient (negℤ x) den) ⌝ }
+pub fn divide_opposite(x: i64, limit: i64, inverse: i64) -> i16
+    requires { ⌜ ((den : ℤ) × Prepared den limit inverse) ⌝ }
+    ensures { λ r. ⌜ ((den : ℤ) → Prepared den limit inverse → r ≡ quotient (negℤ x) den) ⌝ }
 {
-    ((raised(limited(x, most), inverse) as i64) - UNIT) as i16
+    ((raised(limited(x, limit), inverse) as i64) - UNIT) as i16
 }

@@ -1,62 +1,88 @@
-// The run (document 01, 'One iteration'): iterations from the start until it settles or K are done, on lists of exact length.
+// The run (document 01, 'One iteration'), on lists of exact length: iterations until it settles or K are done. While it goes the rows stand transposed.
 ghost use mathlib.Core.Path.{_≡_};
-ghost use Prim.Native.Nat.{_*_, _≤_};
-ghost use lib.IntN.{pos};
+ghost use Prim.Native.Nat.{_-_, _*_, _≤_, _<_};
 ghost use lib.ListN.{length};
-ghost use Rattle.lists.specs.Tabulated.{tab};
 ghost use Rattle.quotient.specs.Quotient.{quotient};
+ghost use Rattle.model.specs.Limits.{mostIterations, mostDone};
+ghost use Rattle.model.specs.Code.{Code};
 ghost use Rattle.model.specs.Iteration.{State};
+ghost use Rattle.model.specs.Iteration as Iteration;
 ghost use Rattle.model.specs.Run as Run;
-ghost use Rattle.model.specs.Bounds.{RowsWithin, held, Lent};
+ghost use Rattle.model.specs.Bounds.{RowsWithin, systemIn, Lent};
 ghost use Rattle.layout.specs.Transposed.{straight};
 ghost use Rattle.values.specs.Divisors.{Tables};
+ghost use Rattle.run.specs.States.{stateIn};
 use model::Ending;
 use model::Settings;
 
-// "at first 0"
-fn clear(rows: &mut [i32])
-    ensures { λ _. ⌜ now (rows .exit) ≡ tab (length (now (rows .entry))) (λ _. pos 0) ⌝ }
+// One iteration: S and c of each variable, then the four rows of each triple. It answers how it stops the run.
+fn iterate(
+    settings: Settings,
+    triples: &[u16],
+    counts: &[u16],
+    costs: &[i16],
+    count: usize,
+    limits: &[i64],
+    inverses: &[i64],
+    sums: &mut [i64],
+    values: &mut [i16],
+    rows: &mut [i32],
+) -> u32
+    requires { ⌜ Lent settings (now triples) (now counts) (now costs) count (now sums) (now values) (now rows) ⌝ }
+    requires { ⌜ (RowsWithin mostDone (straight count (now rows))) × (Tables (settings .ratio) (now limits) (now inverses)) ⌝ }
+    ensures { λ stop. ⌜ ((k : Code) → let g = systemIn k (now (triples .entry)) count (now (values .entry)) in
+        let a = stateIn count (now (sums .entry)) (now (values .entry)) (now (rows .entry)) in
+        let b = stateIn count (now (sums .exit)) (now (values .exit)) (now (rows .exit)) in
+        (b ≡ Iteration.iterate quotient g settings (now (costs .entry)) a) × (stop ≡ Run.stop g settings a b)) ⌝ }
+    ensures { λ _. ⌜ length (now (rows .exit)) ≡ 4 * count ⌝ }
 {
-    let n = rows.len();
-    let mut i = 0;
-    while i < n {
-        rows[i] = 0;
-        i += 1;
-    }
+    sums::gather(triples, rows, count, sums);
+    values::write_values(
+        sums,
+        counts,
+        costs,
+        settings.weight,
+        settings.ratio,
+        limits,
+        inverses,
+        values,
+    );
+    renewal::renew_rows(triples, values, rows, count, settings.tolerance as u64)
 }
 
-// Iterations from the start until it settles or K are done: the ending, with S, c and s of the last iteration in the lists; s as it stands while a run goes.
+// Iterations from the state in the lists, `done` being done, until one stops the run or K are done. The rows stay transposed.
 fn iterations(
     settings: Settings,
     triples: &[u16],
     counts: &[u16],
     costs: &[i16],
     count: usize,
-    mosts: &[i64],
+    limits: &[i64],
     inverses: &[i64],
+    done: u32,
     sums: &mut [i64],
     values: &mut [i16],
     rows: &mut [i32],
 ) -> Ending
     requires { ⌜ Lent settings (now triples) (now counts) (now costs) count (now sums) (now values) (now rows) ⌝ }
-    requires { ⌜ Tables (settings .ratio) (now mosts) (now inverses) ⌝ }
-    requires { ⌜ (1 ≤ settings .limit) × (settings .limit ≤ 1000) ⌝ }
-    ensures { λ e. ⌜ (let g = held (now (triples .entry)) count (now (values .entry)) in
-        let last : State = record { sums = now (sums .exit); values = now (values .exit); rows = straight count (now (rows .exit)) } in
-        record { k = e .k; settled = e .settled; last = last } ≡ Run.run quotient g settings (now (costs .entry))) ⌝ }
-    ensures { λ _. ⌜ (RowsWithin 3999 (now (rows .exit))) × (length (now (rows .exit)) ≡ 4 * count) ⌝ }
+    requires { ⌜ (RowsWithin done (straight count (now rows))) × (Tables (settings .ratio) (now limits) (now inverses)) ⌝ }
+    requires { ⌜ (done ≤ settings .limit) × (settings .limit ≤ mostIterations) ⌝ }
+    ensures { λ e. ⌜ ((k : Code) → let g = systemIn k (now (triples .entry)) count (now (values .entry)) in
+        let first = stateIn count (now (sums .entry)) (now (values .entry)) (now (rows .entry)) in
+        let last = stateIn count (now (sums .exit)) (now (values .exit)) (now (rows .exit)) in
+        record { k = e .k; settled = e .settled; last = last } ≡ Run.runFrom quotient g settings (now (costs .entry)) (settings .limit - done) done first) ⌝ }
+    ensures { λ _. ⌜ (RowsWithin (settings .limit) (now (rows .exit))) × (length (now (rows .exit)) ≡ 4 * count) ⌝ }
 {
-    clear(rows);
-    let mut k: u32 = 0;
+    let mut k = done;
     let mut settled: u32 = 0;
     while (k < settings.limit) & (settled == 0) {
-        settled = iteration::iterate(
+        settled = iterate(
             settings,
             triples,
             counts,
             costs,
             count,
-            mosts,
+            limits,
             inverses,
             sums,
             values,
@@ -67,7 +93,48 @@ fn iterations(
     Ending { k, settled }
 }
 
-// The run of the system that the lists hold. The divisors of variables in up to 31 triples are prepared.
+// The run from the state in the lists, whose rows are transposed and are told in the order of document 01. The divisors of variables in up to 31
+// triples are prepared.
+fn run_from(
+    settings: Settings,
+    triples: &[u16],
+    counts: &[u16],
+    costs: &[i16],
+    count: usize,
+    done: u32,
+    sums: &mut [i64],
+    values: &mut [i16],
+    rows: &mut [i32],
+) -> Ending
+    requires { ⌜ Lent settings (now triples) (now counts) (now costs) count (now sums) (now values) (now rows) ⌝ }
+    requires { ⌜ RowsWithin done (straight count (now rows)) ⌝ }
+    requires { ⌜ (done ≤ settings .limit) × (settings .limit ≤ mostIterations) ⌝ }
+    ensures { λ e. ⌜ ((k : Code) → let g = systemIn k (now (triples .entry)) count (now (values .entry)) in
+        let first = stateIn count (now (sums .entry)) (now (values .entry)) (now (rows .entry)) in
+        let last : State = record { sums = now (sums .exit); values = now (values .exit); rows = now (rows .exit) } in
+        record { k = e .k; settled = e .settled; last = last } ≡ Run.runFrom quotient g settings (now (costs .entry)) (settings .limit - done) done first) ⌝ }
+{
+    let mut limits = [0i64; 31];
+    let mut inverses = [0i64; 31];
+    values::prepare(settings.ratio, &mut limits, &mut inverses);
+    let ending = iterations(
+        settings,
+        triples,
+        counts,
+        costs,
+        count,
+        &limits,
+        &inverses,
+        done,
+        sums,
+        values,
+        rows,
+    );
+    layout::straighten(rows, count);
+    ending
+}
+
+// The run of the system that the lists hold, from the start: "each s is at first 0".
 pub fn run(
     settings: Settings,
     triples: &[u16],
@@ -79,26 +146,21 @@ pub fn run(
     rows: &mut [i32],
 ) -> Ending
     requires { ⌜ Lent settings (now triples) (now counts) (now costs) count (now sums) (now values) (now rows) ⌝ }
-    requires { ⌜ (1 ≤ settings .limit) × (settings .limit ≤ 1000) ⌝ }
-    ensures { λ e. ⌜ (let g = held (now (triples .entry)) count (now (values .entry)) in
+    requires { ⌜ (1 ≤ settings .limit) × (settings .limit ≤ mostIterations) ⌝ }
+    ensures { λ e. ⌜ ((k : Code) → let g = systemIn k (now (triples .entry)) count (now (values .entry)) in
         let last : State = record { sums = now (sums .exit); values = now (values .exit); rows = now (rows .exit) } in
         record { k = e .k; settled = e .settled; last = last } ≡ Run.run quotient g settings (now (costs .entry))) ⌝ }
 {
-    let mut mosts = [0i64; 31];
-    let mut inverses = [0i64; 31];
-    values::prepare(settings.ratio, &mut mosts, &mut inverses);
-    let ending = iterations(
+    slices::clear_i32(rows);
+    run_from(
         settings,
         triples,
         counts,
         costs,
         count,
-        &mosts,
-        &inverses,
+        0,
         sums,
         values,
         rows,
-    );
-    layout::straighten(rows, count);
-    ending
+    )
 }

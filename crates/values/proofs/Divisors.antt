@@ -30,8 +30,8 @@ next-entries P k l i x y h m all here =
     (rw (getD-set-same k i x (pos 0) h, getD-set-same l i y (pos 0) m) here)
 
 -- the entries for the count e
-pub entry : {A : ℕ} {mosts inverses : List ℤ} → Tables A mosts inverses → (e : ℕ) → 1 ≤ e → e ≤ length inverses
-    → Prepared (divisor (4 * e) A) (at mosts (e - 1)) (at inverses (e - 1))
-entry {A} {mosts} {inverses} t e h k =
+pub entry : {A : ℕ} {limits inverses : List ℤ} → Tables A limits inverses → (e : ℕ) → 1 ≤ e → e ≤ length inverses
+    → Prepared (divisor (4 * e) A) (at limits (e - 1)) (at inverses (e - 1))
+entry {A} {limits} {inverses} t e h k =
     let n : suc (e - 1) ≡ e = omega arith in
     rw n at (t .prepared (e - 1) (omega arith))

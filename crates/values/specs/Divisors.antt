@@ -8,6 +8,6 @@ use Rattle.quotient.specs.Prepared.{Prepared}
 use Rattle.model.specs.Iteration.{at, divisor}
 
 -- entries i of the two lists stand for the divisor of the variables that lie in i + 1 triples, A being the ratio
-pub record Tables (A : ℕ) (mosts inverses : List ℤ) : Type 0 where
-  pub as-long : length mosts ≡ length inverses
-  pub prepared : (i : ℕ) → i < length inverses → Prepared (divisor (4 * suc i) A) (at mosts i) (at inverses i)
+pub record Tables (A : ℕ) (limits inverses : List ℤ) : Type 0 where
+  pub as-long : length limits ≡ length inverses
+  pub prepared : (i : ℕ) → i < length inverses → Prepared (divisor (4 * suc i) A) (at limits i) (at inverses i)

@@ -14,12 +14,12 @@ use Rattle.model.specs.Iteration.{occurrences, countsOf}
 use Rattle.model.specs.Causes.{outside}
 use Rattle.model.proofs.Accepted.{accepted}
 use Rattle.model.specs.Sound.{Sound}
-use Rattle.model.specs.Limits.{mostIterations}
+use Rattle.model.specs.Limits.{mostWeight, mostRatio, mostIterations}
 use Rattle.model.specs.Run.{Ended, run}
 use Rattle.model.specs.Records.{codeOf}
 use Rattle.model.specs.Bounds.{Ready}
 use Rattle.model.specs.Code.{Code, triples, variables}
-use Rattle.model.specs.Splitting.{System, systemOf}
+use Rattle.model.specs.Splitting.{System, systemOf, Named}
 use Rattle.model.proofs.Causes.{or-false, within}
 use Rattle.model.proofs.Bounds.{ready}
 use Rattle.triples.proofs.Members.{members-long, member-below}
@@ -67,11 +67,11 @@ module _ (w : tie.After-write-system) where
   n-is : n ≡ s .args .variables
   n-is = length-take-le (s .args .variables) (s .args .values .now) (s .pre .1 .1 .1 .1)
 
-  system-is : record { variables = n; triples = s .args .total; members = ts } ≡ systemOf k
+  system-is : record { code = k; variables = n; triples = s .args .total; members = ts } ≡ systemOf k
   unfolding systemOf
   system-is =
-      ap₂ (λ (n t : ℕ). record { variables = n; triples = t; members = ts }) (n-is ∙ s .pre .0 .2) (s .pre .0 .1)
-      ∙ ap (λ (l : List ℕ). record { variables = variables k; triples = triples k; members = l }) ts-is
+      ap₂ (λ (n t : ℕ). record { code = k; variables = n; triples = t; members = ts }) (n-is ∙ s .pre .0 .2) (s .pre .0 .1)
+      ∙ ap (λ (l : List ℕ). record { code = k; variables = variables k; triples = triples k; members = l }) ts-is
 
   ts-long : length ts ≡ 3 * s .args .total
   ts-long = ap length ts-is ∙ members-long k sound ∙ ap (λ (t : ℕ). 3 * t) (sym (s .pre .0 .1))
@@ -82,80 +82,48 @@ module _ (w : tie.After-write-system) where
   rows-long : length (take (4 * s .args .total) (s .args .rows .now)) ≡ 4 * s .args .total
   rows-long = length-take-le (4 * s .args .total) (s .args .rows .now) (s .pre .1 .1 .1 .2)
 
-  members-below : (i : ℕ) → i < length ts → getD ts i 0 < n
+  members-below : Named ts n
   members-below i h =
       subst (λ (m : ℕ). getD ts i 0 < m) (sym (n-is ∙ s .pre .0 .2))
       (subst (λ (l : List ℕ). getD l i 0 < variables k) (sym ts-is) (member-below k sound i (omega (arith, ts-long, s .pre .0 .1))))
 
-  is-ready : Ready (systemOf k) (s .args .settings) (s .args .costs .now)
-  is-ready = ready k sound (s .args .settings) (s .pre .1 .0 .0) (s .args .costs .now) (s .pre .1 .0 .1) (s .pre .1 .0 .2)
-
-mul-run : tie.Need-mul-run
-mul-run c = search needs
-
-slice-reshare-prefix-run : tie.Need-slice-reshare-prefix-run
-slice-reshare-prefix-run c = search needs
+  is-ready : Ready n ts (s .args .total) (s .args .settings) (s .args .costs .now)
+  unfolding systemOf
+  is-ready =
+      subst (λ (h : System). Ready (h .variables) (h .members) (h .triples) (s .args .settings) (s .args .costs .now)) (sym system-is)
+      (ready k sound (s .args .settings) (s .pre .1 .0 .0) (s .args .costs .now) (s .pre .1 .0 .1) (s .pre .1 .0 .2))
 
 slice-aggregate-run : tie.Need-slice-aggregate-run
 slice-aggregate-run c = sym (ts-long (c .before .before .before .before .before))
 
-slice-reshare-prefix-run-2 : tie.Need-slice-reshare-prefix-run-2
-slice-reshare-prefix-run-2 c = search needs
-
 slice-aggregate-run-2 : tie.Need-slice-aggregate-run-2
 slice-aggregate-run-2 c = let w = c .before .before .before .before .before .before in sym (ap length (cs-is w) ∙ length-counts w)
-
-slice-relend-prefix-run : tie.Need-slice-relend-prefix-run
-slice-relend-prefix-run c = search needs
 
 slice-aggregate-run-3 : tie.Need-slice-aggregate-run-3
 slice-aggregate-run-3 c = sym (sums-long (c .before .before .before .before .before .before .before))
 
-slice-relend-prefix-run-2 : tie.Need-slice-relend-prefix-run-2
-slice-relend-prefix-run-2 c = search needs
-
 slice-aggregate-run-4 : tie.Need-slice-aggregate-run-4
 slice-aggregate-run-4 c = sym (n-is (c .before .before .before .before .before .before .before .before))
-
-mul-run-2 : tie.Need-mul-run-2
-mul-run-2 c = search needs
-
-slice-relend-prefix-run-3 : tie.Need-slice-relend-prefix-run-3
-slice-relend-prefix-run-3 c = search needs
 
 slice-aggregate-run-5 : tie.Need-slice-aggregate-run-5
 slice-aggregate-run-5 c = sym (rows-long (c .before .before .before .before .before .before .before .before .before))
 
 run-requires : tie.Need-run-requires
+unfolding countsOf
 run-requires c κs =
     let w = c .before .before .before .before .before .before .before .before .before in
     let a = s w .args in
-    let wide = or-false (outside 1 65535 (a .settings .weight)) _ (s w .pre .1 .0 .0) in (
+    let wide = or-false (outside 1 mostWeight (a .settings .weight)) _ (s w .pre .1 .0 .0) in (
       record {
         members = sym (ts-long w);
         sums = sums-long w ∙ sym (n-is w);
         rows = sym (rows-long w);
         below = members-below w;
         counted = cs-is w ∙ ap countsOf (sym (system-is w));
-        ready = subst (λ (h : System). Ready h (a .settings) (a .costs .now)) (sym (system-is w)) (is-ready w);
+        ready = is-ready w;
       },
-      within 1 mostIterations (a .settings .limit) (or-false (ltb 1023 (a .settings .ratio)) _ (wide .1) .1),
+      within 1 mostIterations (a .settings .limit) (or-false (ltb mostRatio (a .settings .ratio)) _ (wide .1) .1),
     )
-
-same-length : tie.Need-same-length
-same-length c = search needs
-
-same-length-2 : tie.Need-same-length-2
-same-length-2 c = search needs
-
-same-length-3 : tie.Need-same-length-3
-same-length-3 c = search needs
-
-same-length-4 : tie.Need-same-length-4
-same-length-4 c = search needs
-
-same-length-5 : tie.Need-same-length-5
-same-length-5 c = search needs
 
 returns : tie.Need-returns
 returns c =
@@ -163,7 +131,7 @@ returns c =
     let w = c .before .before .before .before .before .before .before .before .before .before .before .before .before in
     let a = s w .args in
     let e : record { k = r .result .k; settled = r .result .settled; last = record { sums = r .last .1 .1 .1 .1 .1 .0; values = r .last .1 .1 .1 .1 .1 .1 .0; rows = r .last .1 .1 .1 .1 .1 .1 .1 .0 } } ≡ run quotient (systemOf (k w)) (a .settings) (a .costs .now)
-    = r .ensures ∙ ap (λ (h : System). run quotient h (a .settings) (a .costs .now)) (system-is w) in (
+    = r .ensures (k w) ∙ ap (λ (h : System). run quotient h (a .settings) (a .costs .now)) (system-is w) in (
       (w .write-system .ensures .0, w .write-system .ensures .1),
       (
         ap (λ (x : Ended). x .k) e,
@@ -177,25 +145,6 @@ returns c =
 
 pub run-system-spec : {M : Type 1} → statement M
 run-system-spec =
-    tie.close
-    (tie.spec
-    write-system-requires
-    mul-run
-    slice-reshare-prefix-run
-    slice-aggregate-run
-    slice-reshare-prefix-run-2
-    slice-aggregate-run-2
-    slice-relend-prefix-run
-    slice-aggregate-run-3
-    slice-relend-prefix-run-2
-    slice-aggregate-run-4
-    mul-run-2
-    slice-relend-prefix-run-3
-    slice-aggregate-run-5
-    run-requires
-    same-length
-    same-length-2
-    same-length-3
-    same-length-4
-    same-length-5
-    returns)
+    tie.close (tie.spec write-system-requires (λ c. search needs) (λ c. search needs) slice-aggregate-run (λ c. search needs) slice-aggregate-run-2
+    (λ c. search needs) slice-aggregate-run-3 (λ c. search needs) slice-aggregate-run-4 (λ c. search needs) (λ c. search needs) slice-aggregate-run-5
+    run-requires (λ c. search needs) (λ c. search needs) (λ c. search needs) (λ c. search needs) (λ c. search needs) returns)

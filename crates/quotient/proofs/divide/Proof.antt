@@ -20,19 +20,19 @@ module _ (s : tie.Start) where
   d-is : (0 < d) × (d ≤ 2097152) × (s .args .den ≡ pos d)
   d-is = positive (s .args .den) 2097152 (s .pre .0) (s .pre .1)
 
-  most-is : Worth (pos unit *ℤ toZ w64 (ofZ w64 (s .args .den))) (pos (unit * d)) (unit * 2097152)
-  most-is = times (literal (pos unit)) (also (held w64 (s .args .den) 2097152 tt (d-is .1)) (d-is .2))
+  limit-is : Worth (pos unit *ℤ toZ w64 (ofZ w64 (s .args .den))) (pos (unit * d)) (unit * 2097152)
+  limit-is = times (literal (pos unit)) (also (held w64 (s .args .den) 2097152 tt (d-is .1)) (d-is .2))
 
 mul-limited : tie.Need-mul-limited
-mul-limited c = fits (most-is c) w64 tt
+mul-limited c = fits (limit-is c) w64 tt
 
 limited-requires : tie.Need-limited-requires
-limited-requires c κs = rw (stored (most-is c) w64 tt .is) (omega (arith, readℤ), omega (arith, d-is c))
+limited-requires c κs = rw (stored (limit-is c) w64 tt .is) (omega (arith, readℤ), omega (arith, d-is c))
 
 cut-is : (c : tie.After-limited) → toZ w64 (ofZ w64 (c .limited .result)) ≡ signed (c .before .args .num) (min (natAbs (c .before .args .num)) (unit * d (c .before)))
 cut-is c =
     let s = c .before in
-    read-back w64 (c .limited .ok) (c .limited .ensures ∙ ap₂ (λ (x y : ℤ). signed x (min (natAbs x) (natAbs y))) (toZ-ofZ (s .fits .num)) (stored (most-is s) w64 tt .is))
+    read-back w64 (c .limited .ok) (c .limited .ensures ∙ ap₂ (λ (x y : ℤ). signed x (min (natAbs x) (natAbs y))) (toZ-ofZ (s .fits .num)) (stored (limit-is s) w64 tt .is))
 
 rounded-requires : tie.Need-rounded-requires
 rounded-requires c κs =

@@ -19,17 +19,17 @@ abbrev x : tie.Start → ℤ
 x s = s .args .x
 
 -- of the divisor that the condition has
-product : (s : tie.Start) → Product (s .pre .0) (s .args .most) (s .args .inverse)
+product : (s : tie.Start) → Product (s .pre .0) (s .args .limit) (s .args .inverse)
 product s = product-of (s .pre .1)
 
 limited-requires : tie.Need-limited-requires
-limited-requires c κs = rw (toZ-ofZ (c .fits .most)) (product c .range)
+limited-requires c κs = rw (toZ-ofZ (c .fits .limit)) (product c .range)
 
 -- ---- x, limited
-cut-is : (c : tie.After-limited) → let s = c .before in toZ w64 (ofZ w64 (c .limited .result)) ≡ cut (s .args .most) (x s)
+cut-is : (c : tie.After-limited) → let s = c .before in toZ w64 (ofZ w64 (c .limited .result)) ≡ cut (s .args .limit) (x s)
 cut-is c =
     let s = c .before in
-    read-back w64 (c .limited .ok) (c .limited .ensures ∙ ap₂ (λ (y z : ℤ). cut z y) (toZ-ofZ (s .fits .x)) (toZ-ofZ (s .fits .most)))
+    read-back w64 (c .limited .ok) (c .limited .ensures ∙ ap₂ (λ (y z : ℤ). cut z y) (toZ-ofZ (s .fits .x)) (toZ-ofZ (s .fits .limit)))
 
 raised-requires : tie.Need-raised-requires
 raised-requires c κs = let s = c .before in rw (cut-is c, toZ-ofZ (s .fits .inverse)) (product s .fits (x s))
@@ -42,7 +42,7 @@ module _ (c : tie.After-raised) where
   abbrev start : tie.Start
   start = c .before .before
 
-  module _ {den : ℤ} (p : Product den (start .args .most) (start .args .inverse)) where
+  module _ {den : ℤ} (p : Product den (start .args .limit) (start .args .inverse)) where
     abbrev q : ℤ
     q = quotient (negℤ (x start)) den
 

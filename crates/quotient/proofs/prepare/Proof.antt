@@ -24,8 +24,8 @@ module _ (s : tie.Start) where
   den-is : Worth (toZ w64 (ofZ w64 (s .args .den))) (pos d) 64512
   den-is = also (held w64 (s .args .den) 64512 tt (d-is .1)) (d-is .2)
 
-  most-is : Worth (pos unit *ℤ toZ w64 (ofZ w64 (s .args .den))) (pos (unit * d)) (unit * 64512)
-  most-is = times (literal (pos unit)) den-is
+  limit-is : Worth (pos unit *ℤ toZ w64 (ofZ w64 (s .args .den))) (pos (unit * d)) (unit * 64512)
+  limit-is = times (literal (pos unit)) den-is
 
   whole : Worth (quotZ (pos (2 ^ 47)) (toZ w64 (ofZ w64 (s .args .den)))) (pos (2 ^ 47 / d)) (2 ^ 47)
   whole = record { is = ap (quotZ (pos (2 ^ 47))) (den-is .is); within = div-le-self (2 ^ 47) d }
@@ -35,7 +35,7 @@ module _ (s : tie.Start) where
   inverse-is = plus (stored whole w64 tt) (literal (pos 1))
 
 mul-t2 : tie.Need-mul-t2
-mul-t2 c = fits (most-is c) w64 tt
+mul-t2 c = fits (limit-is c) w64 tt
 
 div-t3 : tie.Need-div-t3
 div-t3 c = (omega (arith, ap (ofZ w64) (d-is c .2), d-is c .0), fits (whole c) w64 tt)
@@ -44,7 +44,7 @@ add-t4 : tie.Need-add-t4
 add-t4 c = fits (inverse-is c) w64 tt
 
 returns : tie.Need-returns
-returns c = prepared-at (d c) (d-is c .0) (d-is c .1) _ _ _ (d-is c .2) (stored (most-is c) w64 tt .is) (stored (inverse-is c) w64 tt .is)
+returns c = prepared-at (d c) (d-is c .0) (d-is c .1) _ _ _ (d-is c .2) (stored (limit-is c) w64 tt .is) (stored (inverse-is c) w64 tt .is)
 
 pub prepare-spec : {M : Type 1} → statement M
 prepare-spec = tie.close (tie.spec mul-t2 div-t3 add-t4 returns)

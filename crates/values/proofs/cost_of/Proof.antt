@@ -7,17 +7,8 @@ use lib.ListN.{List·getD-eq-default}
 use Rattle.values.proofs.cost_of.Statement.{statement}
 use Rattle.values.proofs.cost_of.Tie as tie
 
-mul-result : tie.Need-mul-result
-mul-result c = search needs
-
-shared-slice-copy-out-result : tie.Need-shared-slice-copy-out-result
-shared-slice-copy-out-result c = search needs
-
-returns : tie.Need-returns
-returns c = search needs
-
 returns-2 : tie.Need-returns-2
 returns-2 c = sym (List·getD-eq-default (c .before .args .costs .now) (pos 0) (omega arith))
 
 pub cost-of-spec : {M : Type 1} → statement M
-cost-of-spec = tie.close (tie.spec mul-result shared-slice-copy-out-result returns returns-2)
+cost-of-spec = tie.close (tie.spec (λ c. search needs) (λ c. search needs) (λ c. search needs) returns-2)

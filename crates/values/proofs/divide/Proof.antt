@@ -16,34 +16,17 @@ use Rattle.values.proofs.divide.Statement.{statement}
 use Rattle.values.proofs.divide.Tie as tie
 
 -- ---- by a product
-sub-divide-opposite : tie.Need-sub-divide-opposite
-sub-divide-opposite c = search needs
-
-mul-divide-opposite : tie.Need-mul-divide-opposite
-mul-divide-opposite c = search needs
-
-shared-slice-copy-out-divide-opposite : tie.Need-shared-slice-copy-out-divide-opposite
-shared-slice-copy-out-divide-opposite c = search needs
-
-sub-divide-opposite-2 : tie.Need-sub-divide-opposite-2
-sub-divide-opposite-2 c = search needs
-
-mul-divide-opposite-2 : tie.Need-mul-divide-opposite-2
-mul-divide-opposite-2 c = search needs
-
-shared-slice-copy-out-divide-opposite-2 : tie.Need-shared-slice-copy-out-divide-opposite-2
-shared-slice-copy-out-divide-opposite-2 c = search needs
 
 -- the entries that were read stand for the divisor
 prepared : (c : tie.After-divide-opposite-arg2)
     → let a = c .before .before .before .args in
     let i = a .count - 1 in
-    Prepared (divisor (4 * a .count) (a .ratio)) (toZ w64 (ofZ w64 (at (a .mosts .now) i))) (toZ w64 (ofZ w64 (at (a .inverses .now) i)))
+    Prepared (divisor (4 * a .count) (a .ratio)) (toZ w64 (ofZ w64 (at (a .limits .now) i))) (toZ w64 (ofZ w64 (at (a .inverses .now) i)))
 prepared c =
     let t = c .before .before in
     let s = t .before in
     let i = s .args .count - 1 in
-    rw (kept w64 (at (s .args .mosts .now) i) (c .before .divide-opposite-arg .given), kept w64 (at (s .args .inverses .now) i) (c .divide-opposite-arg2 .given))
+    rw (kept w64 (at (s .args .limits .now) i) (c .before .divide-opposite-arg .given), kept w64 (at (s .args .inverses .now) i) (c .divide-opposite-arg2 .given))
     (entry (s .pre .1) (s .args .count) (s .pre .0 .1) (t .if1 .taken))
 
 divide-opposite-requires : tie.Need-divide-opposite-requires
@@ -65,9 +48,6 @@ den-is c = read-back w64 (c .divisor .ok) (c .divisor .ensures)
 sub-divide : tie.Need-sub-divide
 sub-divide c = fits (opposite (c .before)) w64 tt
 
-divisor-requires : tie.Need-divisor-requires
-divisor-requires c κs = search needs
-
 divide-requires : tie.Need-divide-requires
 divide-requires c κs =
     let s = c .before .before in
@@ -80,17 +60,5 @@ returns-2 c =
 
 pub divide-spec : {M : Type 1} → statement M
 divide-spec =
-    tie.close
-    (tie.spec
-    sub-divide-opposite
-    mul-divide-opposite
-    shared-slice-copy-out-divide-opposite
-    sub-divide-opposite-2
-    mul-divide-opposite-2
-    shared-slice-copy-out-divide-opposite-2
-    divide-opposite-requires
-    sub-divide
-    divisor-requires
-    divide-requires
-    returns
-    returns-2)
+    tie.close (tie.spec (λ c. search needs) (λ c. search needs) (λ c. search needs) (λ c. search needs) (λ c. search needs) (λ c. search needs)
+    divide-opposite-requires sub-divide (λ c κs. search needs) divide-requires returns returns-2)

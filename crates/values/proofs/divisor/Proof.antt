@@ -19,14 +19,8 @@ value s =
     also (minus (counted s) (unsigned w64 (s .args .ratio) 1023 tt (s .pre .1)))
     (ap (λ (n : ℕ). pos n -ℤ pos (s .args .ratio)) (let e : 1024 * s .args .count ≡ 256 * (4 * s .args .count) = omega arith in e))
 
-mul-result : tie.Need-mul-result
-mul-result c = search needs
-
 cast-result : tie.Need-cast-result
 cast-result c = fits-one w64 (pos (1024 * c .args .count)) (1024 * 2048) (counted c .within) tt
-
-cast-result-2 : tie.Need-cast-result-2
-cast-result-2 c = search needs
 
 sub-result : tie.Need-sub-result
 sub-result c = fits (value c) w64 tt
@@ -35,4 +29,4 @@ returns : tie.Need-returns
 returns c = stored (value c) w64 tt .is
 
 pub divisor-spec : {M : Type 1} → statement M
-divisor-spec = tie.close (tie.spec mul-result cast-result cast-result-2 sub-result returns)
+divisor-spec = tie.close (tie.spec (λ c. search needs) cast-result (λ c. search needs) sub-result returns)

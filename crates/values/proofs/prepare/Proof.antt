@@ -14,18 +14,15 @@ use Rattle.values.proofs.prepare.Statement.{statement}
 use Rattle.values.proofs.prepare.Tie as tie
 
 abbrev Inv-loop : tie.InvT-loop
-Inv-loop ratio mosts₀ inverses₀ n i₀ mosts inverses i =
-    (i ≤ length inverses₀) × (length mosts ≡ length inverses₀) × (length inverses ≡ length inverses₀)
-    × ((k : ℕ) → k < i → Prepared (divisor (4 * suc k) ratio) (at mosts k) (at inverses k))
+Inv-loop ratio limits₀ inverses₀ i₀ i-end limits inverses i =
+    (i ≤ length inverses₀) × (length limits ≡ length inverses₀) × (length inverses ≡ length inverses₀)
+    × ((k : ℕ) → k < i → Prepared (divisor (4 * suc k) ratio) (at limits k) (at inverses k))
 
 abbrev μ-loop : tie.MeasureT-loop
-μ-loop ratio mosts₀ inverses₀ n i₀ mosts inverses i = length inverses₀ - i
+μ-loop ratio limits₀ inverses₀ i₀ i-end limits inverses i = length inverses₀ - i
 
 loop-holds : tie.Need-loop-holds Inv-loop μ-loop
 loop-holds c = (omega arith, c .pre .1, omega arith, λ k h. absurd (omega arith))
-
-add-divisor : tie.Need-add-divisor Inv-loop μ-loop
-add-divisor c = omega arith
 
 divisor-requires : tie.Need-divisor-requires Inv-loop μ-loop
 divisor-requires c κs = let s = c .before .before in (omega (arith, s .pre .2), omega (arith, s .pre .0))
@@ -42,11 +39,11 @@ prepare-requires c κs =
 abbrev turn : tie.After-struct-told Inv-loop μ-loop → tie.At-loop Inv-loop μ-loop
 turn c = c .before .before .before .before
 
-mul-most : tie.Need-mul-most Inv-loop μ-loop
-mul-most c = omega (arith, turn c .before .pre .2)
+mul-limit : tie.Need-mul-limit Inv-loop μ-loop
+mul-limit c = omega (arith, turn c .before .pre .2)
 
-slice-set-from-most : tie.Need-slice-set-from-most Inv-loop μ-loop
-slice-set-from-most c = omega (arith, turn c .loop .inv .1)
+slice-set-from-limit : tie.Need-slice-set-from-limit Inv-loop μ-loop
+slice-set-from-limit c = omega (arith, turn c .loop .inv .1)
 
 mul-inverse : tie.Need-mul-inverse Inv-loop μ-loop
 mul-inverse c = omega (arith, turn (c .before) .before .pre .2)
@@ -54,27 +51,21 @@ mul-inverse c = omega (arith, turn (c .before) .before .pre .2)
 slice-set-from-inverse : tie.Need-slice-set-from-inverse Inv-loop μ-loop
 slice-set-from-inverse c = omega (arith, turn (c .before) .loop .inv .2)
 
-add-i : tie.Need-add-i Inv-loop μ-loop
-add-i c = omega arith
-
-loop-less : tie.Need-loop-less Inv-loop μ-loop
-loop-less c = omega arith
-
 loop-again : tie.Need-loop-again Inv-loop μ-loop
 loop-again c =
     let p = c .before .before in
     let l = turn (c .before) in
     let i = l .loop .i in
     let ratio = l .before .args .ratio in
-    let most = toZ w64 (ofZ w64 (p .prepare .result .most)) in
+    let limit = toZ w64 (ofZ w64 (p .prepare .result .limit)) in
     let inverse = toZ w64 (ofZ w64 (p .prepare .result .inverse)) in
-    let most-is : most ≡ p .prepare .result .most = search needs in
+    let limit-is : limit ≡ p .prepare .result .limit = search needs in
     let inverse-is : inverse ≡ p .prepare .result .inverse = search needs in
-    let here : Prepared (divisor (4 * suc i) ratio) most inverse = rw (most-is, inverse-is) (rw (den-is (p .before)) at (p .prepare .ensures)) in (
+    let here : Prepared (divisor (4 * suc i) ratio) limit inverse = rw (limit-is, inverse-is) (rw (den-is (p .before)) at (p .prepare .ensures)) in (
       omega arith,
-      length-set (l .loop .mosts) i most ∙ l .loop .inv .1,
+      length-set (l .loop .limits) i limit ∙ l .loop .inv .1,
       length-set (l .loop .inverses) i inverse ∙ l .loop .inv .2,
-      next-entries (λ k. Prepared (divisor (4 * suc k) ratio)) (l .loop .mosts) (l .loop .inverses) i most inverse
+      next-entries (λ k. Prepared (divisor (4 * suc k) ratio)) (l .loop .limits) (l .loop .inverses) i limit inverse
           (omega (arith, l .loop .inv .1)) (omega (arith, l .loop .inv .2)) (l .loop .inv .3) here,
     )
 
@@ -91,21 +82,5 @@ returns c =
 
 pub prepare-spec : {M : Type 1} → statement M
 prepare-spec =
-    tie.close
-    (tie.spec
-    Inv-loop
-    μ-loop
-    loop-holds
-    add-divisor
-    divisor-requires
-    prepare-requires
-    mul-most
-    slice-set-from-most
-    mul-inverse
-    slice-set-from-inverse
-    add-i
-    loop-less
-    loop-again
-    same-length
-    same-length-2
-    returns)
+    tie.close (tie.spec Inv-loop μ-loop loop-holds (λ c. omega arith) divisor-requires prepare-requires mul-limit slice-set-from-limit mul-inverse
+    slice-set-from-inverse (λ c. omega arith) (λ c. omega arith) loop-again same-length same-length-2 returns)

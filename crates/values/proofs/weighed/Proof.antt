@@ -32,9 +32,6 @@ module _ (s : tie.Start) where
 mul-result : tie.Need-mul-result
 mul-result c = fits (scaled c) w64 tt
 
-cast-result : tie.Need-cast-result
-cast-result c = search needs
-
 cast-result-2 : tie.Need-cast-result-2
 cast-result-2 c = fits (cost-is c) w64 tt
 
@@ -48,4 +45,4 @@ returns : tie.Need-returns
 returns c = let t = stored (total c) w64 tt in (t .is, omega (arith, ap natAbs (t .is), t .within))
 
 pub weighed-spec : {M : Type 1} → statement M
-weighed-spec = tie.close (tie.spec mul-result cast-result cast-result-2 mul-result-2 add-result returns)
+weighed-spec = tie.close (tie.spec mul-result (λ c. search needs) cast-result-2 mul-result-2 add-result returns)

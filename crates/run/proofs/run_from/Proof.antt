@@ -1,0 +1,35 @@
+-- `run::run_from` meets its contract. Assumes nothing.
+use mathlib.Core.Path.{sym}
+use native.Mathlib.Omega.{arith}
+use borrow.Author.Needs.{needs}
+use Rattle.integers.proofs.Linear.{about}
+use Rattle.model.specs.Iteration.{at}
+use Rattle.run.proofs.run_from.Statement.{statement}
+use Rattle.run.proofs.run_from.Tie as tie
+
+abbrev prepared : tie.After-iterations-arg3 → tie.After-prepare
+prepared c = c .before .before .before .before .before .before .before
+
+abbrev start : tie.After-prepare → tie.Start
+start p = p .before .before .before .before .before
+
+iterations-requires : tie.Need-iterations-requires
+iterations-requires c κs = let p = prepared c in let s = start p in (s .pre .0, ((s .pre .1 .0, p .prepare .ensures), s .pre .1 .1))
+
+straighten-requires : tie.Need-straighten-requires
+straighten-requires c κs =
+    let i = c .before .before .before .before in
+    let s = start (prepared (i .before)) in
+    let e = i .iterations .ensures .1 in (
+      s .pre .0 .ready .triples,
+      sym (e .1),
+      λ j. let z = at (i .iterations .last .1 .1 .1 .1 .1 .1 .1 .1 .1 .1 .0) j in omega (arith, about z, e .0 .multipliers j, e .0 .slacks j, s .pre .1 .1 .1),
+    )
+
+returns : tie.Need-returns
+returns c = let i = c .before .before .before .before .before .before in λ k. rw (c .before .straighten .ensures) (i .iterations .ensures .0 k)
+
+pub run-from-spec : {M : Type 1} → statement M
+run-from-spec =
+    tie.close (tie.spec (λ c. search needs) (λ c. search needs) (λ c κs. search needs) (λ c. search needs) (λ c. search needs) iterations-requires
+    straighten-requires (λ c. search needs) (λ c. search needs) (λ c. search needs) returns)

@@ -1,0 +1,49 @@
+// Numbers of a wider type, and slices that become 0.
+ghost use mathlib.Core.Path.{_≡_};
+ghost use lib.IntN.{pos};
+ghost use lib.ListN.{length};
+ghost use Rattle.lists.specs.Tabulated.{tab};
+
+// ---- wider types
+
+pub fn byte(x: u8) -> usize
+    ensures { λ r. ⌜ r ≡ x ⌝ }
+{
+    x as usize
+}
+
+pub fn index(x: u16) -> usize
+    ensures { λ r. ⌜ r ≡ x ⌝ }
+{
+    x as usize
+}
+
+pub fn i16_to_i32(x: i16) -> i32
+    ensures { λ r. ⌜ r ≡ x ⌝ }
+{
+    x as i32
+}
+
+pub fn i32_to_i64(x: i32) -> i64
+    ensures { λ r. ⌜ r ≡ x ⌝ }
+{
+    x as i64
+}
+
+// ---- zeros
+
+pub fn clear_i32(l: &mut [i32])
+    ensures { λ _. ⌜ now (l .exit) ≡ tab (length (now (l .entry))) (λ _. pos 0) ⌝ }
+{
+    for i in 0..l.len() {
+        l[i] = 0i32;
+    }
+}
+
+pub fn clear_i64(l: &mut [i64])
+    ensures { λ _. ⌜ now (l .exit) ≡ tab (length (now (l .entry))) (λ _. pos 0) ⌝ }
+{
+    for i in 0..l.len() {
+        l[i] = 0i64;
+    }
+}
