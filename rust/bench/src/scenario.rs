@@ -3,7 +3,7 @@
 use compare::codes::{records, regular_code, training_code, Code};
 use compare::random::Random;
 use interface::{Channel, Library, Settings};
-use rivals::Plain;
+use reference::SOUND;
 
 /// The scale from samples of size 1 to costs.
 pub const SCALE: f32 = 1000.0;
@@ -53,7 +53,7 @@ fn frame(random: &mut Random, bits: usize, noise: f64) -> Vec<i16> {
         .map(|_| (1.0 + noise * random.normal()) as f32)
         .collect();
     let mut costs = vec![0; bits];
-    let number = Plain.channel(Channel::Gaussian(SCALE), &samples, &mut costs);
+    let number = SOUND.front(Channel::Gaussian(SCALE), &samples, &mut costs);
     assert_eq!(number, 0);
     costs
 }

@@ -29,8 +29,8 @@ fn floats_text(floats: &[f32]) -> String {
     bytes_text(&bytes)
 }
 
-fn setting_text(setting: Channel) -> String {
-    match setting {
+fn channel_text(channel: Channel) -> String {
+    match channel {
         Channel::Gaussian(scale) => floats_text(&[scale]),
         Channel::Hard(weight) => floats_text(&[weight]),
         Channel::Erasing(Erasing { floor, weight }) => floats_text(&[floor, weight]),
@@ -50,13 +50,13 @@ impl fmt::Display for Case {
             Case::Split { code, room } => {
                 write!(line, "{} {}", bytes_text(code), room_text(room))
             }
-            Case::Channel {
-                setting,
+            Case::Front {
+                channel,
                 samples,
                 room,
             } => {
                 let samples = floats_text(samples);
-                write!(line, "{} {samples} {room}", setting_text(*setting))
+                write!(line, "{} {samples} {room}", channel_text(*channel))
             }
             Case::Reflect { costs, word, room } => {
                 write!(line, "{} {} {room}", costs_text(costs), bytes_text(word))
@@ -140,12 +140,12 @@ impl Words<'_> {
             .collect())
     }
 
-    fn setting(&mut self, entry: &str) -> Result<Channel, String> {
+    fn channel(&mut self, entry: &str) -> Result<Channel, String> {
         match (entry, self.floats()?.as_slice()) {
             ("gaussian", &[scale]) => Ok(Channel::Gaussian(scale)),
             ("hard", &[weight]) => Ok(Channel::Hard(weight)),
             ("erasing", &[floor, weight]) => Ok(Channel::Erasing(Erasing { floor, weight })),
-            _ => Err("no channel setting".into()),
+            _ => Err("no channel".into()),
         }
     }
 
@@ -173,8 +173,8 @@ impl FromStr for Case {
                 code: words.bytes()?,
                 room: words.numbers()?,
             },
-            "gaussian" | "hard" | "erasing" => Case::Channel {
-                setting: words.setting(&entry)?,
+            "gaussian" | "hard" | "erasing" => Case::Front {
+                channel: words.channel(&entry)?,
                 samples: words.floats()?,
                 room: words.number()?,
             },

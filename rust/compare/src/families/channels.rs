@@ -54,7 +54,7 @@ fn next_down(float: f32) -> f32 {
 fn edge_settings() -> Vec<Case> {
     let mut cases = Vec::new();
     for float in edge_floats() {
-        for setting in [
+        for channel in [
             Channel::Gaussian(float),
             Channel::Hard(float),
             erasing(float, 3.0),
@@ -67,8 +67,8 @@ fn edge_settings() -> Vec<Case> {
                 (vec![f32::NAN], 0),
                 (vec![1.0], 0),
             ] {
-                cases.push(Case::Channel {
-                    setting,
+                cases.push(Case::Front {
+                    channel,
                     samples,
                     room,
                 });
@@ -87,15 +87,15 @@ fn edge_samples() -> Vec<Case> {
     let samples: Vec<f32> = finite.collect();
     let mut cases = Vec::new();
     for &float in samples.iter().filter(|&&float| float > 0.0) {
-        for setting in [
+        for channel in [
             Channel::Gaussian(float),
             Channel::Hard(float),
             erasing(float, 3.0),
             erasing(1.0, float),
             erasing(0.0, float),
         ] {
-            cases.push(Case::Channel {
-                setting,
+            cases.push(Case::Front {
+                channel,
                 samples: samples.clone(),
                 room: samples.len(),
             });
@@ -122,7 +122,7 @@ fn any_factor(random: &mut Random) -> f32 {
     }
 }
 
-fn any_setting(random: &mut Random) -> Channel {
+fn any_channel(random: &mut Random) -> Channel {
     let factor = any_factor(random);
     let floor = any_factor(random);
     random.pick(&[
@@ -134,7 +134,7 @@ fn any_setting(random: &mut Random) -> Channel {
 }
 
 fn any_samples(random: &mut Random) -> Case {
-    let setting = any_setting(random);
+    let channel = any_channel(random);
     let length = random.below(60);
     let sample = |random: &mut Random| match random.below(4) {
         0 => any_finite(random),
@@ -142,8 +142,8 @@ fn any_samples(random: &mut Random) -> Case {
         2 => any_factor(random),
         _ => -any_factor(random),
     };
-    Case::Channel {
-        setting,
+    Case::Front {
+        channel,
         samples: (0..length).map(|_| sample(random)).collect(),
         room: length + random.below(3),
     }
@@ -163,8 +163,8 @@ fn near_halves(random: &mut Random) -> Case {
         let near = random.pick(&[sample, sample, next_up(sample), next_down(sample)]);
         near * random.pick(&[1.0, -1.0])
     };
-    Case::Channel {
-        setting: Channel::Gaussian(scale),
+    Case::Front {
+        channel: Channel::Gaussian(scale),
         samples: (0..60).map(|_| sample(random)).collect(),
         room: 60,
     }
@@ -173,7 +173,7 @@ fn near_halves(random: &mut Random) -> Case {
 fn damaged_samples(random: &mut Random) -> Case {
     let length = random.between(1, 20);
     let mut samples: Vec<f32> = (0..length).map(|_| any_factor(random)).collect();
-    let mut setting = any_setting(random);
+    let mut channel = any_channel(random);
     let mut room = length + random.below(3);
     for _ in 0..random.between(1, 3) {
         let wrong = random.pick(&[f32::NAN, f32::INFINITY, f32::NEG_INFINITY]);
@@ -181,7 +181,7 @@ fn damaged_samples(random: &mut Random) -> Case {
             0 => samples[random.below(length)] = wrong,
             1 => room = random.below(length),
             _ => {
-                setting = match setting {
+                channel = match channel {
                     Channel::Gaussian(_) => Channel::Gaussian(wrong),
                     Channel::Hard(_) => Channel::Hard(-0.0),
                     Channel::Erasing(_) => erasing(wrong, 1.0),
@@ -189,8 +189,8 @@ fn damaged_samples(random: &mut Random) -> Case {
             }
         }
     }
-    Case::Channel {
-        setting,
+    Case::Front {
+        channel,
         samples,
         room,
     }

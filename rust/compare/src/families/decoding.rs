@@ -11,7 +11,7 @@ use crate::random::Random;
 use interface::Settings;
 use reference::iteration::Problem;
 use reference::run::run;
-use reference::splitting::Split;
+use reference::SOUND;
 
 pub fn families() -> Vec<Family> {
     vec![
@@ -127,16 +127,12 @@ fn other_lengths(random: &mut Random) -> Case {
 fn exact_tolerance(random: &mut Random) -> Case {
     let code = tiny_code(random);
     let mut draft = Draft::random(random, code);
-    let limit = random.between(2, 40) as u32;
-    draft.settings.limit = limit;
-    let problem = Problem::new(
-        Split::of(&draft.code),
-        draft.settings.weight,
-        draft.settings.ratio,
-        &draft.costs,
-    );
+    draft.settings.limit = random.between(2, 40) as u32;
+    draft.settings.tolerance = 0;
+    let split = SOUND.split_code(&draft.code);
+    let problem = Problem::new(SOUND, split, draft.settings, &draft.costs);
     let mut totals = Vec::new();
-    run(&problem, limit, 0, &mut |_, _, both| {
+    run(&problem, &mut |_, both| {
         totals.push(both.multipliers.max(both.slacks))
     });
     let total = totals[random.below(totals.len())];

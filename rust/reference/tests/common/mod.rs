@@ -1,8 +1,8 @@
 //! Builders for records and lent lists.
 #![allow(dead_code)]
 
-use interface::{OwnLists, RunAnswer, Settings};
-use reference::decoder::decode;
+pub use interface::*;
+pub use reference::SOUND;
 
 pub fn two(number: usize) -> [u8; 2] {
     (number as u16).to_be_bytes()
@@ -54,15 +54,15 @@ pub fn lists(bits: usize, variables: usize, triples: usize) -> OwnLists {
 }
 
 /// Decodes with the small code; the answer and the lists afterwards.
-pub fn decode_small(settings: Settings, costs: [i16; 3]) -> (RunAnswer, OwnLists) {
+pub fn decode_small(settings: Settings, costs: [i16; 3]) -> (DecodeAnswer, OwnLists) {
     let mut lent = lists(3, 3, 1);
-    let answer = decode(&small(), settings, &costs, lent.lend());
+    let answer = SOUND.decode(&small(), settings, &costs, lent.lend());
     (answer, lent)
 }
 
-pub fn refusal(number: u32) -> RunAnswer {
-    RunAnswer {
+pub fn refusal(number: u32) -> DecodeAnswer {
+    DecodeAnswer {
         number,
-        ..RunAnswer::default()
+        ..DecodeAnswer::default()
     }
 }
