@@ -25,7 +25,7 @@ struct Run {
 impl Reflection {
     pub fn random(random: &mut Random, code: Code) -> Reflection {
         let codeword = Codewords::of(&code).random(random);
-        let draft = Draft::random(random, code);
+        let draft = Draft::of(random, code);
         Reflection {
             code: draft.code,
             settings: draft.settings,

@@ -1,7 +1,6 @@
 //! Reflections of many runs, after every iteration.
 
-use crate::codes::{regular_code, training_code};
-use crate::draft::{code_within, small_code, tiny_code};
+use crate::codes::{code_within, regular_code, small_code, tiny_code, training_code};
 use crate::random::Random;
 use crate::reflection::Reflection;
 use interface::{Decoder, Library};

@@ -1,7 +1,7 @@
 //! What the reference alone must have: reflection, and points that are exactly
 //! the codewords' points.
 
-use compare::draft::tiny_code;
+use compare::codes::tiny_code;
 use compare::random::Random;
 use compare::reflections::assert_reflects;
 use reference::iteration::{SIGNS, UNIT};

@@ -83,7 +83,7 @@ impl Reference {
             rounded_size(significand, 150 - exponent).min(most)
         };
         if negative {
-            (size as i16).wrapping_neg()
+            -(size as i16)
         } else {
             size as i16
         }
@@ -94,7 +94,7 @@ impl Reference {
         if is_positive(sample) {
             self.cost_of(weight)
         } else if is_negative(sample) || below {
-            self.cost_of(-weight)
+            -self.cost_of(weight)
         } else {
             0
         }
@@ -135,19 +135,17 @@ impl Reference {
         }
     }
 
-    pub fn try_front(
+    pub(crate) fn try_front(
         self,
         channel: Channel,
         samples: &[f32],
         costs: &mut [i16],
     ) -> Result<(), Cause> {
         let passes = self.has(Fault::SettingNotJudgedWithoutSamples) && samples.is_empty();
+        let finite = samples.iter().all(|&sample| is_finite(sample));
         self.judge(&[
             (Cause::Setting, !self.is_sound(channel) && !passes),
-            (
-                Cause::Sample,
-                !samples.iter().all(|&sample| is_finite(sample)),
-            ),
+            (Cause::Sample, !finite),
             (Cause::ListTooShort, costs.len() < samples.len()),
         ])?;
         for (entry, &sample) in costs.iter_mut().zip(samples) {

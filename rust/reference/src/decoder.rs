@@ -32,7 +32,7 @@ impl Reference {
             && (lists.word.len() >= code.bits || self.has(Fault::ShortWordPassesUnwritten))
     }
 
-    pub fn try_decode(
+    pub(crate) fn try_decode(
         self,
         code: &[u8],
         settings: Settings,

@@ -4,10 +4,11 @@
 use crate::cause::Cause::{self, *};
 use crate::Reference;
 
-/// Defines the faults that have a place of their own in the reference, and the
-/// list of them with the entries in which they show.
+/// Defines the faults, and lists those with a place of their own in the
+/// reference after the entries in which they show.
 macro_rules! faults {
     ($([$($entry:literal),+]: $($fault:ident),+;)+) => {
+        /// Where the reference goes wrong.
         #[derive(Clone, Copy, Debug, PartialEq, Eq)]
         pub enum Fault {
             /// This limit of the document is one more, or one less.
@@ -20,8 +21,7 @@ macro_rules! faults {
             $($($fault,)+)+
         }
 
-        /// Faults, after the entries in which they show.
-        pub const SLIPS: &[(&[&str], &[Fault])] =
+        const SLIPS: &[(&[&str], &[Fault])] =
             &[$((&[$($entry),+], &[$(Fault::$fault),+])),+];
     };
 }
@@ -59,6 +59,7 @@ faults! {
 
 const OF_RECORDS: &[&str] = &["read", "split", "test", "extend", "decode"];
 const OF_CHANNELS: &[&str] = &["gaussian", "hard", "erasing"];
+const OF_FIELDS: &[Cause] = &[Mark, Size, Degree, IndexTooHigh, IndexNotRising];
 
 /// Limits to move.
 const LIMITS: &[(&[&str], &[usize])] = &[
@@ -84,16 +85,10 @@ const TOGETHER: &[(&[&str], &[Cause])] = &[
 
 /// Causes that are judged alone.
 const ALONE: &[(&[&str], &[Cause])] = &[
-    (
-        OF_RECORDS,
-        &[Mark, Size, Degree, IndexTooHigh, IndexNotRising],
-    ),
+    (OF_RECORDS, OF_FIELDS),
     (&["split"], &[ListTooShort]),
-    (
-        &["frames"],
-        &[Mark, Size, Degree, IndexTooHigh, IndexNotRising, UnusedBit],
-    ),
-    (&["frames"], &[ListTooShort, Setting, Cost]),
+    (&["frames"], OF_FIELDS),
+    (&["frames"], &[UnusedBit, ListTooShort, Setting, Cost]),
 ];
 
 /// Every fault, with the entries in which it shows.
@@ -113,22 +108,19 @@ pub fn all() -> Vec<(&'static [&'static str], Fault)> {
         }
     }
     for &(entries, causes) in TOGETHER.iter().chain(ALONE) {
-        all.extend(
-            causes
-                .iter()
-                .map(|&cause| (entries, Fault::Overlooked(cause))),
-        );
+        let overlooked = causes.iter().map(|&cause| Fault::Overlooked(cause));
+        all.extend(overlooked.map(|fault| (entries, fault)));
     }
     all
 }
 
 impl Reference {
-    pub fn has(self, fault: Fault) -> bool {
+    pub(crate) fn has(self, fault: Fault) -> bool {
         self.fault == Some(fault)
     }
 
     /// A limit of the document.
-    pub fn limit(self, number: usize) -> usize {
+    pub(crate) fn limit(self, number: usize) -> usize {
         match self.fault {
             Some(Fault::OneMore(moved)) if moved == number => number + 1,
             Some(Fault::OneLess(moved)) if moved == number => number - 1,
@@ -136,13 +128,22 @@ impl Reference {
         }
     }
 
+    /// A number, cut to 16 bits with this fault.
+    pub(crate) fn narrowed(self, number: i64, fault: Fault) -> i64 {
+        if self.has(fault) {
+            i64::from(number as i16)
+        } else {
+            number
+        }
+    }
+
     /// Whether a number lies in a range of the document.
-    pub fn within(self, number: usize, least: usize, most: usize) -> bool {
+    pub(crate) fn within(self, number: usize, least: usize, most: usize) -> bool {
         self.limit(least) <= number && number <= self.limit(most)
     }
 
     /// The first of these causes that holds.
-    pub fn judge(self, causes: &[(Cause, bool)]) -> Result<(), Cause> {
+    pub(crate) fn judge(self, causes: &[(Cause, bool)]) -> Result<(), Cause> {
         let place_of = |cause| causes.iter().position(|&(other, _)| other == cause);
         let exchanged = match self.fault {
             Some(Fault::Exchanged(one, other)) => place_of(one).zip(place_of(other)),

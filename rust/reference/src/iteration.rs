@@ -126,29 +126,21 @@ fn value(problem: &Problem, variable: usize, sum: i64) -> i64 {
     if problem.reference.has(Fault::QuotientIn32Bits) {
         dividend = i128::from(dividend as i32);
     }
-    let quotient = problem
-        .reference
-        .nearest(dividend, problem.divisor(variable));
-    limited(quotient, problem.reference.limit(16_384) as i128) as i64
+    let most = problem.reference.limit(16_384) as i128;
+    let divisor = problem.divisor(variable);
+    limited(problem.reference.nearest(dividend, divisor), most) as i64
 }
 
 /// Every row's new s, with the old p and the new c.
 fn renewed_rows(problem: &Problem, old: &[[i64; 4]], values: &[i64]) -> Vec<[i64; 4]> {
-    let narrow_sums = problem.reference.has(Fault::TripleSumsIn16Bits);
-    let narrow_rows = problem.reference.has(Fault::RowsIn16Bits);
-    let narrowed = |number, narrow| {
-        if narrow {
-            i64::from(number as i16)
-        } else {
-            number
-        }
-    };
+    let reference = problem.reference;
     let mut rows = old.to_vec();
     for (triple, rows) in problem.split.triples.iter().zip(&mut rows) {
         for (signs, s) in problem.signs.iter().zip(rows) {
             let sum = (0..3).map(|i| signs[i] * values[triple[i]]).sum();
-            let new = multiplier(*s) + narrowed(sum, narrow_sums) - UNIT;
-            *s = narrowed(new, narrow_rows);
+            let sum = reference.narrowed(sum, Fault::TripleSumsIn16Bits);
+            *s = multiplier(*s) + sum - UNIT;
+            *s = reference.narrowed(*s, Fault::RowsIn16Bits);
         }
     }
     rows

@@ -90,6 +90,7 @@ impl Reader<'_> {
         Ok((bits, checks))
     }
 
+    /// The indices of a check, in rising order.
     fn indices(&mut self, bits: usize, degree: usize) -> Result<Vec<usize>, Cause> {
         let late = self.reference.has(Fault::HighIndexJudgedLast);
         let mut check: Vec<usize> = Vec::new();
@@ -108,6 +109,11 @@ impl Reader<'_> {
         Ok(check)
     }
 
+    fn room(&self, needed: usize, held: usize) -> Result<(), Cause> {
+        let short = needed > held;
+        self.reference.judge(&[(Cause::ListTooShort, short)])
+    }
+
     /// Header and checks of a code, for one who holds so many bits and triples.
     pub fn code(&mut self, most_bits: usize, most_triples: usize) -> Result<Code, Cause> {
         let (bits, count) = self.header()?;
@@ -116,18 +122,16 @@ impl Reader<'_> {
             checks: Vec::new(),
         };
         let mut triples = 0;
-        let room = [(Cause::ListTooShort, bits > most_bits)];
-        self.reference.judge(&room)?;
+        self.room(bits, most_bits)?;
         for _ in 0..count {
             self.mark(CHECK_MARK)?;
             let degree = self.number_within(1, (3, 32), Cause::Degree)?;
             triples += degree - 2;
-            let room = [(Cause::ListTooShort, triples > most_triples)];
             if self.reference.has(Fault::RoomJudgedBeforeIndices) {
-                self.reference.judge(&room)?;
+                self.room(triples, most_triples)?;
             }
             code.checks.push(self.indices(bits, degree)?);
-            self.reference.judge(&room)?;
+            self.room(triples, most_triples)?;
             if self.reference.has(Fault::TriplesJudgedAtOnce) && triples > 8_192 {
                 return Err(Cause::TooManyTriples);
             }

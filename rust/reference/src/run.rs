@@ -51,7 +51,7 @@ pub struct Reading {
 }
 
 impl Reference {
-    pub fn reading(self, code: &Code, values: &[i64]) -> Reading {
+    pub(crate) fn reading(self, code: &Code, values: &[i64]) -> Reading {
         let mut bits: Vec<u8> = values.iter().map(|&c| u8::from(c > 0)).collect();
         bits.truncate(code.bits);
         if self.has(Fault::SameWordEachTime) {

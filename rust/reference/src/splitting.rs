@@ -61,7 +61,7 @@ impl Reference {
     }
 
     /// Writes triples and counts; entries beyond those used stay.
-    pub fn write_split(self, split: &Split, triples: &mut [u16], counts: &mut [u16]) {
+    pub(crate) fn write_split(self, split: &Split, triples: &mut [u16], counts: &mut [u16]) {
         if self.has(Fault::RestCleared) {
             triples.fill(0);
             counts.fill(0);
@@ -75,7 +75,7 @@ impl Reference {
         }
     }
 
-    pub fn try_split(
+    pub(crate) fn try_split(
         self,
         code: &[u8],
         triples: &mut [u16],

@@ -39,7 +39,7 @@ impl Reference {
 
     /// The codeword test and, with the room for its point, what the extension
     /// judges.
-    pub fn try_test(
+    pub(crate) fn try_test(
         self,
         code: &[u8],
         word: &[u8],
@@ -47,33 +47,45 @@ impl Reference {
     ) -> Result<Code, WordAnswer> {
         let code = self.read_code(code)?;
         let odd = self.first_odd_check(&code, word);
+        let short = room.is_some_and(|room| room < code.variables());
         let judged = self.judge(&[
             (Cause::Lengths, word.len() != code.bits),
             (Cause::WordEntry, !is_binary(word)),
-            (
-                Cause::ListTooShort,
-                room.is_some_and(|room| room < code.variables()),
-            ),
+            (Cause::ListTooShort, short),
             (Cause::NotCodeword, odd.is_some()),
         ]);
         let first = usize::from(self.has(Fault::OddCheckFromOne));
-        match (judged, odd) {
-            (Err(Cause::NotCodeword), Some(check)) => Err(WordAnswer {
-                number: Cause::NotCodeword as u32,
-                place: check + first,
+        let place_of = |cause| match odd {
+            Some(check) if cause == Cause::NotCodeword => check + first,
+            _ => 0,
+        };
+        match judged {
+            Ok(()) => Ok(code),
+            Err(cause) => Err(WordAnswer {
+                number: cause as u32,
+                place: place_of(cause),
             }),
-            _ => Ok(judged.map(|()| code)?),
         }
     }
 
-    pub fn try_extend(self, code: &[u8], word: &[u8], point: &mut [u8]) -> Result<(), WordAnswer> {
+    pub(crate) fn try_extend(
+        self,
+        code: &[u8],
+        word: &[u8],
+        point: &mut [u8],
+    ) -> Result<(), WordAnswer> {
         let code = self.try_test(code, word, Some(point.len()))?;
         let made = self.point_of(&self.split_code(&code), word);
         point[..made.len()].copy_from_slice(&made);
         Ok(())
     }
 
-    pub fn try_reflect(self, costs: &[i16], word: &[u8], result: &mut [i16]) -> Result<(), Cause> {
+    pub(crate) fn try_reflect(
+        self,
+        costs: &[i16],
+        word: &[u8],
+        result: &mut [i16],
+    ) -> Result<(), Cause> {
         let refused = self.has(Fault::NoCostsRefused) && costs.is_empty();
         self.judge(&[
             (Cause::Lengths, costs.len() != word.len() || refused),
@@ -81,11 +93,7 @@ impl Reference {
             (Cause::WordEntry, !is_binary(word)),
             (Cause::ListTooShort, result.len() < costs.len()),
         ])?;
-        let negated = if self.has(Fault::NegatedAtZeros) {
-            0
-        } else {
-            1
-        };
+        let negated = u8::from(!self.has(Fault::NegatedAtZeros));
         for place in 0..costs.len() {
             result[place] = if word[place] == negated {
                 -costs[place]

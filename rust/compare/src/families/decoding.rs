@@ -3,10 +3,11 @@
 use super::Family;
 use crate::case::{Case, DecodeCase};
 use crate::codes::{
-    one_check, random_code, records, regular_code, room, training_code, Code, Shape,
+    code_of, code_within, known_code, one_check, records, regular_code, room, tiny_code,
+    training_code, Code,
 };
 use crate::codewords::Codewords;
-use crate::draft::{code_within, random_settings, small_code, tiny_code, Draft, Entry};
+use crate::draft::{random_settings, settings, Draft, Entry};
 use crate::random::Random;
 use interface::Settings;
 use reference::iteration::Problem;
@@ -27,15 +28,6 @@ pub fn families() -> Vec<Family> {
         Family::random("runs on large codes", 10, large_run),
         Family::listed("runs at the limits", limits),
     ]
-}
-
-fn settings(weight: u32, ratio: u32, limit: u32, tolerance: u32) -> Settings {
-    Settings {
-        weight,
-        ratio,
-        limit,
-        tolerance,
-    }
 }
 
 fn exact_case(code: &Code, settings: Settings, costs: Vec<i16>) -> Case {
@@ -92,7 +84,7 @@ fn edge_settings() -> Vec<Case> {
     cases
 }
 
-fn run_of(random: &mut Random, code: Code) -> Case {
+fn run_of(random: &mut Random, code: fn(&mut Random) -> Code) -> Case {
     let mut draft = Draft::random(random, code);
     if random.once_in(2) {
         draft.lengthen(random);
@@ -101,22 +93,16 @@ fn run_of(random: &mut Random, code: Code) -> Case {
 }
 
 fn tiny_run(random: &mut Random) -> Case {
-    let code = tiny_code(random);
-    run_of(random, code)
+    run_of(random, tiny_code)
 }
 
 fn small_run(random: &mut Random) -> Case {
-    let code = match random.below(10) {
-        0 => training_code(),
-        _ => small_code(random),
-    };
-    run_of(random, code)
+    run_of(random, known_code)
 }
 
 /// One list shorter than needed or longer, the others exact.
 fn other_lengths(random: &mut Random) -> Case {
-    let code = tiny_code(random);
-    let mut draft = Draft::random(random, code);
+    let mut draft = Draft::random(random, tiny_code);
     let list = random.below(6);
     let room = draft.room[list];
     draft.room[list] = random.pick(&[room - 1, room - 1, 0, room + 1, room + 1_000]);
@@ -125,8 +111,7 @@ fn other_lengths(random: &mut Random) -> Case {
 
 /// A tolerance equal to the larger total of some iteration, or one less.
 fn exact_tolerance(random: &mut Random) -> Case {
-    let code = tiny_code(random);
-    let mut draft = Draft::random(random, code);
+    let mut draft = Draft::random(random, tiny_code);
     draft.settings.limit = random.between(2, 40) as u32;
     draft.settings.tolerance = 0;
     let split = SOUND.split_code(&draft.code);
@@ -142,8 +127,7 @@ fn exact_tolerance(random: &mut Random) -> Case {
 }
 
 fn middle_run(random: &mut Random) -> Case {
-    let code = code_within(random, 400, 200, 1_500);
-    run_of(random, code)
+    run_of(random, |random| code_within(random, 400, 200, 1_500))
 }
 
 /// A code that corrects errors, settings that decode, and noise that it can
@@ -167,8 +151,7 @@ fn noisy_codeword(random: &mut Random) -> Case {
 }
 
 fn long_run(random: &mut Random) -> Case {
-    let code = tiny_code(random);
-    let mut draft = Draft::random(random, code);
+    let mut draft = Draft::random(random, tiny_code);
     draft.settings.limit = random.pick(&[999, 1_000, 1_000]);
     draft.settings.tolerance = random.pick(&[0, 0, 1_000]);
     draft.settings.weight = random.pick(&[300, 5_000, 65_535]);
@@ -176,8 +159,7 @@ fn long_run(random: &mut Random) -> Case {
 }
 
 fn large_run(random: &mut Random) -> Case {
-    let code = code_within(random, 4_096, 600, 8_192);
-    run_of(random, code)
+    run_of(random, |random| code_within(random, 4_096, 600, 8_192))
 }
 
 /// Codes at their limits: the widest checks, the most triples, and the most
@@ -192,12 +174,7 @@ fn limits() -> Vec<Case> {
         (3, 2_048, 2_048, 1_000),
         (32, 274, 8_192, 100),
     ] {
-        let shape = Shape {
-            bits,
-            checks,
-            triples,
-        };
-        let code = random_code(&mut random, shape);
+        let code = code_of(&mut random, bits, checks, triples);
         let mut run = random_settings(&mut random);
         run.limit = limit;
         run.tolerance = 0;

@@ -2,10 +2,10 @@
 
 use super::Family;
 use crate::case::Case;
-use crate::codes::{one_check, random_code, records, Code, Shape};
+use crate::codes::{code_of, code_within, one_check, records, tiny_code, Code};
 use crate::codewords::Codewords;
 use crate::damage::{apply, damages_of};
-use crate::draft::{code_within, random_costs, random_settings, tiny_code, Draft, Entry};
+use crate::draft::{random_costs, random_settings, settings, Draft, Entry};
 use crate::random::Random;
 use interface::Settings;
 
@@ -41,12 +41,7 @@ fn frame_record(costs: &[i16]) -> Vec<u8> {
 }
 
 fn listed_settings() -> Settings {
-    Settings {
-        weight: 256,
-        ratio: 0,
-        limit: 2,
-        tolerance: 0,
-    }
+    settings(256, 0, 2, 0)
 }
 
 fn listing() -> Vec<Case> {
@@ -96,14 +91,8 @@ fn unused_bit() -> Vec<Case> {
         bits: 5,
         checks: vec![vec![0, 1, 2], vec![1, 2, 3]],
     };
-    let wrong = Settings {
-        weight: 0,
-        ratio: 1_024,
-        limit: 0,
-        tolerance: 0,
-    };
     let mut cases = Vec::new();
-    for settings in [listed_settings(), wrong] {
+    for settings in [listed_settings(), settings(0, 1_024, 0, 0)] {
         let mut input = records(&code);
         input.extend(settings_record(settings));
         input.extend(frame_record(&[0; 5]));
@@ -127,12 +116,7 @@ fn room() -> Vec<Case> {
         (32, 35, 1_030),
         (7, 206, 1_026),
     ] {
-        let shape = Shape {
-            bits,
-            checks,
-            triples,
-        };
-        let code = random_code(&mut random, shape);
+        let code = code_of(&mut random, bits, checks, triples);
         let mut whole = records(&code);
         let end = whole.len();
         whole.extend(settings_record(listed_settings()));
@@ -245,8 +229,7 @@ fn damaged_stream(random: &mut Random) -> Case {
 
 /// Damaged code records, with settings and frames after them.
 fn damaged_records(random: &mut Random) -> Case {
-    let code = some_code(random);
-    let mut draft = Draft::random(random, code);
+    let mut draft = Draft::random(random, some_code);
     for _ in 0..random.between(1, 2) {
         let damage = random.pick(&damages_of(Entry::Read));
         apply(random, &mut draft, Entry::Read, damage);
