@@ -8,13 +8,8 @@ use reference::run::run;
 use reference::SOUND;
 use std::collections::BTreeMap;
 
-/// The entries of the library.
-pub const CALLS: [&str; 9] = [
-    "read", "split", "gaussian", "hard", "erasing", "reflect", "test", "extend", "decode",
-];
-
-/// Every entry with all the numbers it can give, and no others.
-const NUMBERS: [(&str, &[usize]); 9] = [
+/// Every entry of the library with all the numbers it can give, and no others.
+pub const NUMBERS: [(&str, &[usize]); 9] = [
     ("read", &[0, 1, 2, 3, 4, 5, 6, 7, 8, 9]),
     ("split", &[0, 1, 2, 3, 4, 5, 6, 7, 8, 9, 10]),
     ("gaussian", &[0, 10, 11, 14]),

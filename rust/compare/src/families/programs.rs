@@ -93,9 +93,8 @@ fn unused_bit() -> Vec<Case> {
     };
     let mut cases = Vec::new();
     for settings in [listed_settings(), settings(0, 1_024, 0, 0)] {
-        let mut input = records(&code);
-        input.extend(settings_record(settings));
-        input.extend(frame_record(&[0; 5]));
+        let frame = frame_record(&[0; 5]);
+        let input = [records(&code), settings_record(settings), frame].concat();
         cases.extend(cut_everywhere(&input));
     }
     cases
@@ -117,10 +116,9 @@ fn room() -> Vec<Case> {
         (7, 206, 1_026),
     ] {
         let code = code_of(&mut random, bits, checks, triples);
-        let mut whole = records(&code);
-        let end = whole.len();
-        whole.extend(settings_record(listed_settings()));
-        whole.extend(frame_record(&vec![100; bits]));
+        let end = records(&code).len();
+        let frame = frame_record(&vec![100; bits]);
+        let whole = [records(&code), settings_record(listed_settings()), frame].concat();
         let mut no_checks = whole.clone();
         no_checks[4..6].copy_from_slice(&[0, 0]);
         let mut unused = whole.clone();
@@ -146,18 +144,14 @@ fn edge_settings() -> Vec<Case> {
             let mut record = settings_record(listed_settings());
             record[2 + 2 * field..4 + 2 * field].copy_from_slice(&number.to_be_bytes());
             for length in 0..=record.len() {
-                let mut input = records(&one_check(3));
-                input.extend(&record[..length]);
+                let input = [&records(&one_check(3)), &record[..length]].concat();
                 cases.push(Case::Frames { input });
             }
         }
     }
     for tolerance in [0x3FFF_FFFF, 0x4000_0000, 0x0000_0040, 0xFFFF_FFFF] {
-        let mut settings = listed_settings();
-        settings.tolerance = tolerance;
-        let mut input = records(&one_check(3));
-        input.extend(settings_record(settings));
-        input.extend(frame_record(&[0; 3]));
+        let record = settings_record(settings(256, 0, 2, tolerance));
+        let input = [records(&one_check(3)), record, frame_record(&[0; 3])].concat();
         cases.push(Case::Frames { input });
     }
     cases
@@ -185,10 +179,9 @@ fn settings_and_frames(random: &mut Random, code: &Code, count: usize) -> Vec<u8
     bytes
 }
 
-fn stream_of(random: &mut Random, code: &Code) -> Vec<u8> {
-    let mut input = records(code);
-    input.extend(after_code(random, code));
-    input
+fn stream_of(random: &mut Random, code: fn(&mut Random) -> Code) -> Vec<u8> {
+    let code = code(random);
+    [records(&code), after_code(random, &code)].concat()
 }
 
 fn some_code(random: &mut Random) -> Code {
@@ -199,23 +192,20 @@ fn some_code(random: &mut Random) -> Code {
 }
 
 fn stream(random: &mut Random) -> Case {
-    let code = some_code(random);
     Case::Frames {
-        input: stream_of(random, &code),
+        input: stream_of(random, some_code),
     }
 }
 
 fn cut_stream(random: &mut Random) -> Case {
-    let code = some_code(random);
-    let mut input = stream_of(random, &code);
+    let mut input = stream_of(random, some_code);
     input.truncate(random.below(input.len()));
     Case::Frames { input }
 }
 
 /// A stream with bytes flipped, left out or put in.
 fn damaged_stream(random: &mut Random) -> Case {
-    let code = some_code(random);
-    let mut input = stream_of(random, &code);
+    let mut input = stream_of(random, some_code);
     for _ in 0..random.between(1, 2) {
         let place = random.below(input.len());
         match random.below(4) {
@@ -234,23 +224,22 @@ fn damaged_records(random: &mut Random) -> Case {
         let damage = random.pick(&damages_of(Entry::Read));
         apply(random, &mut draft, Entry::Read, damage);
     }
-    let mut input = draft.records.clone();
-    input.extend(after_code(random, &draft.code));
+    let after = after_code(random, &draft.code);
+    let input = [draft.records, after].concat();
     Case::Frames { input }
 }
 
 fn large_stream(random: &mut Random) -> Case {
-    let code = code_within(random, 512, 300, 1_024);
     Case::Frames {
-        input: stream_of(random, &code),
+        input: stream_of(random, |random| code_within(random, 512, 300, 1_024)),
     }
 }
 
 /// More frames than the pipe to the program holds at once.
 fn long_stream(random: &mut Random) -> Case {
     let code = code_within(random, 60, 30, 200);
-    let mut input = records(&code);
     let count = random.between(600, 1_200);
-    input.extend(settings_and_frames(random, &code, count));
+    let after = settings_and_frames(random, &code, count);
+    let input = [records(&code), after].concat();
     Case::Frames { input }
 }
