@@ -110,16 +110,6 @@ fn random_word(random: &mut Random, codewords: &Codewords) -> Vec<u8> {
     word
 }
 
-/// W, A, K and X.
-pub fn settings(weight: u32, ratio: u32, limit: u32, tolerance: u32) -> Settings {
-    Settings {
-        weight,
-        ratio,
-        limit,
-        tolerance,
-    }
-}
-
 /// Settings within their ranges, at the ends more often than by chance.
 pub fn random_settings(random: &mut Random) -> Settings {
     let any_weight = random.between(1, 65_535) as u32;

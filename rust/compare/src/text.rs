@@ -2,7 +2,6 @@
 //! hexadecimal digits, floats as their bits, an empty list as a dash.
 
 use crate::case::{Case, DecodeCase};
-use crate::draft::settings;
 use interface::{Channel, Erasing, Settings};
 use std::fmt;
 use std::str::{FromStr, SplitWhitespace};
@@ -81,7 +80,7 @@ impl Part for Settings {
 
     fn parse(words: &mut SplitWhitespace) -> Result<Settings, String> {
         let [weight, ratio, limit, tolerance] = Part::parse(words)?;
-        Ok(settings(weight, ratio, limit, tolerance))
+        Ok(Settings::new(weight, ratio, limit, tolerance))
     }
 }
 
@@ -99,7 +98,7 @@ impl Part for Channel {
         match (word(words)?, Vec::<f32>::parse(words)?.as_slice()) {
             ("gaussian", &[scale]) => Ok(Channel::Gaussian(scale)),
             ("hard", &[weight]) => Ok(Channel::Hard(weight)),
-            ("erasing", &[floor, weight]) => Ok(Channel::Erasing(Erasing { floor, weight })),
+            ("erasing", &[floor, weight]) => Ok(Channel::erasing(floor, weight)),
             (kind, _) => Err(format!("no channel {kind}")),
         }
     }

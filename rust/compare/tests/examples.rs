@@ -5,7 +5,7 @@ use std::env;
 use std::fmt::{Display, Write};
 use std::path::{Path, PathBuf};
 use std::process::{Command, Output};
-use widagbe::{Channel, Decoder, Erasing, Library, OwnLists, Widagbe};
+use widagbe::{Channel, Decoder, Library, OwnLists, Widagbe};
 
 #[allow(dead_code)]
 #[path = "../../widagbe/examples/decode.rs"]
@@ -83,10 +83,9 @@ fn calls() -> String {
 
     let samples = [-1.5, 0.25, 2.0, -0.125, 1.0];
     let mut costs = vec![0; n];
-    let (floor, weight) = (0.2, 300.0);
     for (name, channel) in [
         ("hard", Channel::Hard(300.0)),
-        ("erasing", Channel::Erasing(Erasing { floor, weight })),
+        ("erasing", Channel::erasing(0.2, 300.0)),
         ("gaussian", Channel::Gaussian(300.0)),
     ] {
         let number = Widagbe.front(channel, &samples, &mut costs);

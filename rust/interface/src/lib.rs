@@ -42,6 +42,18 @@ pub struct Settings {
     pub tolerance: u32,
 }
 
+impl Settings {
+    /// W, A, K and X.
+    pub const fn new(weight: u32, ratio: u32, limit: u32, tolerance: u32) -> Settings {
+        Settings {
+            weight,
+            ratio,
+            limit,
+            tolerance,
+        }
+    }
+}
+
 /// The floor and the weight of an erasing channel belong together.
 #[derive(Clone, Copy, Debug, PartialEq)]
 pub struct Erasing {
@@ -55,6 +67,12 @@ pub enum Channel {
     Gaussian(f32),
     Hard(f32),
     Erasing(Erasing),
+}
+
+impl Channel {
+    pub const fn erasing(floor: f32, weight: f32) -> Channel {
+        Channel::Erasing(Erasing { floor, weight })
+    }
 }
 
 /// The lists that the decoder's caller lends.

@@ -48,7 +48,7 @@ fn records_from_every_entry() {
         assert_eq!((triples, counts), ([77; 9], [77; 9]));
         let mut lent = lists(3, 3, 1);
         assert_eq!(
-            SOUND.decode(&bytes, settings(0, 0, 0, 0), &[], lent.lend()),
+            SOUND.decode(&bytes, Settings::new(0, 0, 0, 0), &[], lent.lend()),
             refusal(number)
         );
         assert_eq!(lent, lists(3, 3, 1));
@@ -72,8 +72,8 @@ fn nine_before_seven_before_eight() {
 #[test]
 fn the_decoder_in_order() {
     let mut exact = lists(3, 3, 1);
-    let good = settings(1, 0, 1, 0);
-    let bad = settings(0, 0, 1, 0);
+    let good = Settings::new(1, 0, 1, 0);
+    let bad = Settings::new(0, 0, 1, 0);
     let mut short = exact.clone();
     short.word.pop();
     let untouched = short.clone();
@@ -104,7 +104,12 @@ fn each_short_list_of_the_decoder() {
         let mut lent = lists(3, 3, 1);
         shorten(&mut lent);
         let before = lent.clone();
-        let answer = SOUND.decode(&small(), settings(256, 0, 2, 0), &[20_000; 3], lent.lend());
+        let answer = SOUND.decode(
+            &small(),
+            Settings::new(256, 0, 2, 0),
+            &[20_000; 3],
+            lent.lend(),
+        );
         assert_eq!(answer, refusal(10));
         assert_eq!(lent, before);
     }
@@ -113,7 +118,12 @@ fn each_short_list_of_the_decoder() {
 #[test]
 fn longer_lists_keep_their_rest() {
     let mut lent = lists(5, 6, 3);
-    let answer = SOUND.decode(&small(), settings(256, 0, 2, 0), &[20_000; 3], lent.lend());
+    let answer = SOUND.decode(
+        &small(),
+        Settings::new(256, 0, 2, 0),
+        &[20_000; 3],
+        lent.lend(),
+    );
     assert_eq!(answer.number, 0);
     assert_eq!(lent.triples, [0, 1, 2, 77, 77, 77, 77, 77, 77]);
     assert_eq!(lent.counts, [1, 1, 1, 77, 77, 77]);
@@ -177,10 +187,7 @@ fn the_channel_in_order() {
     for setting in [
         Channel::Gaussian(0.0),
         Channel::Hard(f32::INFINITY),
-        Channel::Erasing(Erasing {
-            floor: -1.0,
-            weight: 1.0,
-        }),
+        Channel::erasing(-1.0, 1.0),
     ] {
         assert_eq!(SOUND.front(setting, &[f32::NAN; 2], &mut short), 11);
         assert_eq!(SOUND.front(setting, &[], &mut short), 11);
@@ -188,10 +195,7 @@ fn the_channel_in_order() {
     for setting in [
         Channel::Gaussian(1.0),
         Channel::Hard(1.0),
-        Channel::Erasing(Erasing {
-            floor: 9.0,
-            weight: 1.0,
-        }),
+        Channel::erasing(9.0, 1.0),
     ] {
         assert_eq!(SOUND.front(setting, &[1.0, f32::NAN], &mut short), 14);
         assert_eq!(SOUND.front(setting, &[1.0, 1.0], &mut short), 10);

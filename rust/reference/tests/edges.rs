@@ -64,14 +64,14 @@ fn quotients() {
 #[test]
 fn squares_need_more_than_32_bits() {
     // Every c is -U, so the slacks are 0, 0, 0 and 4U: a total of 2^32.
-    let (answer, lent) = decode_small(settings(512, 0, 1, 0), [32_767; 3]);
+    let (answer, lent) = decode_small(Settings::new(512, 0, 1, 0), [32_767; 3]);
     assert_eq!(lent.rows, [0, 0, 0, -65_536]);
     assert_eq!((answer.number, answer.settled), (0, 0));
 }
 
 #[test]
 fn totals_equal_to_the_tolerance_settle_even_at_the_limit() {
-    let run = |tolerance| decode_small(settings(256, 0, 1, tolerance), [0; 3]).0;
+    let run = |tolerance| decode_small(Settings::new(256, 0, 1, tolerance), [0; 3]).0;
     assert_eq!(run(1_073_741_824).settled, 1);
     assert_eq!(run(1_073_741_823).settled, 0);
 }
@@ -81,7 +81,12 @@ fn undecided_comes_before_not_a_codeword() {
     let two_checks = code(4, &[&[0, 1, 2], &[1, 2, 3]]);
     let mut lent = lists(4, 4, 2);
     let costs = [-9_000, 9_000, 9_000, 0];
-    let answer = SOUND.decode(&two_checks, settings(256, 0, 1, 0), &costs, lent.lend());
+    let answer = SOUND.decode(
+        &two_checks,
+        Settings::new(256, 0, 1, 0),
+        &costs,
+        lent.lend(),
+    );
     let undecided = DecodeAnswer {
         number: 16,
         place: 3,
@@ -96,7 +101,7 @@ fn an_auxiliary_at_zero_decides_nothing() {
     let mut lent = lists(4, 5, 2);
     let answer = SOUND.decode(
         &one_check(4),
-        settings(256, 0, 1, 0),
+        Settings::new(256, 0, 1, 0),
         &[9_000; 4],
         lent.lend(),
     );
@@ -110,7 +115,7 @@ fn the_penalty_acts_on_auxiliaries() {
         let mut lent = lists(4, 5, 2);
         SOUND.decode(
             &one_check(4),
-            settings(512, ratio, 2, 0),
+            Settings::new(512, ratio, 2, 0),
             &[30_000, -30_000, 500, 3],
             lent.lend(),
         );
@@ -182,7 +187,7 @@ fn hard_costs() {
 
 #[test]
 fn erasing_costs() {
-    let at = |floor, sample| cost(Channel::Erasing(Erasing { floor, weight: 7.0 }), sample);
+    let at = |floor, sample| cost(Channel::erasing(floor, 7.0), sample);
     assert_eq!(at(1.0, 0.99), 0);
     assert_eq!(at(1.0, -0.99), 0);
     assert_eq!(at(1.0, 1.0), 7);
@@ -198,17 +203,9 @@ fn channel_settings_out_of_range() {
     for bad in [0.0, -0.0, -1.0, f32::NAN, -f32::NAN, f32::INFINITY] {
         assert_eq!(number(Channel::Gaussian(bad)), 11);
         assert_eq!(number(Channel::Hard(bad)), 11);
-        let erasing = Erasing {
-            floor: 1.0,
-            weight: bad,
-        };
-        assert_eq!(number(Channel::Erasing(erasing)), 11);
+        assert_eq!(number(Channel::erasing(1.0, bad)), 11);
     }
     for bad in [-1.0, -f32::from_bits(1), f32::NAN, f32::INFINITY] {
-        let erasing = Erasing {
-            floor: bad,
-            weight: 1.0,
-        };
-        assert_eq!(number(Channel::Erasing(erasing)), 11);
+        assert_eq!(number(Channel::erasing(bad, 1.0)), 11);
     }
 }

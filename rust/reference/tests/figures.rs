@@ -40,7 +40,7 @@ const COSTS: [i16; 3] = [20_000, 20_000, -8_000];
 
 #[test]
 fn first_iteration_by_hand() {
-    let (answer, lent) = decode_small(settings(256, 0, 1, 0), COSTS);
+    let (answer, lent) = decode_small(Settings::new(256, 0, 1, 0), COSTS);
     assert_eq!((answer.k, answer.settled), (1, 0));
     assert_eq!(lent.sums, [0, 0, 0]);
     assert_eq!(lent.values, [-5_000, -5_000, 2_000]);
@@ -49,7 +49,7 @@ fn first_iteration_by_hand() {
 
 #[test]
 fn second_iteration_by_hand() {
-    let (answer, lent) = decode_small(settings(256, 0, 2, 0), COSTS);
+    let (answer, lent) = decode_small(Settings::new(256, 0, 2, 0), COSTS);
     assert_eq!((answer.k, answer.settled), (2, 0));
     assert_eq!(lent.values, [-10_000, -10_000, 4_000]);
     assert_eq!(lent.rows, [-20_384, -20_384, 7_616, -32_384]);
@@ -60,13 +60,13 @@ fn reflected_iteration_by_hand() {
     let mut reflected = [0; 3];
     assert_eq!(SOUND.reflect(&COSTS, &[0, 1, 1], &mut reflected), 0);
     assert_eq!(reflected, [20_000, -20_000, 8_000]);
-    let (_, lent) = decode_small(settings(256, 0, 1, 0), reflected);
+    let (_, lent) = decode_small(Settings::new(256, 0, 1, 0), reflected);
     assert_eq!(lent.values, [-5_000, 5_000, -2_000]);
     assert_eq!(lent.rows, [-24_384, -4_384, -18_384, -18_384]);
 }
 
 fn first_value(weight: u32, cost: i16) -> i16 {
-    let (_, lent) = decode_small(settings(weight, 0, 1, 0), [cost, 0, 0]);
+    let (_, lent) = decode_small(Settings::new(weight, 0, 1, 0), [cost, 0, 0]);
     lent.values[0]
 }
 
@@ -93,7 +93,7 @@ fn all_costs_zero_settle() {
         (1_073_741_824, 1),
         (u32::MAX, 1),
     ] {
-        let (answer, _) = decode_small(settings(256, 0, 2, tolerance), [0; 3]);
+        let (answer, _) = decode_small(Settings::new(256, 0, 2, tolerance), [0; 3]);
         assert_eq!(answer, undecided(k));
     }
 }
@@ -122,7 +122,7 @@ fn settings_at_the_edges() {
         (0, 1_001, 11),
     ] {
         let costs = [20_000; 3];
-        let (answer, _) = decode_small(settings(65_535, ratio, limit, 0), costs);
+        let (answer, _) = decode_small(Settings::new(65_535, ratio, limit, 0), costs);
         assert_eq!(answer.number, number, "A = {ratio}, K = {limit}");
     }
 }
@@ -140,7 +140,7 @@ fn the_listing() {
 
 #[test]
 fn the_same_frames_through_the_decoder() {
-    let run = |costs| decode_small(settings(256, 0, 2, 0), costs);
+    let run = |costs| decode_small(Settings::new(256, 0, 2, 0), costs);
     let (answer, lent) = run([20_000; 3]);
     assert_eq!((answer.number, answer.place), (0, 0));
     assert_eq!(lent.word, [0, 0, 0]);

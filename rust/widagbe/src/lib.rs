@@ -1,12 +1,6 @@
 //! The compiled library from Rust: slices in, plain answers out. The borrow
-//! rules keep lent lists apart, so every call here is safe.
-//!
-//! ```no_run
-//! use widagbe::{Library, Widagbe};
-//!
-//! let (code, word) = (std::fs::read("code").unwrap(), [0; 96]);
-//! println!("{:?} {:?}", Widagbe.read(&code), Widagbe.test(&code, &word));
-//! ```
+//! rules keep lent lists apart, so every call here is safe. Types and traits are
+//! those of `interface`; `examples/decode.rs` is a whole program.
 
 mod ffi;
 

@@ -3,7 +3,7 @@
 use super::Family;
 use crate::case::Case;
 use crate::random::Random;
-use interface::{Channel, Erasing};
+use interface::Channel;
 
 pub fn families() -> Vec<Family> {
     vec![
@@ -57,9 +57,9 @@ fn edge_settings() -> Vec<Case> {
         for channel in [
             Channel::Gaussian(float),
             Channel::Hard(float),
-            erasing(float, 3.0),
-            erasing(1.0, float),
-            erasing(-0.0, float),
+            Channel::erasing(float, 3.0),
+            Channel::erasing(1.0, float),
+            Channel::erasing(-0.0, float),
         ] {
             for (samples, room) in [
                 (vec![], 0),
@@ -78,10 +78,6 @@ fn edge_settings() -> Vec<Case> {
     cases
 }
 
-fn erasing(floor: f32, weight: f32) -> Channel {
-    Channel::Erasing(Erasing { floor, weight })
-}
-
 fn edge_samples() -> Vec<Case> {
     let finite = edge_floats().into_iter().filter(|float| float.is_finite());
     let samples: Vec<f32> = finite.collect();
@@ -90,9 +86,9 @@ fn edge_samples() -> Vec<Case> {
         for channel in [
             Channel::Gaussian(float),
             Channel::Hard(float),
-            erasing(float, 3.0),
-            erasing(1.0, float),
-            erasing(0.0, float),
+            Channel::erasing(float, 3.0),
+            Channel::erasing(1.0, float),
+            Channel::erasing(0.0, float),
         ] {
             cases.push(Case::Front {
                 channel,
@@ -128,8 +124,8 @@ fn any_channel(random: &mut Random) -> Channel {
     random.pick(&[
         Channel::Gaussian(factor),
         Channel::Hard(factor),
-        erasing(floor, factor),
-        erasing(0.0, factor),
+        Channel::erasing(floor, factor),
+        Channel::erasing(0.0, factor),
     ])
 }
 
@@ -184,7 +180,7 @@ fn damaged_samples(random: &mut Random) -> Case {
                 channel = match channel {
                     Channel::Gaussian(_) => Channel::Gaussian(wrong),
                     Channel::Hard(_) => Channel::Hard(-0.0),
-                    Channel::Erasing(_) => erasing(wrong, 1.0),
+                    Channel::Erasing(_) => Channel::erasing(wrong, 1.0),
                 }
             }
         }

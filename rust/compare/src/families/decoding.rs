@@ -7,7 +7,7 @@ use crate::codes::{
     training_code, Code,
 };
 use crate::codewords::Codewords;
-use crate::draft::{random_settings, settings, Draft, Entry};
+use crate::draft::{random_settings, Draft, Entry};
 use crate::random::Random;
 use interface::Settings;
 use reference::iteration::Problem;
@@ -48,7 +48,11 @@ fn grid() -> Vec<Case> {
             for third in COSTS {
                 for limit in 1..=3 {
                     let costs = vec![first, second, third];
-                    cases.push(exact_case(&one_check(3), settings(256, 0, limit, 0), costs));
+                    cases.push(exact_case(
+                        &one_check(3),
+                        Settings::new(256, 0, limit, 0),
+                        costs,
+                    ));
                 }
             }
         }
@@ -61,7 +65,7 @@ fn edge_settings() -> Vec<Case> {
     for weight in [0, 1, 65_535, 65_536, 65_537, u32::MAX] {
         for ratio in [0, 1_023, 1_024, 65_536, u32::MAX] {
             for limit in [0, 1, 2, 1_000, 1_001, 65_537, u32::MAX] {
-                let settings = settings(weight, ratio, limit, u32::MAX);
+                let settings = Settings::new(weight, ratio, limit, u32::MAX);
                 cases.push(exact_case(&one_check(4), settings, vec![3, -2, 1, 5]));
             }
         }
@@ -76,7 +80,7 @@ fn edge_settings() -> Vec<Case> {
     ] {
         for costs in [[0; 3], [32_767; 3], [-32_767, 32_767, -32_767]] {
             for weight in [256, 512, 65_535] {
-                let settings = settings(weight, 0, 5, tolerance);
+                let settings = Settings::new(weight, 0, 5, tolerance);
                 cases.push(exact_case(&one_check(3), settings, costs.to_vec()));
             }
         }
@@ -147,7 +151,7 @@ fn noisy_codeword(random: &mut Random) -> Case {
     let costs = costs.collect();
     let tolerance = random.pick(&[10_000, 10_000_000]);
     let weight = random.pick(&[1_000, 8_000]);
-    exact_case(&code, settings(weight, 150, 200, tolerance), costs)
+    exact_case(&code, Settings::new(weight, 150, 200, tolerance), costs)
 }
 
 fn long_run(random: &mut Random) -> Case {

@@ -5,7 +5,7 @@ use crate::case::Case;
 use crate::codes::{code_of, code_within, one_check, records, tiny_code, Code};
 use crate::codewords::Codewords;
 use crate::damage::{apply, damages_of};
-use crate::draft::{random_costs, random_settings, settings, Draft, Entry};
+use crate::draft::{random_costs, random_settings, Draft, Entry};
 use crate::random::Random;
 use interface::Settings;
 
@@ -40,13 +40,12 @@ fn frame_record(costs: &[i16]) -> Vec<u8> {
     bytes
 }
 
-fn listed_settings() -> Settings {
-    settings(256, 0, 2, 0)
-}
+/// The settings of document 01's listing.
+const LISTED: Settings = Settings::new(256, 0, 2, 0);
 
 fn listing() -> Vec<Case> {
     let mut input = records(&one_check(3));
-    input.extend(settings_record(listed_settings()));
+    input.extend(settings_record(LISTED));
     for costs in [[0; 3], [20_000, 20_000, -8_000], [20_000; 3], [i16::MIN; 3]] {
         input.extend(frame_record(&costs));
     }
@@ -71,7 +70,7 @@ fn two_checks() -> Vec<Case> {
         checks: vec![vec![0, 1, 2, 3], vec![2, 3, 4]],
     };
     let mut input = records(&code);
-    input.extend(settings_record(listed_settings()));
+    input.extend(settings_record(LISTED));
     for place in 0..5 {
         let mut costs = [9_000, -7_000, 5_000, -3_000, 1_000];
         input.extend(frame_record(&costs));
@@ -79,7 +78,7 @@ fn two_checks() -> Vec<Case> {
         input.extend(frame_record(&costs));
     }
     input.extend(frame_record(&[0; 5]));
-    input.extend(settings_record(listed_settings()));
+    input.extend(settings_record(LISTED));
     input.extend(frame_record(&[1; 5]));
     cut_everywhere(&input)
 }
@@ -92,7 +91,7 @@ fn unused_bit() -> Vec<Case> {
         checks: vec![vec![0, 1, 2], vec![1, 2, 3]],
     };
     let mut cases = Vec::new();
-    for settings in [listed_settings(), settings(0, 1_024, 0, 0)] {
+    for settings in [LISTED, Settings::new(0, 1_024, 0, 0)] {
         let frame = frame_record(&[0; 5]);
         let input = [records(&code), settings_record(settings), frame].concat();
         cases.extend(cut_everywhere(&input));
@@ -118,7 +117,7 @@ fn room() -> Vec<Case> {
         let code = code_of(&mut random, bits, checks, triples);
         let end = records(&code).len();
         let frame = frame_record(&vec![100; bits]);
-        let whole = [records(&code), settings_record(listed_settings()), frame].concat();
+        let whole = [records(&code), settings_record(LISTED), frame].concat();
         let mut no_checks = whole.clone();
         no_checks[4..6].copy_from_slice(&[0, 0]);
         let mut unused = whole.clone();
@@ -141,7 +140,7 @@ fn edge_settings() -> Vec<Case> {
     let mut cases = Vec::new();
     for field in 0..3 {
         for number in [0u16, 1, 1_000, 1_001, 1_023, 1_024, 65_535] {
-            let mut record = settings_record(listed_settings());
+            let mut record = settings_record(LISTED);
             record[2 + 2 * field..4 + 2 * field].copy_from_slice(&number.to_be_bytes());
             for length in 0..=record.len() {
                 let input = [&records(&one_check(3)), &record[..length]].concat();
@@ -150,7 +149,7 @@ fn edge_settings() -> Vec<Case> {
         }
     }
     for tolerance in [0x3FFF_FFFF, 0x4000_0000, 0x0000_0040, 0xFFFF_FFFF] {
-        let record = settings_record(settings(256, 0, 2, tolerance));
+        let record = settings_record(Settings::new(256, 0, 2, tolerance));
         let input = [records(&one_check(3)), record, frame_record(&[0; 3])].concat();
         cases.push(Case::Frames { input });
     }

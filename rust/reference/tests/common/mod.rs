@@ -39,15 +39,6 @@ pub fn small() -> Vec<u8> {
     one_check(3)
 }
 
-pub fn settings(weight: u32, ratio: u32, limit: u32, tolerance: u32) -> Settings {
-    Settings {
-        weight,
-        ratio,
-        limit,
-        tolerance,
-    }
-}
-
 /// Lists of a decoder call, of exactly the needed lengths, all entries 77 before it.
 pub fn lists(bits: usize, variables: usize, triples: usize) -> OwnLists {
     OwnLists::exact(bits, variables, triples, 77)
