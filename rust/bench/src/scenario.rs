@@ -9,12 +9,7 @@ use reference::SOUND;
 pub const SCALE: f32 = 1000.0;
 
 /// Settings with which decoding works at this scale.
-pub const SETTINGS: Settings = Settings {
-    weight: 8_000,
-    ratio: 150,
-    limit: 300,
-    tolerance: 1_000_000,
-};
+pub const SETTINGS: Settings = Settings::new(8_000, 150, 300, 1_000_000);
 
 const SEED: u64 = 2_026;
 

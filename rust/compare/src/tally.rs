@@ -8,25 +8,22 @@ use reference::run::run;
 use reference::SOUND;
 use std::collections::BTreeMap;
 
-/// Every entry of the library with all the numbers it can give, and no others.
-pub const NUMBERS: [(&str, &[usize]); 9] = [
-    ("read", &[0, 1, 2, 3, 4, 5, 6, 7, 8, 9]),
-    ("split", &[0, 1, 2, 3, 4, 5, 6, 7, 8, 9, 10]),
-    ("gaussian", &[0, 10, 11, 14]),
-    ("hard", &[0, 10, 11, 14]),
-    ("erasing", &[0, 10, 11, 14]),
-    ("reflect", &[0, 10, 12, 13, 15]),
-    ("test", &[0, 1, 2, 3, 4, 5, 6, 7, 8, 9, 12, 15, 17]),
-    ("extend", &[0, 1, 2, 3, 4, 5, 6, 7, 8, 9, 10, 12, 15, 17]),
+/// Every entry with all the numbers it can give; of the frame program the kinds of
+/// lines, and nothing for the end without one.
+const KINDS: [(&str, &str); 10] = [
+    ("read", "0,1,2,3,4,5,6,7,8,9"),
+    ("split", "0,1,2,3,4,5,6,7,8,9,10"),
+    ("gaussian", "0,10,11,14"),
+    ("hard", "0,10,11,14"),
+    ("erasing", "0,10,11,14"),
+    ("reflect", "0,10,12,13,15"),
+    ("test", "0,1,2,3,4,5,6,7,8,9,12,15,17"),
+    ("extend", "0,1,2,3,4,5,6,7,8,9,10,12,15,17"),
+    ("decode", "0,1,2,3,4,5,6,7,8,9,10,11,12,13,16,17"),
     (
-        "decode",
-        &[0, 1, 2, 3, 4, 5, 6, 7, 8, 9, 10, 11, 12, 13, 16, 17],
+        "frames",
+        ",W,U,N,R 1,R 2,R 3,R 4,R 5,R 6,R 8,R 10,R 11,R 13",
     ),
-];
-
-/// The kinds of lines that the frame program prints, and the end without one.
-const LINES: [&str; 14] = [
-    "", "W", "U", "N", "R 1", "R 2", "R 3", "R 4", "R 5", "R 6", "R 8", "R 10", "R 11", "R 13",
 ];
 
 /// What must happen in some run.
@@ -164,17 +161,13 @@ impl Tally {
     }
 }
 
-/// What the calls of an entry are to meet.
+/// What an entry is to meet.
 fn of_entry(entry: &str) -> Vec<String> {
-    let numbers = NUMBERS.iter().filter(|(other, _)| *other == entry);
-    let numbers = numbers.flat_map(|(_, numbers)| numbers.iter().map(usize::to_string));
-    let lines = LINES.iter().filter(|_| entry == "frames");
-    let kinds = numbers.chain(lines.map(|line| line.to_string()));
+    let mut all = KINDS.iter();
+    let (_, kinds) = all.find(|(other, _)| *other == entry).expect("an entry");
     let events = EVENTS.iter().filter(|_| entry == "decode");
-    kinds
-        .map(|kind| format!("{entry} {kind}"))
-        .chain(events.map(|event| event.to_string()))
-        .collect()
+    let kinds = kinds.split(',').map(|kind| format!("{entry} {kind}"));
+    kinds.chain(events.map(|event| event.to_string())).collect()
 }
 
 fn quotient_events(problem: &Problem, iterate: &Iterate) -> [(&'static str, bool); 6] {
@@ -208,22 +201,13 @@ fn row_events(iterate: &Iterate) -> [(&'static str, bool); 2] {
 }
 
 fn total_events(totals: Totals, tolerance: i128) -> [(&'static str, bool); 5] {
-    let Totals {
-        multipliers,
-        slacks,
-    } = totals;
-    let larger = multipliers.max(slacks);
+    let larger = totals.multipliers.max(totals.slacks);
+    let exceed = (totals.multipliers > tolerance, totals.slacks > tolerance);
     [
         ("total above 32 bits", larger > i128::from(u32::MAX)),
         ("total equal to the tolerance", larger == tolerance),
         ("total one above the tolerance", larger == tolerance + 1),
-        (
-            "only slacks exceed",
-            slacks > tolerance && multipliers <= tolerance,
-        ),
-        (
-            "only multipliers exceed",
-            multipliers > tolerance && slacks <= tolerance,
-        ),
+        ("only slacks exceed", exceed == (false, true)),
+        ("only multipliers exceed", exceed == (true, false)),
     ]
 }

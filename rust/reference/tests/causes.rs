@@ -77,17 +77,13 @@ fn the_decoder_in_order() {
     let mut short = exact.clone();
     short.word.pop();
     let untouched = short.clone();
-    let mut number =
-        |settings, costs: &[i16]| SOUND.decode(&small(), settings, costs, short.lend()).number;
+    let mut number = |settings, costs: &[i16]| decode_into(&mut short, settings, costs).number;
     assert_eq!(number(bad, &[i16::MIN; 2]), 11);
     assert_eq!(number(good, &[i16::MIN; 2]), 12);
     assert_eq!(number(good, &[0, 0, i16::MIN]), 13);
     assert_eq!(number(good, &[0; 3]), 10);
     assert_eq!(short, untouched);
-    assert_eq!(
-        SOUND.decode(&small(), good, &[0; 3], exact.lend()).number,
-        16
-    );
+    assert_eq!(decode_into(&mut exact, good, &[0; 3]).number, 16);
 }
 
 #[test]
@@ -104,12 +100,7 @@ fn each_short_list_of_the_decoder() {
         let mut lent = lists(3, 3, 1);
         shorten(&mut lent);
         let before = lent.clone();
-        let answer = SOUND.decode(
-            &small(),
-            Settings::new(256, 0, 2, 0),
-            &[20_000; 3],
-            lent.lend(),
-        );
+        let answer = decode_into(&mut lent, Settings::new(256, 0, 2, 0), &[20_000; 3]);
         assert_eq!(answer, refusal(10));
         assert_eq!(lent, before);
     }
@@ -118,12 +109,7 @@ fn each_short_list_of_the_decoder() {
 #[test]
 fn longer_lists_keep_their_rest() {
     let mut lent = lists(5, 6, 3);
-    let answer = SOUND.decode(
-        &small(),
-        Settings::new(256, 0, 2, 0),
-        &[20_000; 3],
-        lent.lend(),
-    );
+    let answer = decode_into(&mut lent, Settings::new(256, 0, 2, 0), &[20_000; 3]);
     assert_eq!(answer.number, 0);
     assert_eq!(lent.triples, [0, 1, 2, 77, 77, 77, 77, 77, 77]);
     assert_eq!(lent.counts, [1, 1, 1, 77, 77, 77]);

@@ -51,16 +51,21 @@ fn next_down(float: f32) -> f32 {
     f32::from_bits(float.to_bits().saturating_sub(1))
 }
 
+/// Channels with this float in every place, and with a floor of zero.
+fn channels(float: f32, zero: f32) -> [Channel; 5] {
+    [
+        Channel::Gaussian(float),
+        Channel::Hard(float),
+        Channel::erasing(float, 3.0),
+        Channel::erasing(1.0, float),
+        Channel::erasing(zero, float),
+    ]
+}
+
 fn edge_settings() -> Vec<Case> {
     let mut cases = Vec::new();
     for float in edge_floats() {
-        for channel in [
-            Channel::Gaussian(float),
-            Channel::Hard(float),
-            Channel::erasing(float, 3.0),
-            Channel::erasing(1.0, float),
-            Channel::erasing(-0.0, float),
-        ] {
+        for channel in channels(float, -0.0) {
             for (samples, room) in [
                 (vec![], 0),
                 (vec![1.0, -1.0, 0.5, -0.0], 5),
@@ -83,13 +88,7 @@ fn edge_samples() -> Vec<Case> {
     let samples: Vec<f32> = finite.collect();
     let mut cases = Vec::new();
     for &float in samples.iter().filter(|&&float| float > 0.0) {
-        for channel in [
-            Channel::Gaussian(float),
-            Channel::Hard(float),
-            Channel::erasing(float, 3.0),
-            Channel::erasing(1.0, float),
-            Channel::erasing(0.0, float),
-        ] {
+        for channel in channels(float, 0.0) {
             cases.push(Case::Front {
                 channel,
                 samples: samples.clone(),

@@ -44,11 +44,15 @@ pub fn lists(bits: usize, variables: usize, triples: usize) -> OwnLists {
     OwnLists::exact(bits, variables, triples, 77)
 }
 
+/// Decodes with the small code into these lists.
+pub fn decode_into(lent: &mut OwnLists, settings: Settings, costs: &[i16]) -> DecodeAnswer {
+    SOUND.decode(&small(), settings, costs, lent.lend())
+}
+
 /// Decodes with the small code; the answer and the lists afterwards.
 pub fn decode_small(settings: Settings, costs: [i16; 3]) -> (DecodeAnswer, OwnLists) {
     let mut lent = lists(3, 3, 1);
-    let answer = SOUND.decode(&small(), settings, &costs, lent.lend());
-    (answer, lent)
+    (decode_into(&mut lent, settings, &costs), lent)
 }
 
 pub fn refusal(number: u32) -> DecodeAnswer {
