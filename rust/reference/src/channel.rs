@@ -102,16 +102,16 @@ impl Reference {
 
     fn gaussian(self, scale: f32, sample: f32) -> i16 {
         let product = sample * scale;
-        if self.has(Fault::ProductNotRounded) {
-            let product = f64::from(sample) * f64::from(scale);
-            return product.round().clamp(-32_767.0, 32_767.0) as i16;
+        let limited = |cost: f64| cost.clamp(-32_767.0, 32_767.0) as i16;
+        match self.fault {
+            Some(Fault::ProductNotRounded) => {
+                limited((f64::from(sample) * f64::from(scale)).round())
+            }
+            Some(Fault::HalfAddedAndFloored) => limited((f64::from(product) + 0.5).floor()),
+            Some(Fault::InfiniteProductIsZero) if !is_finite(product) => 0,
+            Some(Fault::SubnormalsFlushed) if sample.is_subnormal() => 0,
+            _ => self.cost_of(product),
         }
-        if self.has(Fault::SubnormalsFlushed) && sample.is_subnormal()
-            || self.has(Fault::InfiniteProductIsZero) && !is_finite(product)
-        {
-            return 0;
-        }
-        self.cost_of(product)
     }
 
     fn cost(self, channel: Channel, sample: f32) -> i16 {

@@ -40,7 +40,7 @@ faults! {
     ["reflect"]:
         NegatedAtZeros, NoCostsRefused;
     ["gaussian"]:
-        ProductNotRounded, InfiniteProductIsZero, SubnormalsFlushed;
+        ProductNotRounded, HalfAddedAndFloored, InfiniteProductIsZero, SubnormalsFlushed;
     ["gaussian", "hard", "erasing"]:
         SettingNotJudgedWithoutSamples;
     ["hard", "erasing"]:

@@ -28,7 +28,7 @@ fn replay(subject: Subject, line: &str) -> Result<(), String> {
     let expected = outcome(SOUND, &case);
     println!("expected {:?}", expected.fields);
     print!("{}", String::from_utf8_lossy(&expected.text));
-    let found = subject(&case).ok_or("not an entry of it")?;
+    let found = subject(&case).ok_or("it has no such entry")?;
     match found.difference(&expected) {
         None => Ok(()),
         Some(difference) => Err(difference),
