@@ -72,7 +72,7 @@ pub fn small_code(random: &mut Random) -> Code {
 }
 
 /// A small code, or the training code.
-pub fn known_code(random: &mut Random) -> Code {
+pub fn small_or_training_code(random: &mut Random) -> Code {
     match random.below(10) {
         0 => training_code(),
         _ => small_code(random),

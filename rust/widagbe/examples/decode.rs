@@ -47,10 +47,12 @@ pub fn report() -> String {
 
     let mut lists = OwnLists::exact(n, v, t, 0);
     let answer = Widagbe.decode(&CODE, SETTINGS, &costs, lists.lend());
-    // A list that is too short is refused and stays as it was.
+    // A list that is too short is refused, and all lists stay as they were.
     let mut short = lists.clone();
     short.triples.pop();
+    let before = short.clone();
     let refused = Widagbe.decode(&CODE, SETTINGS, &costs, short.lend());
+    assert_eq!(short, before);
 
     let settled = ["not settled", "settled"][answer.settled as usize];
     let _ = writeln!(

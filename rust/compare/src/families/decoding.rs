@@ -3,8 +3,8 @@
 use super::Family;
 use crate::case::{Case, DecodeCase};
 use crate::codes::{
-    code_of, code_within, known_code, one_check, records, regular_code, room, tiny_code,
-    training_code, Code,
+    code_of, code_within, one_check, records, regular_code, room, small_or_training_code,
+    tiny_code, training_code, Code,
 };
 use crate::codewords::Codewords;
 use crate::draft::{random_settings, Draft, Entry};
@@ -101,7 +101,7 @@ fn tiny_run(random: &mut Random) -> Case {
 }
 
 fn small_run(random: &mut Random) -> Case {
-    run_of(random, known_code)
+    run_of(random, small_or_training_code)
 }
 
 /// One list shorter than needed or longer, the others exact.

@@ -2,7 +2,7 @@
 
 use super::Family;
 use crate::case::Case;
-use crate::codes::{code_within, known_code, tiny_code, Code};
+use crate::codes::{code_within, small_or_training_code, tiny_code, Code};
 use crate::draft::{Draft, Entry};
 use crate::random::Random;
 
@@ -36,18 +36,18 @@ fn every_word() -> Vec<Case> {
     cases
 }
 
-fn longer_word(random: &mut Random, code: fn(&mut Random) -> Code) -> Case {
+fn word_of(random: &mut Random, code: fn(&mut Random) -> Code) -> Case {
     let mut draft = Draft::random(random, code);
     draft.lengthen(random);
     draft.case(word_entry(random))
 }
 
 fn tiny_word(random: &mut Random) -> Case {
-    longer_word(random, tiny_code)
+    word_of(random, tiny_code)
 }
 
 fn small_word(random: &mut Random) -> Case {
-    longer_word(random, known_code)
+    word_of(random, small_or_training_code)
 }
 
 fn large_word(random: &mut Random) -> Case {
