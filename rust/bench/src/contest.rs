@@ -1,14 +1,14 @@
 //! Rounds in which every decoder takes its turn on the same frames.
 
 use crate::scenario::Scenario;
-use interface::{Library, OwnLists, RunAnswer};
+use interface::{DecodeAnswer, Decoder, OwnLists};
 use rivals::{Plain, Tuned};
 use std::time::Instant;
 
 const ROUNDS: usize = 15;
 
 pub struct Contest {
-    decoders: Vec<(&'static str, Box<dyn Library>)>,
+    decoders: Vec<(&'static str, Box<dyn Decoder>)>,
 }
 
 /// What the frames came to, and the time that each decoder took for them.
@@ -26,13 +26,13 @@ fn lists(scenario: &Scenario) -> OwnLists {
 }
 
 fn decode(
-    library: &dyn Library,
+    decoder: &dyn Decoder,
     scenario: &Scenario,
     frame: usize,
     lists: &mut OwnLists,
-) -> RunAnswer {
+) -> DecodeAnswer {
     let costs = &scenario.frames[frame];
-    library.decode(&scenario.records, scenario.settings, costs, lists.lend())
+    decoder.decode(&scenario.records, scenario.settings, costs, lists.lend())
 }
 
 impl Contest {
@@ -40,7 +40,7 @@ impl Contest {
         Contest {
             decoders: vec![
                 #[cfg(feature = "library")]
-                ("library", Box::new(compare::compiled::Compiled::new())),
+                ("library", Box::new(widagbe::Widagbe)),
                 ("plain", Box::new(Plain)),
                 ("tuned", Box::new(Tuned)),
             ],
@@ -58,10 +58,10 @@ impl Contest {
         let frames = scenario.frames.len();
         let mut times = vec![vec![Vec::new(); frames]; self.decoders.len()];
         for _ in 0..ROUNDS {
-            for ((_, library), times) in self.decoders.iter().zip(&mut times) {
+            for ((_, decoder), times) in self.decoders.iter().zip(&mut times) {
                 for (frame, times) in times.iter_mut().enumerate() {
                     let start = Instant::now();
-                    decode(library.as_ref(), scenario, frame, &mut lent);
+                    decode(decoder.as_ref(), scenario, frame, &mut lent);
                     times.push(start.elapsed().as_secs_f64());
                 }
             }
@@ -88,9 +88,9 @@ impl Contest {
         for frame in 0..scenario.frames.len() {
             let mut first = lists(scenario);
             let answer = decode(&Plain, scenario, frame, &mut first);
-            for (name, library) in &self.decoders {
+            for (name, decoder) in &self.decoders {
                 let mut other = lists(scenario);
-                let found = decode(library.as_ref(), scenario, frame, &mut other);
+                let found = decode(decoder.as_ref(), scenario, frame, &mut other);
                 assert!(found == answer && other == first, "{name} differs");
             }
             result.iterations += u64::from(answer.k);

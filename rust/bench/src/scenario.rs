@@ -3,18 +3,13 @@
 use compare::codes::{records, regular_code, training_code, Code};
 use compare::random::Random;
 use interface::{Channel, Library, Settings};
-use rivals::Plain;
+use reference::SOUND;
 
 /// The scale from samples of size 1 to costs.
 pub const SCALE: f32 = 1000.0;
 
 /// Settings with which decoding works at this scale.
-pub const SETTINGS: Settings = Settings {
-    weight: 8_000,
-    ratio: 150,
-    limit: 300,
-    tolerance: 1_000_000,
-};
+pub const SETTINGS: Settings = Settings::new(8_000, 150, 300, 1_000_000);
 
 const SEED: u64 = 2_026;
 
@@ -53,7 +48,7 @@ fn frame(random: &mut Random, bits: usize, noise: f64) -> Vec<i16> {
         .map(|_| (1.0 + noise * random.normal()) as f32)
         .collect();
     let mut costs = vec![0; bits];
-    let number = Plain.channel(Channel::Gaussian(SCALE), &samples, &mut costs);
+    let number = SOUND.front(Channel::Gaussian(SCALE), &samples, &mut costs);
     assert_eq!(number, 0);
     costs
 }

@@ -12,8 +12,8 @@ pub enum Case {
         code: Vec<u8>,
         room: [usize; 2],
     },
-    Channel {
-        setting: Channel,
+    Front {
+        channel: Channel,
         samples: Vec<f32>,
         room: usize,
     },
@@ -47,12 +47,12 @@ pub struct DecodeCase {
 }
 
 impl Case {
-    /// The entry that the case calls.
+    /// The entry that the case calls; each kind of channel counts as one.
     pub fn entry(&self) -> &'static str {
         match self {
             Case::Read { .. } => "read",
             Case::Split { .. } => "split",
-            Case::Channel { setting, .. } => match setting {
+            Case::Front { channel, .. } => match channel {
                 Channel::Gaussian(_) => "gaussian",
                 Channel::Hard(_) => "hard",
                 Channel::Erasing(_) => "erasing",

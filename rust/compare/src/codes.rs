@@ -50,68 +50,67 @@ pub fn one_check(bits: usize) -> Code {
     }
 }
 
-/// The sizes of a random code.
-#[derive(Clone, Copy, Debug)]
-pub struct Shape {
-    pub bits: usize,
-    pub checks: usize,
-    pub triples: usize,
+/// A random code of at most these sizes.
+pub fn code_within(random: &mut Random, bits: usize, checks: usize, triples: usize) -> Code {
+    let bits = random.between(3, bits);
+    let widest = bits.min(32);
+    let fewest = bits.div_ceil(widest).max(1);
+    let most = checks.min(triples).max(fewest);
+    let checks = random.between(fewest, most);
+    let least = (3 * checks).max(bits) - 2 * checks;
+    let most = ((widest - 2) * checks).min(triples).max(least);
+    let triples = random.between(least, most);
+    code_of(random, bits, checks, triples)
 }
 
-impl Shape {
-    /// Random sizes up to these that some code has; at most as many triples.
-    pub fn random(random: &mut Random, bits: usize, checks: usize, triples: usize) -> Shape {
-        let bits = random.between(3, bits);
-        let widest = bits.min(32);
-        let fewest = bits.div_ceil(widest).max(1);
-        let most = checks.min(triples).max(fewest);
-        let checks = random.between(fewest, most);
-        let least = (3 * checks).max(bits) - 2 * checks;
-        let most = ((widest - 2) * checks).min(triples).max(least);
-        let triples = random.between(least, most);
-        Shape {
-            bits,
-            checks,
-            triples,
-        }
+pub fn tiny_code(random: &mut Random) -> Code {
+    code_within(random, 8, 5, 20)
+}
+
+pub fn small_code(random: &mut Random) -> Code {
+    code_within(random, 40, 20, 120)
+}
+
+/// A small code, or the training code.
+pub fn small_or_training_code(random: &mut Random) -> Code {
+    match random.below(10) {
+        0 => training_code(),
+        _ => small_code(random),
     }
 }
 
-/// A random code in which each bit lies in some check.
-pub fn random_code(random: &mut Random, shape: Shape) -> Code {
-    let degrees = random_degrees(random, shape);
-    let mut checks: Vec<BTreeSet<usize>> = vec![BTreeSet::new(); shape.checks];
-    let mut bits: Vec<usize> = (0..shape.bits).collect();
-    random.shuffle(&mut bits);
-    let mut open: Vec<usize> = (0..shape.checks).collect();
-    for bit in bits {
+/// A random code of these sizes in which each bit lies in some check.
+pub fn code_of(random: &mut Random, bits: usize, checks: usize, triples: usize) -> Code {
+    let degrees = random_degrees(random, bits.min(32), checks, triples);
+    let mut sets: Vec<BTreeSet<usize>> = vec![BTreeSet::new(); checks];
+    let mut order: Vec<usize> = (0..bits).collect();
+    random.shuffle(&mut order);
+    let mut open: Vec<usize> = (0..checks).collect();
+    for bit in order {
         let place = random.below(open.len());
         let check = open[place];
-        checks[check].insert(bit);
-        if checks[check].len() == degrees[check] {
+        sets[check].insert(bit);
+        if sets[check].len() == degrees[check] {
             open.swap_remove(place);
         }
     }
     for check in open {
-        while checks[check].len() < degrees[check] {
-            checks[check].insert(random.below(shape.bits));
+        while sets[check].len() < degrees[check] {
+            sets[check].insert(random.below(bits));
         }
     }
+    let checks = sets.into_iter().map(|set| set.into_iter().collect());
     Code {
-        bits: shape.bits,
-        checks: checks
-            .into_iter()
-            .map(|check| check.into_iter().collect())
-            .collect(),
+        bits,
+        checks: checks.collect(),
     }
 }
 
-/// Degrees from 3 to 32 with the shape's sum.
-fn random_degrees(random: &mut Random, shape: Shape) -> Vec<usize> {
-    let widest = shape.bits.min(32);
-    let mut degrees = vec![3; shape.checks];
-    let mut open: Vec<usize> = (0..shape.checks).collect();
-    for _ in shape.checks..shape.triples {
+/// Degrees of so many checks that have so many triples, none above the widest.
+fn random_degrees(random: &mut Random, widest: usize, checks: usize, triples: usize) -> Vec<usize> {
+    let mut degrees = vec![3; checks];
+    let mut open: Vec<usize> = (0..checks).collect();
+    for _ in checks..triples {
         let place = random.below(open.len());
         let check = open[place];
         degrees[check] += 1;

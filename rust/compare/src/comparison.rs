@@ -1,14 +1,13 @@
 //! The comparison itself: every case of a family, every answer and list.
 
 use crate::case::Case;
-use crate::families::{all, Effort, Family};
-use crate::outcome::outcome;
+use crate::families::{Effort, Family};
+use crate::outcome::{outcome, Outcome};
 use crate::tally::Tally;
-use interface::Library;
-use reference::Reference;
+use reference::SOUND;
 use std::fmt;
 
-/// A case on which a library differs from the reference.
+/// A case on which a subject differs from the reference.
 pub struct Failure {
     pub family: &'static str,
     /// The seed of a random case, the place of a listed one.
@@ -32,23 +31,22 @@ impl fmt::Debug for Failure {
     }
 }
 
-/// Compares a library with the reference on every case; counts what was met.
-pub fn compare_all(library: &dyn Library, effort: Effort) -> Result<Tally, Box<Failure>> {
-    compare(library, all(), effort)
-}
-
-/// Compares on every case of these families.
+/// Compares a subject with the reference on every case of these families that is
+/// one of its own; counts what was met.
 pub fn compare(
-    library: &dyn Library,
+    subject: impl Fn(&Case) -> Option<Outcome>,
     families: Vec<Family>,
     effort: Effort,
 ) -> Result<Tally, Box<Failure>> {
     let mut tally = Tally::default();
     for family in families {
         family.visit(effort, |seed, case| {
-            let expected = outcome(&Reference, &case);
+            let Some(found) = subject(&case) else {
+                return Ok(());
+            };
+            let expected = outcome(SOUND, &case);
             tally.add(&case, &expected);
-            match outcome(library, &case).difference(&expected) {
+            match found.difference(&expected) {
                 None => Ok(()),
                 Some(difference) => Err(Box::new(Failure {
                     family: family.name,

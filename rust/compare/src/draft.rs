@@ -1,7 +1,7 @@
 //! Drafts of calls: sound inputs for every entry that takes code records.
 
 use crate::case::{Case, DecodeCase};
-use crate::codes::{random_code, records, room, Code, Shape};
+use crate::codes::{records, room, Code};
 use crate::codewords::Codewords;
 use crate::random::Random;
 use interface::Settings;
@@ -38,8 +38,14 @@ pub struct Draft {
 }
 
 impl Draft {
+    /// Random inputs for a random code.
+    pub fn random(random: &mut Random, code: fn(&mut Random) -> Code) -> Draft {
+        let code = code(random);
+        Draft::of(random, code)
+    }
+
     /// Random inputs for a code, with lists of exactly the lengths needed.
-    pub fn random(random: &mut Random, code: Code) -> Draft {
+    pub fn of(random: &mut Random, code: Code) -> Draft {
         let codewords = Codewords::of(&code);
         let word = random_word(random, &codewords);
         let codeword = codewords.random(random);
@@ -86,20 +92,6 @@ impl Draft {
             }),
         }
     }
-}
-
-/// A code of at most these sizes.
-pub fn code_within(random: &mut Random, bits: usize, checks: usize, triples: usize) -> Code {
-    let shape = Shape::random(random, bits, checks, triples);
-    random_code(random, shape)
-}
-
-pub fn tiny_code(random: &mut Random) -> Code {
-    code_within(random, 8, 5, 20)
-}
-
-pub fn small_code(random: &mut Random) -> Code {
-    code_within(random, 40, 20, 120)
 }
 
 /// A codeword, one with an entry changed, or any word.

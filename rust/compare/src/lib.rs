@@ -1,16 +1,14 @@
-//! Comparison of any implementation of the calls with the reference.
+//! Comparison with the reference, of any library, decoder or frame program.
 
 pub mod case;
 pub mod codes;
 pub mod codewords;
 pub mod comparison;
-#[cfg(feature = "library")]
-pub mod compiled;
 pub mod damage;
 pub mod draft;
 pub mod families;
-pub mod faults;
 pub mod outcome;
+pub mod program;
 pub mod random;
 pub mod reflection;
 pub mod reflections;

@@ -1,7 +1,8 @@
 //! What a call left: its answer and every lent list, with the memory around it.
 
 use crate::case::{Case, DecodeCase};
-use interface::{Library, Lists};
+use interface::{Decoder, Library, Lists, WordAnswer};
+use reference::Reference;
 
 /// Entries kept before and after each lent list, which no call may touch.
 const MARGIN: usize = 8;
@@ -52,28 +53,24 @@ fn sums(length: usize) -> Lent<i64> {
     Lent::new(length, |place| -1_000_000_000_000_007 - place as i64)
 }
 
-/// The answer's fields and the lists after a call.
-#[derive(Clone, Debug, PartialEq, Eq)]
+/// The answer's fields and the lists after a call, or what a program printed.
+#[derive(Clone, Debug, Default, PartialEq, Eq)]
 pub struct Outcome {
-    pub fields: Vec<(&'static str, u64)>,
+    pub fields: Vec<(&'static str, usize)>,
     pub lists: Vec<(&'static str, Vec<i64>)>,
     pub text: Vec<u8>,
 }
 
 impl Outcome {
-    fn new(fields: &[(&'static str, usize)]) -> Outcome {
+    fn new(number: u32, others: &[(&'static str, usize)]) -> Outcome {
         Outcome {
-            fields: fields
-                .iter()
-                .map(|&(name, field)| (name, field as u64))
-                .collect(),
-            lists: Vec::new(),
-            text: Vec::new(),
+            fields: [&[("number", number as usize)], others].concat(),
+            ..Outcome::default()
         }
     }
 
-    fn number(number: u32) -> Outcome {
-        Outcome::new(&[("number", number as usize)])
+    fn of_word(answer: WordAnswer) -> Outcome {
+        Outcome::new(answer.number, &[("place", answer.place)])
     }
 
     fn with(mut self, list: (&'static str, Vec<i64>)) -> Outcome {
@@ -104,33 +101,59 @@ impl Outcome {
     }
 }
 
-/// Makes the call on a library.
-pub fn outcome(library: &dyn Library, case: &Case) -> Outcome {
+/// What a case leaves with the reference, which has every entry.
+pub fn outcome(reference: Reference, case: &Case) -> Outcome {
+    called(&reference, case)
+        .or_else(|| printed(|input| reference.frames(input).into(), case))
+        .expect("a case is a call or an input")
+}
+
+/// What a case leaves with a frame program; nothing unless it is an input.
+pub fn printed(frames: impl Fn(&[u8]) -> Vec<u8>, case: &Case) -> Option<Outcome> {
     match case {
+        Case::Frames { input } => Some(Outcome {
+            text: frames(input),
+            ..Outcome::default()
+        }),
+        _ => None,
+    }
+}
+
+/// What a case leaves with a decoder; nothing unless it is a call of that.
+pub fn decoded(decoder: &dyn Decoder, case: &Case) -> Option<Outcome> {
+    match case {
+        Case::Decode(case) => Some(decode(decoder, case)),
+        _ => None,
+    }
+}
+
+/// What a case leaves with a library; nothing unless it is a call.
+pub fn called(library: &dyn Library, case: &Case) -> Option<Outcome> {
+    Some(match case {
         Case::Read { code } => {
             let answer = library.read(code);
-            Outcome::new(&[
-                ("number", answer.number as usize),
+            let sizes = [
                 ("bits", answer.bits),
                 ("checks", answer.checks),
                 ("triples", answer.triples),
-            ])
+            ];
+            Outcome::new(answer.number, &sizes)
         }
         Case::Split { code, room } => {
             let (mut triples, mut counts) = (shorts(room[0]), shorts(room[1]));
             let number = library.split(code, triples.list(), counts.list());
-            Outcome::number(number)
+            Outcome::new(number, &[])
                 .with(triples.seen("triples"))
                 .with(counts.seen("counts"))
         }
-        Case::Channel {
-            setting,
+        Case::Front {
+            channel,
             samples,
             room,
         } => {
             let mut result = costs(*room);
-            let number = library.channel(*setting, samples, result.list());
-            Outcome::number(number).with(result.seen("costs"))
+            let number = library.front(*channel, samples, result.list());
+            Outcome::new(number, &[]).with(result.seen("costs"))
         }
         Case::Reflect {
             costs: given,
@@ -139,28 +162,20 @@ pub fn outcome(library: &dyn Library, case: &Case) -> Outcome {
         } => {
             let mut result = costs(*room);
             let number = library.reflect(given, word, result.list());
-            Outcome::number(number).with(result.seen("result"))
+            Outcome::new(number, &[]).with(result.seen("result"))
         }
-        Case::Test { code, word } => {
-            let answer = library.test(code, word);
-            Outcome::new(&[("number", answer.number as usize), ("place", answer.place)])
-        }
+        Case::Test { code, word } => Outcome::of_word(library.test(code, word)),
         Case::Extend { code, word, room } => {
             let mut point = bytes(*room);
             let answer = library.extend(code, word, point.list());
-            Outcome::new(&[("number", answer.number as usize), ("place", answer.place)])
-                .with(point.seen("point"))
+            Outcome::of_word(answer).with(point.seen("point"))
         }
-        Case::Decode(case) => decode_outcome(library, case),
-        Case::Frames { input } => {
-            let mut outcome = Outcome::new(&[]);
-            outcome.text = library.frames(input);
-            outcome
-        }
-    }
+        Case::Decode(case) => decode(library, case),
+        Case::Frames { .. } => return None,
+    })
 }
 
-fn decode_outcome(library: &dyn Library, case: &DecodeCase) -> Outcome {
+fn decode(decoder: &dyn Decoder, case: &DecodeCase) -> Outcome {
     let room = case.room;
     let (mut triples, mut counts) = (shorts(room[0]), shorts(room[1]));
     let (mut sums, mut values) = (sums(room[2]), costs(room[3]));
@@ -173,17 +188,17 @@ fn decode_outcome(library: &dyn Library, case: &DecodeCase) -> Outcome {
         rows: rows.list(),
         word: word.list(),
     };
-    let answer = library.decode(&case.code, case.settings, &case.costs, lists);
-    Outcome::new(&[
-        ("number", answer.number as usize),
+    let answer = decoder.decode(&case.code, case.settings, &case.costs, lists);
+    let others = [
         ("place", answer.place),
         ("k", answer.k as usize),
         ("settled", answer.settled as usize),
-    ])
-    .with(triples.seen("triples"))
-    .with(counts.seen("counts"))
-    .with(sums.seen("sums"))
-    .with(values.seen("values"))
-    .with(rows.seen("rows"))
-    .with(word.seen("word"))
+    ];
+    Outcome::new(answer.number, &others)
+        .with(triples.seen("triples"))
+        .with(counts.seen("counts"))
+        .with(sums.seen("sums"))
+        .with(values.seen("values"))
+        .with(rows.seen("rows"))
+        .with(word.seen("word"))
 }

@@ -4,7 +4,7 @@ use crate::codes::{records, Code};
 use crate::codewords::Codewords;
 use crate::draft::Draft;
 use crate::random::Random;
-use interface::{Library, OwnLists, RunAnswer, Settings};
+use interface::{DecodeAnswer, Decoder, Library, OwnLists, Settings};
 use reference::iteration::SIGNS;
 
 /// A code, a run's settings and costs, and a codeword to reflect by.
@@ -18,14 +18,14 @@ pub struct Reflection {
 
 /// The answer of a run and its lists, of exactly the lengths needed.
 struct Run {
-    answer: RunAnswer,
+    answer: DecodeAnswer,
     lists: OwnLists,
 }
 
 impl Reflection {
     pub fn random(random: &mut Random, code: Code) -> Reflection {
         let codeword = Codewords::of(&code).random(random);
-        let draft = Draft::random(random, code);
+        let draft = Draft::of(random, code);
         Reflection {
             code: draft.code,
             settings: draft.settings,
@@ -34,15 +34,16 @@ impl Reflection {
         }
     }
 
-    fn run(&self, library: &dyn Library, costs: &[i16]) -> Run {
+    fn run(&self, decoder: &dyn Decoder, costs: &[i16]) -> Run {
         let (bits, code) = (self.code.bits, records(&self.code));
         let mut lists = OwnLists::exact(bits, self.code.variables(), self.code.triples(), 7);
-        let answer = library.decode(&code, self.settings, costs, lists.lend());
+        let answer = decoder.decode(&code, self.settings, costs, lists.lend());
         Run { answer, lists }
     }
 
-    /// Runs both ways; the outcome's number, or what is not reflected.
-    pub fn check(&self, library: &dyn Library) -> Result<u32, String> {
+    /// Runs both ways, with a library's reflector and extension; the outcome's
+    /// number, or what is not reflected.
+    pub fn check(&self, decoder: &dyn Decoder, library: &dyn Library) -> Result<u32, String> {
         let code = records(&self.code);
         let mut costs = vec![0; self.costs.len()];
         let mut point = vec![7; self.code.variables()];
@@ -52,8 +53,8 @@ impl Reflection {
         if library.extend(&code, &self.codeword, &mut point).number != 0 {
             return Err("the extension refuses".into());
         }
-        let first = self.run(library, &self.costs);
-        let second = self.run(library, &costs);
+        let first = self.run(decoder, &self.costs);
+        let second = self.run(decoder, &costs);
         compare_runs(&first, &second, &point)?;
         Ok(first.answer.number)
     }

@@ -1,10 +1,9 @@
 //! Reflections of many runs, after every iteration.
 
-use crate::codes::{regular_code, training_code};
-use crate::draft::{code_within, small_code, tiny_code};
+use crate::codes::{code_within, regular_code, small_code, tiny_code, training_code};
 use crate::random::Random;
 use crate::reflection::Reflection;
-use interface::Library;
+use interface::{Decoder, Library};
 use std::collections::BTreeMap;
 
 /// How often each outcome was reflected by a codeword that is not all 0.
@@ -12,8 +11,17 @@ pub type Met = BTreeMap<u32, u64>;
 
 const SEED: u64 = 0x5245_464C;
 
-/// Checks reflections on a library; the outcomes met, or a failure.
-pub fn check_reflections(library: &dyn Library) -> Result<Met, String> {
+/// Fails unless the decoder reflects every run, with each outcome often enough.
+pub fn assert_reflects(decoder: &dyn Decoder, library: &dyn Library) {
+    let met = check_reflections(decoder, library).unwrap();
+    println!("{met:?}");
+    assert!(met.keys().eq(&[0, 16, 17]));
+    assert!(met.values().all(|&count| count >= 100));
+}
+
+/// Checks reflections, with a library's reflector and extension; the outcomes
+/// met, or a failure.
+pub fn check_reflections(decoder: &dyn Decoder, library: &dyn Library) -> Result<Met, String> {
     let mut met = Met::new();
     for seed in SEED..SEED + 1_500 {
         let mut random = Random::new(seed);
@@ -24,28 +32,18 @@ pub fn check_reflections(library: &dyn Library) -> Result<Met, String> {
             6..=20 => small_code(&mut random),
             _ => tiny_code(&mut random),
         };
-        let reflection = Reflection::random(&mut random, code);
-        check_each_iteration(library, reflection, &mut met)
-            .map_err(|what| format!("reflection with seed {seed:#x}: {what}"))?;
-    }
-    Ok(met)
-}
-
-/// Stops the run after each of its first iterations and at its limit.
-fn check_each_iteration(
-    library: &dyn Library,
-    mut reflection: Reflection,
-    met: &mut Met,
-) -> Result<(), String> {
-    let limit = reflection.settings.limit;
-    for stop in (1..=limit.min(5)).chain([limit]) {
-        reflection.settings.limit = stop;
-        let number = reflection
-            .check(library)
-            .map_err(|what| format!("{what}; {reflection:?}"))?;
-        if reflection.codeword.contains(&1) {
-            *met.entry(number).or_default() += 1;
+        let mut reflection = Reflection::random(&mut random, code);
+        let limit = reflection.settings.limit;
+        // Stops the run after each of its first iterations and at its limit.
+        for stop in (1..=limit.min(5)).chain([limit]) {
+            reflection.settings.limit = stop;
+            let number = reflection
+                .check(decoder, library)
+                .map_err(|what| format!("seed {seed:#x}: {what}; {reflection:?}"))?;
+            if reflection.codeword.contains(&1) {
+                *met.entry(number).or_default() += 1;
+            }
         }
     }
-    Ok(())
+    Ok(met)
 }

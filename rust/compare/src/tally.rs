@@ -4,30 +4,26 @@ use crate::case::{Case, DecodeCase};
 use crate::families::seed;
 use crate::outcome::Outcome;
 use reference::iteration::{Iterate, Problem, Totals, UNIT};
-use reference::records::read_code;
 use reference::run::run;
-use reference::splitting::Split;
+use reference::SOUND;
 use std::collections::BTreeMap;
 
-/// Every entry with all the numbers it can give, and no others.
-const NUMBERS: [(&str, &[u64]); 9] = [
-    ("read", &[0, 1, 2, 3, 4, 5, 6, 7, 8, 9]),
-    ("split", &[0, 1, 2, 3, 4, 5, 6, 7, 8, 9, 10]),
-    ("gaussian", &[0, 10, 11, 14]),
-    ("hard", &[0, 10, 11, 14]),
-    ("erasing", &[0, 10, 11, 14]),
-    ("reflect", &[0, 10, 12, 13, 15]),
-    ("test", &[0, 1, 2, 3, 4, 5, 6, 7, 8, 9, 12, 15, 17]),
-    ("extend", &[0, 1, 2, 3, 4, 5, 6, 7, 8, 9, 10, 12, 15, 17]),
+/// Every entry with all the numbers it can give; of the frame program the kinds of
+/// lines, and nothing for the end without one.
+const KINDS: [(&str, &str); 10] = [
+    ("read", "0,1,2,3,4,5,6,7,8,9"),
+    ("split", "0,1,2,3,4,5,6,7,8,9,10"),
+    ("gaussian", "0,10,11,14"),
+    ("hard", "0,10,11,14"),
+    ("erasing", "0,10,11,14"),
+    ("reflect", "0,10,12,13,15"),
+    ("test", "0,1,2,3,4,5,6,7,8,9,12,15,17"),
+    ("extend", "0,1,2,3,4,5,6,7,8,9,10,12,15,17"),
+    ("decode", "0,1,2,3,4,5,6,7,8,9,10,11,12,13,16,17"),
     (
-        "decode",
-        &[0, 1, 2, 3, 4, 5, 6, 7, 8, 9, 10, 11, 12, 13, 16, 17],
+        "frames",
+        ",W,U,N,R 1,R 2,R 3,R 4,R 5,R 6,R 8,R 10,R 11,R 13",
     ),
-];
-
-/// The kinds of lines that the frame program prints, and the end without one.
-const LINES: [&str; 14] = [
-    "", "W", "U", "N", "R 1", "R 2", "R 3", "R 4", "R 5", "R 6", "R 8", "R 10", "R 11", "R 13",
 ];
 
 /// What must happen in some run.
@@ -102,7 +98,7 @@ impl Tally {
         if ![0, 16, 17].contains(&number) {
             return;
         }
-        let at_limit = k == u64::from(case.settings.limit);
+        let at_limit = k == case.settings.limit as usize;
         self.count(match (settled == 1, at_limit) {
             (true, false) => "settled before the limit",
             (true, true) => "settled at the limit",
@@ -114,28 +110,21 @@ impl Tally {
         if k == 1_000 {
             self.count("a thousand iterations");
         }
-        let code = read_code(&case.code).expect("an accepted code");
-        if 4 * code.triples() * k as usize <= MOST_WATCHED {
-            let split = Split::of(&code);
-            let problem = Problem::new(
-                split,
-                case.settings.weight,
-                case.settings.ratio,
-                &case.costs,
-            );
-            self.watch(&problem, case);
+        let code = SOUND.read_code(&case.code).expect("an accepted code");
+        if 4 * code.triples() * k <= MOST_WATCHED {
+            let split = SOUND.split_code(&code);
+            self.watch(&Problem::new(SOUND, split, case.settings, &case.costs));
         }
     }
 
     /// Runs the reference again and counts what happens in its iterations.
-    fn watch(&mut self, problem: &Problem, case: &DecodeCase) {
-        let (limit, tolerance) = (case.settings.limit, case.settings.tolerance);
+    fn watch(&mut self, problem: &Problem) {
         let mut met: BTreeMap<&str, bool> = BTreeMap::new();
-        run(problem, limit, tolerance, &mut |_, iterate, totals| {
+        run(problem, &mut |iterate, totals| {
             for (event, happens) in quotient_events(problem, iterate)
                 .into_iter()
                 .chain(row_events(iterate))
-                .chain(total_events(totals, tolerance.into()))
+                .chain(total_events(totals, problem.settings.tolerance.into()))
             {
                 *met.entry(event).or_default() |= happens;
             }
@@ -147,23 +136,10 @@ impl Tally {
         }
     }
 
-    /// Fails unless each number, line and event was met at least this often,
-    /// and no other number or line.
-    pub fn assert_complete(&self, least: u64) {
-        self.assert_met([calls(), program()].concat(), least);
-    }
-
-    /// The same of the library's calls alone.
-    pub fn assert_calls_complete(&self, least: u64) {
-        self.assert_met(calls(), least);
-    }
-
-    /// The same of the frame program alone.
-    pub fn assert_program_complete(&self, least: u64) {
-        self.assert_met(program(), least);
-    }
-
-    fn assert_met(&self, expected: Vec<String>, least: u64) {
+    /// Fails unless each number, line and event of these entries was met at least
+    /// this often, and nothing else.
+    pub fn assert_complete(&self, entries: &[&str], least: u64) {
+        let expected: Vec<String> = entries.iter().flat_map(|entry| of_entry(entry)).collect();
         for what in &expected {
             let count = self.of(what);
             assert!(count >= least, "{what:?} was met {count} times only");
@@ -185,18 +161,13 @@ impl Tally {
     }
 }
 
-/// What the library's calls are to meet.
-fn calls() -> Vec<String> {
-    let numbers = NUMBERS.iter().flat_map(|(entry, numbers)| {
-        let number = move |number| format!("{entry} {number}");
-        numbers.iter().map(number)
-    });
-    numbers.chain(EVENTS.map(String::from)).collect()
-}
-
-/// What the frame program is to meet.
-fn program() -> Vec<String> {
-    LINES.map(|line| format!("frames {line}")).into()
+/// What an entry is to meet.
+fn of_entry(entry: &str) -> Vec<String> {
+    let mut all = KINDS.iter();
+    let (_, kinds) = all.find(|(other, _)| *other == entry).expect("an entry");
+    let events = EVENTS.iter().filter(|_| entry == "decode");
+    let kinds = kinds.split(',').map(|kind| format!("{entry} {kind}"));
+    kinds.chain(events.map(|event| event.to_string())).collect()
 }
 
 fn quotient_events(problem: &Problem, iterate: &Iterate) -> [(&'static str, bool); 6] {
@@ -230,22 +201,13 @@ fn row_events(iterate: &Iterate) -> [(&'static str, bool); 2] {
 }
 
 fn total_events(totals: Totals, tolerance: i128) -> [(&'static str, bool); 5] {
-    let Totals {
-        multipliers,
-        slacks,
-    } = totals;
-    let larger = multipliers.max(slacks);
+    let larger = totals.multipliers.max(totals.slacks);
+    let exceed = (totals.multipliers > tolerance, totals.slacks > tolerance);
     [
         ("total above 32 bits", larger > i128::from(u32::MAX)),
         ("total equal to the tolerance", larger == tolerance),
         ("total one above the tolerance", larger == tolerance + 1),
-        (
-            "only slacks exceed",
-            slacks > tolerance && multipliers <= tolerance,
-        ),
-        (
-            "only multipliers exceed",
-            multipliers > tolerance && slacks <= tolerance,
-        ),
+        ("only slacks exceed", exceed == (false, true)),
+        ("only multipliers exceed", exceed == (true, false)),
     ]
 }

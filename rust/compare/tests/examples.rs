@@ -5,6 +5,7 @@ use std::env;
 use std::fmt::{Display, Write};
 use std::path::{Path, PathBuf};
 use std::process::{Command, Output};
+use widagbe::{Channel, Decoder, Library, OwnLists, Widagbe};
 
 #[allow(dead_code)]
 #[path = "../../widagbe/examples/decode.rs"]
@@ -69,58 +70,52 @@ fn calls() -> String {
         0, 4,
     ];
     let mut text = String::new();
-    let sizes = widagbe::read(&CODE);
+    let sizes = Widagbe.read(&CODE);
     let (n, m, t) = (sizes.bits, sizes.checks, sizes.triples);
     line(&mut text, "read", &[sizes.number as usize, n, m, t]);
     let v = n + t - m;
 
     let (mut triples, mut counts) = (vec![0; 3 * t + 1], vec![0; v + 1]);
-    let number = widagbe::split(&CODE, &mut triples, &mut counts);
+    let number = Widagbe.split(&CODE, &mut triples, &mut counts);
     line(&mut text, "split", &[number]);
     line(&mut text, "", &triples);
     line(&mut text, "", &counts);
 
     let samples = [-1.5, 0.25, 2.0, -0.125, 1.0];
-    let (mut costs, mut result) = (vec![0; n], vec![0; n + 1]);
-    let number = widagbe::channel_hard(300.0, &samples, &mut costs);
-    line(&mut text, "hard", &[number]);
-    line(&mut text, "", &costs);
-    let number = widagbe::channel_erasing(0.2, 300.0, &samples, &mut costs);
-    line(&mut text, "erasing", &[number]);
-    line(&mut text, "", &costs);
-    let number = widagbe::channel_gaussian(300.0, &samples, &mut costs);
-    line(&mut text, "gaussian", &[number]);
-    line(&mut text, "", &costs);
+    let mut costs = vec![0; n];
+    for (name, channel) in [
+        ("hard", Channel::Hard(300.0)),
+        ("erasing", Channel::erasing(0.2, 300.0)),
+        ("gaussian", Channel::Gaussian(300.0)),
+    ] {
+        let number = Widagbe.front(channel, &samples, &mut costs);
+        line(&mut text, name, &[number]);
+        line(&mut text, "", &costs);
+    }
 
     let (codeword, other) = ([1, 0, 0, 1, 1], [1, 0, 1, 0, 1]);
-    let number = widagbe::reflect(&costs, &codeword, &mut result);
+    let mut result = vec![0; n + 1];
+    let number = Widagbe.reflect(&costs, &codeword, &mut result);
     line(&mut text, "reflect", &[number]);
     line(&mut text, "", &result);
 
-    let answer = widagbe::test(&CODE, &other);
+    let answer = Widagbe.test(&CODE, &other);
     line(&mut text, "test", &[answer.number as usize, answer.place]);
     let mut point = vec![0; v + 1];
-    let answer = widagbe::extend(&CODE, &codeword, &mut point);
+    let answer = Widagbe.extend(&CODE, &codeword, &mut point);
     line(&mut text, "extend", &[answer.number as usize, answer.place]);
     line(&mut text, "", &point);
 
-    let (mut sums, mut values, mut rows) = (vec![0; v + 1], vec![0; v + 1], vec![0; 4 * t + 1]);
-    let mut word = vec![0; n + 1];
-    let lists = widagbe::Lists {
-        triples: &mut triples,
-        counts: &mut counts,
-        sums: &mut sums,
-        values: &mut values,
-        rows: &mut rows,
-        word: &mut word,
-    };
-    let run = widagbe::decode(&CODE, decode::SETTINGS, &costs, lists);
+    let mut lists = OwnLists::exact(n + 1, v + 1, t, 0);
+    lists.triples.push(0);
+    lists.rows.push(0);
+    let run = Widagbe.decode(&CODE, decode::SETTINGS, &costs, lists.lend());
     let [number, k, settled] = [run.number, run.k, run.settled].map(|x| x as usize);
     line(&mut text, "decode", &[number, run.place, k, settled]);
-    line(&mut text, "", &sums);
-    line(&mut text, "", &values);
-    line(&mut text, "", &rows);
-    line(&mut text, "", &word);
+    line(&mut text, "", &lists.sums);
+    line(&mut text, "", &lists.values);
+    line(&mut text, "", &lists.rows);
+    line(&mut text, "", &lists.word);
     text
 }
 

@@ -1,8 +1,10 @@
-//! The frame program where reads and writes fail: a read that fails ends the
-//! input, a write that fails ends the program.
+//! The frame program against the reference, and where reads and writes fail: a
+//! read that fails ends the input, a write that fails ends the program.
 
-use compare::compiled::Compiled;
-use interface::Library;
+use compare::comparison::compare;
+use compare::families::{program, Effort};
+use compare::outcome::printed;
+use compare::program::{frames, path};
 use std::fs::File;
 use std::io::{Read, Write};
 use std::os::fd::OwnedFd;
@@ -12,6 +14,13 @@ use std::thread::sleep;
 use std::time::{Duration, Instant};
 
 const PATIENCE: Duration = Duration::from_secs(20);
+
+#[test]
+fn the_frame_program_equals_the_reference() {
+    let tally = compare(|case| printed(frames, case), program(), Effort::Full).unwrap();
+    println!("{}", tally.summary());
+    tally.assert_complete(&["frames"], 20);
+}
 
 /// The code of document 01's listing, its settings, and so many frames.
 fn stream(frames: usize) -> Vec<u8> {
@@ -23,7 +32,7 @@ fn stream(frames: usize) -> Vec<u8> {
 }
 
 fn start(stdin: Stdio, stdout: Stdio) -> Child {
-    Command::new(Compiled::new().program())
+    Command::new(path())
         .stdin(stdin)
         .stdout(stdout)
         .spawn()
@@ -33,10 +42,7 @@ fn start(stdin: Stdio, stdout: Stdio) -> Child {
 /// What the program prints with a standard input that cannot be read.
 fn printed_without_input(stdin: Stdio) -> Vec<u8> {
     let child = start(stdin, Stdio::piped());
-    child
-        .wait_with_output()
-        .expect("the program runs")
-        .stdout
+    child.wait_with_output().expect("the program runs").stdout
 }
 
 /// Feeds the program and waits for its end, with its standard input still open.
@@ -85,7 +91,7 @@ fn nothing_is_written_after_a_write_that_failed() {
     assert!(end_with_input_open(child, &input).success());
     let mut printed = Vec::new();
     received.read_to_end(&mut printed).unwrap();
-    let whole = Compiled::new().frames(&input);
+    let whole = frames(&input);
     assert!(printed.len() < whole.len());
     assert!(whole.starts_with(&printed));
 }

@@ -1,19 +1,16 @@
 //! What the reference alone must have: reflection, and points that are exactly
 //! the codewords' points.
 
-use compare::draft::tiny_code;
+use compare::codes::tiny_code;
 use compare::random::Random;
-use compare::reflections::check_reflections;
+use compare::reflections::assert_reflects;
 use reference::iteration::{SIGNS, UNIT};
 use reference::splitting::Split;
-use reference::words::{first_odd_check, point_of};
-use reference::Reference;
+use reference::SOUND;
 
 #[test]
 fn the_reference_reflects() {
-    let met = check_reflections(&Reference).unwrap();
-    assert!(met.keys().eq(&[0, 16, 17]));
-    assert!(met.values().all(|&count| count >= 100));
+    assert_reflects(&SOUND, &SOUND);
 }
 
 /// Whether all four sums of each triple are at most U at the centred values.
@@ -37,15 +34,15 @@ fn points_that_meet_the_system_are_those_of_codewords() {
     let (mut codewords, mut others) = (0, 0);
     for _ in 0..200 {
         let code = tiny_code(&mut random);
-        let split = Split::of(&code);
+        let split = SOUND.split_code(&code);
         if split.variables() > 14 {
             continue;
         }
         for number in 0..1 << split.variables() {
             let point = digits(number, split.variables());
             let word = &point[..code.bits];
-            let is_point =
-                first_odd_check(&code, word).is_none() && point_of(&split, word) == point;
+            let is_point = SOUND.first_odd_check(&code, word).is_none()
+                && SOUND.point_of(&split, word) == point;
             assert_eq!(meets_system(&split, &point), is_point);
             codewords += u32::from(is_point);
             others += u32::from(!is_point);

@@ -1,28 +1,32 @@
-//! The library's calls as Rust sees them: plain answers, lent slices, and one
-//! trait that every implementation in this workspace has.
+//! The library's entries as Rust sees them: settings, lent lists and answers,
+//! and the traits of those who answer.
 //!
 //! A number is 0 for success and otherwise the cause's number in the table of
-//! document 01; fields that the table does not name are 0.
+//! document 01; fields that the table does not name are 0. A refused call leaves
+//! all lent lists as they were. The answers are laid out as C has them.
 
-/// What the reader of code records hands back.
+/// What the reader of code records hands back: the sizes of a code.
+#[repr(C)]
 #[derive(Clone, Copy, Debug, Default, PartialEq, Eq)]
-pub struct ReadAnswer {
+pub struct CodeAnswer {
     pub number: u32,
     pub bits: usize,
     pub checks: usize,
     pub triples: usize,
 }
 
-/// What the codeword test and the extension hand back.
+/// What the codeword test and the extension hand back; the place is a check.
+#[repr(C)]
 #[derive(Clone, Copy, Debug, Default, PartialEq, Eq)]
-pub struct PlaceAnswer {
+pub struct WordAnswer {
     pub number: u32,
     pub place: usize,
 }
 
-/// What the decoder hands back.
+/// What the decoder hands back; the place is a bit or a check.
+#[repr(C)]
 #[derive(Clone, Copy, Debug, Default, PartialEq, Eq)]
-pub struct RunAnswer {
+pub struct DecodeAnswer {
     pub number: u32,
     pub place: usize,
     pub k: u32,
@@ -38,6 +42,18 @@ pub struct Settings {
     pub tolerance: u32,
 }
 
+impl Settings {
+    /// W, A, K and X.
+    pub const fn new(weight: u32, ratio: u32, limit: u32, tolerance: u32) -> Settings {
+        Settings {
+            weight,
+            ratio,
+            limit,
+            tolerance,
+        }
+    }
+}
+
 /// The floor and the weight of an erasing channel belong together.
 #[derive(Clone, Copy, Debug, PartialEq)]
 pub struct Erasing {
@@ -51,6 +67,12 @@ pub enum Channel {
     Gaussian(f32),
     Hard(f32),
     Erasing(Erasing),
+}
+
+impl Channel {
+    pub const fn erasing(floor: f32, weight: f32) -> Channel {
+        Channel::Erasing(Erasing { floor, weight })
+    }
 }
 
 /// The lists that the decoder's caller lends.
@@ -99,22 +121,29 @@ impl OwnLists {
     }
 }
 
-/// The public calls of document 01.
-pub trait Library {
-    fn read(&self, code: &[u8]) -> ReadAnswer;
+/// The decoder.
+pub trait Decoder {
+    /// Decodes one frame of costs.
+    fn decode(&self, code: &[u8], settings: Settings, costs: &[i16], lists: Lists) -> DecodeAnswer;
+}
 
+/// Every entry: the decoder and the calls around it.
+pub trait Library: Decoder {
+    /// Reads code records.
+    fn read(&self, code: &[u8]) -> CodeAnswer;
+
+    /// Splits the checks of a code into triples.
     fn split(&self, code: &[u8], triples: &mut [u16], counts: &mut [u16]) -> u32;
 
-    fn channel(&self, setting: Channel, samples: &[f32], costs: &mut [i16]) -> u32;
+    /// The channel front: costs of samples.
+    fn front(&self, channel: Channel, samples: &[f32], costs: &mut [i16]) -> u32;
 
+    /// Costs negated where the word has 1.
     fn reflect(&self, costs: &[i16], word: &[u8], result: &mut [i16]) -> u32;
 
-    fn test(&self, code: &[u8], word: &[u8]) -> PlaceAnswer;
+    /// Tests whether a word is a codeword.
+    fn test(&self, code: &[u8], word: &[u8]) -> WordAnswer;
 
-    fn extend(&self, code: &[u8], word: &[u8], point: &mut [u8]) -> PlaceAnswer;
-
-    fn decode(&self, code: &[u8], settings: Settings, costs: &[i16], lists: Lists) -> RunAnswer;
-
-    /// The frame program: standard input to standard output.
-    fn frames(&self, input: &[u8]) -> Vec<u8>;
+    /// Extends a codeword to its point.
+    fn extend(&self, code: &[u8], word: &[u8], point: &mut [u8]) -> WordAnswer;
 }

@@ -1,8 +1,8 @@
 //! The table of causes.
 
-use interface::PlaceAnswer;
+use interface::WordAnswer;
 
-/// A cause of refusal; its discriminant is its number.
+/// A cause; its discriminant is its number. The last two are outcomes of a run.
 #[derive(Clone, Copy, Debug, PartialEq, Eq)]
 pub enum Cause {
     Cut = 1,
@@ -20,32 +20,22 @@ pub enum Cause {
     Cost = 13,
     Sample = 14,
     WordEntry = 15,
-}
-
-/// The number of the outcome "undecided".
-pub const UNDECIDED: u32 = 16;
-
-/// The number of the outcome "not a codeword".
-pub const NOT_CODEWORD: u32 = 17;
-
-impl Cause {
-    pub fn number(self) -> u32 {
-        self as u32
-    }
+    Undecided = 16,
+    NotCodeword = 17,
 }
 
 /// 0 for success, otherwise the cause's number.
-pub fn number_of(result: Result<(), Cause>) -> u32 {
+pub fn number_of<T>(result: Result<T, Cause>) -> u32 {
     match result {
-        Ok(()) => 0,
-        Err(cause) => cause.number(),
+        Ok(_) => 0,
+        Err(cause) => cause as u32,
     }
 }
 
-impl From<Cause> for PlaceAnswer {
-    fn from(cause: Cause) -> Self {
-        PlaceAnswer {
-            number: cause.number(),
+impl From<Cause> for WordAnswer {
+    fn from(cause: Cause) -> WordAnswer {
+        WordAnswer {
+            number: cause as u32,
             place: 0,
         }
     }

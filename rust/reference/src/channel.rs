@@ -1,9 +1,9 @@
 //! The channel front: samples to costs, by the float's bits over whole numbers.
 
-use crate::cause::{number_of, Cause};
+use crate::cause::Cause;
+use crate::fault::Fault;
+use crate::Reference;
 use interface::{Channel, Erasing};
-
-const MOST_COST: u128 = 32_767;
 
 /// The parts of an f32: its size is significand * 2^exponent / 2^150.
 struct Parts {
@@ -50,28 +50,6 @@ fn is_smaller(one: f32, other: f32) -> bool {
     one.to_bits() & 0x7FFF_FFFF < other.to_bits() & 0x7FFF_FFFF
 }
 
-/// The nearest whole number, halves away from zero, limited; an infinite
-/// number goes to the limit.
-pub fn cost_of(float: f32) -> i16 {
-    let Parts {
-        negative,
-        exponent,
-        significand,
-    } = parts(float);
-    let size = if exponent >= 150 {
-        // The size is at least 2^23 or infinite.
-        MOST_COST
-    } else {
-        rounded_size(significand, 150 - exponent)
-    };
-    let cost = size.min(MOST_COST) as i16;
-    if negative {
-        -cost
-    } else {
-        cost
-    }
-}
-
 /// significand / 2^shift to the nearest whole number, halves up.
 fn rounded_size(significand: u128, shift: u32) -> u128 {
     if shift > 100 {
@@ -88,53 +66,91 @@ fn rounded_size(significand: u128, shift: u32) -> u128 {
     }
 }
 
-fn hard(weight: f32, sample: f32) -> i16 {
-    if is_positive(sample) {
-        cost_of(weight)
-    } else if is_negative(sample) {
-        -cost_of(weight)
-    } else {
-        0
-    }
-}
-
-fn cost(setting: Channel, sample: f32) -> i16 {
-    match setting {
-        Channel::Gaussian(scale) => cost_of(sample * scale),
-        Channel::Hard(weight) => hard(weight, sample),
-        Channel::Erasing(Erasing { floor, .. }) if is_smaller(sample, floor) => 0,
-        Channel::Erasing(Erasing { weight, .. }) => hard(weight, sample),
-    }
-}
-
-fn in_range(setting: Channel) -> bool {
-    let is_factor = |float: f32| is_finite(float) && is_positive(float);
-    match setting {
-        Channel::Gaussian(scale) => is_factor(scale),
-        Channel::Hard(weight) => is_factor(weight),
-        Channel::Erasing(Erasing { floor, weight }) => {
-            is_finite(floor) && !is_negative(floor) && is_factor(weight)
+impl Reference {
+    /// The nearest whole number, halves away from zero, limited; an infinite
+    /// number goes to the limit.
+    fn cost_of(self, float: f32) -> i16 {
+        let Parts {
+            negative,
+            exponent,
+            significand,
+        } = parts(float);
+        let most = self.limit(32_767) as u128;
+        let size = if exponent >= 150 {
+            // The size is at least 2^23 or infinite.
+            most
+        } else {
+            rounded_size(significand, 150 - exponent).min(most)
+        };
+        if negative {
+            -(size as i16)
+        } else {
+            size as i16
         }
     }
-}
 
-/// The channel front as a call.
-pub fn channel(setting: Channel, samples: &[f32], costs: &mut [i16]) -> u32 {
-    number_of(try_channel(setting, samples, costs))
-}
+    fn hard(self, weight: f32, sample: f32) -> i16 {
+        let below = self.has(Fault::NegativeZeroIsBelow) && parts(sample).negative;
+        if is_positive(sample) {
+            self.cost_of(weight)
+        } else if is_negative(sample) || below {
+            -self.cost_of(weight)
+        } else {
+            0
+        }
+    }
 
-fn try_channel(setting: Channel, samples: &[f32], costs: &mut [i16]) -> Result<(), Cause> {
-    if !in_range(setting) {
-        return Err(Cause::Setting);
+    fn gaussian(self, scale: f32, sample: f32) -> i16 {
+        let product = sample * scale;
+        let limited = |cost: f64| cost.clamp(-32_767.0, 32_767.0) as i16;
+        match self.fault {
+            Some(Fault::ProductNotRounded) => {
+                limited((f64::from(sample) * f64::from(scale)).round())
+            }
+            Some(Fault::HalfAddedAndFloored) => limited((f64::from(product) + 0.5).floor()),
+            Some(Fault::InfiniteProductIsZero) if !is_finite(product) => 0,
+            Some(Fault::SubnormalsFlushed) if sample.is_subnormal() => 0,
+            _ => self.cost_of(product),
+        }
     }
-    if !samples.iter().all(|&sample| is_finite(sample)) {
-        return Err(Cause::Sample);
+
+    fn cost(self, channel: Channel, sample: f32) -> i16 {
+        match channel {
+            Channel::Gaussian(scale) => self.gaussian(scale, sample),
+            Channel::Hard(weight) => self.hard(weight, sample),
+            Channel::Erasing(Erasing { floor, .. }) if is_smaller(sample, floor) => 0,
+            Channel::Erasing(Erasing { weight, .. }) => self.hard(weight, sample),
+        }
     }
-    if costs.len() < samples.len() {
-        return Err(Cause::ListTooShort);
+
+    fn is_sound(self, channel: Channel) -> bool {
+        let is_factor = |float: f32| is_finite(float) && is_positive(float);
+        match channel {
+            Channel::Gaussian(scale) => is_factor(scale),
+            Channel::Hard(weight) => is_factor(weight),
+            Channel::Erasing(Erasing { floor, weight }) => {
+                let refused = self.has(Fault::NegativeZeroFloorRefused) && parts(floor).negative;
+                is_finite(floor) && !is_negative(floor) && !refused && is_factor(weight)
+            }
+        }
     }
-    for (entry, &sample) in costs.iter_mut().zip(samples) {
-        *entry = cost(setting, sample);
+
+    pub(crate) fn try_front(
+        self,
+        channel: Channel,
+        samples: &[f32],
+        costs: &mut [i16],
+    ) -> Result<(), Cause> {
+        let passes = self.has(Fault::SettingNotJudgedWithoutSamples) && samples.is_empty();
+        let finite = samples.iter().all(|&sample| is_finite(sample));
+        self.judge(&[
+            (Cause::Setting, !self.is_sound(channel) && !passes),
+            (Cause::Sample, !finite),
+            (Cause::ListTooShort, costs.len() < samples.len()),
+        ])?;
+        for (entry, &sample) in costs.iter_mut().zip(samples) {
+            *entry = self.cost(channel, sample);
+        }
+        Ok(())
     }
-    Ok(())
 }

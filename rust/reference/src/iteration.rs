@@ -1,7 +1,10 @@
 //! One iteration of the update.
 
-use crate::quotient::{limited, nearest};
+use crate::fault::Fault;
+use crate::quotient::limited;
 use crate::splitting::Split;
+use crate::Reference;
+use interface::Settings;
 
 /// The centred value of a 1.
 pub const UNIT: i64 = 16_384;
@@ -11,36 +14,43 @@ pub const SIGNS: [[i64; 3]; 4] = [[1, -1, -1], [-1, 1, -1], [-1, -1, 1], [1, 1, 
 
 /// What a run knows before its first iteration.
 pub struct Problem {
+    pub reference: Reference,
     pub split: Split,
     pub counts: Vec<usize>,
-    pub weight: i64,
-    pub ratio: i64,
+    pub settings: Settings,
     /// One cost a variable; an auxiliary's is 0.
     pub costs: Vec<i64>,
+    pub signs: [[i64; 3]; 4],
 }
 
 impl Problem {
-    pub fn new(split: Split, weight: u32, ratio: u32, costs: &[i16]) -> Problem {
+    pub fn new(reference: Reference, split: Split, settings: Settings, costs: &[i16]) -> Problem {
         let mut all: Vec<i64> = costs.iter().map(|&cost| i64::from(cost)).collect();
         all.resize(split.variables(), 0);
+        let mut signs = SIGNS;
+        if reference.has(Fault::ChangedRowOrder) {
+            signs.rotate_right(1);
+        }
         Problem {
+            reference,
             counts: split.counts(),
             split,
-            weight: i64::from(weight),
-            ratio: i64::from(ratio),
+            settings,
             costs: all,
+            signs,
         }
     }
 
     /// The dividend of a variable's quotient for its sum S.
     pub fn dividend(&self, variable: usize, sum: i64) -> i128 {
-        -(256 * i128::from(sum) + i128::from(self.weight) * i128::from(self.costs[variable]))
+        let weighted = i128::from(self.settings.weight) * i128::from(self.costs[variable]);
+        -(256 * i128::from(sum) + weighted)
     }
 
     /// The divisor of a variable's quotient; e is its number of rows.
     pub fn divisor(&self, variable: usize) -> i128 {
         let e = 4 * self.counts[variable] as i128;
-        256 * e - i128::from(self.ratio)
+        256 * e - i128::from(self.settings.ratio)
     }
 }
 
@@ -98,10 +108,10 @@ pub fn iterate(problem: &Problem, old: &Iterate) -> (Iterate, Totals) {
 }
 
 /// S of every variable.
-fn row_sums(problem: &Problem, rows: &[[i64; 4]]) -> Vec<i64> {
+pub fn row_sums(problem: &Problem, rows: &[[i64; 4]]) -> Vec<i64> {
     let mut sums = vec![0; problem.split.variables()];
     for (triple, rows) in problem.split.triples.iter().zip(rows) {
-        for (signs, &s) in SIGNS.iter().zip(rows) {
+        for (signs, &s) in problem.signs.iter().zip(rows) {
             for (&variable, sign) in triple.iter().zip(signs) {
                 sums[variable] += sign * (slack(s) + multiplier(s));
             }
@@ -112,17 +122,25 @@ fn row_sums(problem: &Problem, rows: &[[i64; 4]]) -> Vec<i64> {
 
 /// The new c of a variable.
 fn value(problem: &Problem, variable: usize, sum: i64) -> i64 {
-    let quotient = nearest(problem.dividend(variable, sum), problem.divisor(variable));
-    limited(quotient, i128::from(UNIT)) as i64
+    let mut dividend = problem.dividend(variable, sum);
+    if problem.reference.has(Fault::QuotientIn32Bits) {
+        dividend = i128::from(dividend as i32);
+    }
+    let most = problem.reference.limit(16_384) as i128;
+    let divisor = problem.divisor(variable);
+    limited(problem.reference.nearest(dividend, divisor), most) as i64
 }
 
 /// Every row's new s, with the old p and the new c.
 fn renewed_rows(problem: &Problem, old: &[[i64; 4]], values: &[i64]) -> Vec<[i64; 4]> {
+    let reference = problem.reference;
     let mut rows = old.to_vec();
     for (triple, rows) in problem.split.triples.iter().zip(&mut rows) {
-        for (signs, s) in SIGNS.iter().zip(rows) {
-            let sum: i64 = (0..3).map(|i| signs[i] * values[triple[i]]).sum();
+        for (signs, s) in problem.signs.iter().zip(rows) {
+            let sum = (0..3).map(|i| signs[i] * values[triple[i]]).sum();
+            let sum = reference.narrowed(sum, Fault::TripleSumsIn16Bits);
             *s = multiplier(*s) + sum - UNIT;
+            *s = reference.narrowed(*s, Fault::RowsIn16Bits);
         }
     }
     rows

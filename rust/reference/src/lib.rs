@@ -1,53 +1,77 @@
 //! A decoder written from document 01 alone: plain, slow where that is
-//! clearer, and independent of every other decoder here.
+//! clearer, and independent of every other decoder here. On request it is wrong
+//! in one place (`fault`), for tests of the comparisons.
 
 pub mod cause;
-pub mod channel;
-pub mod decoder;
-pub mod frames;
+mod channel;
+mod decoder;
+pub mod fault;
+mod frames;
 pub mod iteration;
 pub mod quotient;
 pub mod records;
-pub mod reflector;
 pub mod run;
 pub mod splitting;
-pub mod words;
+mod words;
 
-use interface::{Channel, Library, Lists, PlaceAnswer, ReadAnswer, RunAnswer, Settings};
+use cause::number_of;
+use fault::Fault;
+use interface::{Channel, CodeAnswer, DecodeAnswer, Decoder, Library, Lists, Settings, WordAnswer};
 
-/// The reference as a library.
-pub struct Reference;
+/// The reference, with its fault if it has one.
+#[derive(Clone, Copy, Debug)]
+pub struct Reference {
+    pub fault: Option<Fault>,
+}
+
+/// The reference as it should be.
+pub const SOUND: Reference = Reference { fault: None };
+
+impl Decoder for Reference {
+    fn decode(&self, code: &[u8], settings: Settings, costs: &[i16], lists: Lists) -> DecodeAnswer {
+        let result = self.try_decode(code, settings, costs, lists);
+        result.unwrap_or_else(|cause| DecodeAnswer {
+            number: cause as u32,
+            ..DecodeAnswer::default()
+        })
+    }
+}
 
 impl Library for Reference {
-    fn read(&self, code: &[u8]) -> ReadAnswer {
-        records::read(code)
+    fn read(&self, code: &[u8]) -> CodeAnswer {
+        match self.read_code(code) {
+            Ok(code) => CodeAnswer {
+                number: 0,
+                bits: code.bits,
+                checks: code.checks.len(),
+                triples: code.triples(),
+            },
+            Err(cause) => CodeAnswer {
+                number: cause as u32,
+                bits: usize::from(self.has(Fault::SizesWithRefusal)),
+                ..CodeAnswer::default()
+            },
+        }
     }
 
     fn split(&self, code: &[u8], triples: &mut [u16], counts: &mut [u16]) -> u32 {
-        splitting::split(code, triples, counts)
+        number_of(self.try_split(code, triples, counts))
     }
 
-    fn channel(&self, setting: Channel, samples: &[f32], costs: &mut [i16]) -> u32 {
-        channel::channel(setting, samples, costs)
+    fn front(&self, channel: Channel, samples: &[f32], costs: &mut [i16]) -> u32 {
+        number_of(self.try_front(channel, samples, costs))
     }
 
     fn reflect(&self, costs: &[i16], word: &[u8], result: &mut [i16]) -> u32 {
-        reflector::reflect(costs, word, result)
+        number_of(self.try_reflect(costs, word, result))
     }
 
-    fn test(&self, code: &[u8], word: &[u8]) -> PlaceAnswer {
-        words::test(code, word)
+    fn test(&self, code: &[u8], word: &[u8]) -> WordAnswer {
+        self.try_test(code, word, None).err().unwrap_or_default()
     }
 
-    fn extend(&self, code: &[u8], word: &[u8], point: &mut [u8]) -> PlaceAnswer {
-        words::extend(code, word, point)
-    }
-
-    fn decode(&self, code: &[u8], settings: Settings, costs: &[i16], lists: Lists) -> RunAnswer {
-        decoder::decode(code, settings, costs, lists)
-    }
-
-    fn frames(&self, input: &[u8]) -> Vec<u8> {
-        frames::frames(input).into_bytes()
+    fn extend(&self, code: &[u8], word: &[u8], point: &mut [u8]) -> WordAnswer {
+        let result = self.try_extend(code, word, point);
+        result.err().unwrap_or_default()
     }
 }

@@ -1,11 +1,11 @@
 //! Code records: bytes from left to right, each field judged when it is whole.
 
 use crate::cause::Cause;
-use interface::ReadAnswer;
+use crate::fault::Fault;
+use crate::Reference;
 
-pub const HEADER_MARK: u32 = 0x4C48;
-pub const CHECK_MARK: u32 = 0x4C43;
-pub const MOST_TRIPLES: usize = 8_192;
+const HEADER_MARK: u32 = 0x4C48;
+const CHECK_MARK: u32 = 0x4C43;
 
 /// A code as its records give it; each check lists its bits in rising order.
 #[derive(Clone, Debug, PartialEq, Eq)]
@@ -38,18 +38,11 @@ impl Code {
 
 /// Bytes not yet read.
 pub struct Reader<'a> {
-    rest: &'a [u8],
+    pub reference: Reference,
+    pub rest: &'a [u8],
 }
 
-impl<'a> Reader<'a> {
-    pub fn new(bytes: &'a [u8]) -> Self {
-        Reader { rest: bytes }
-    }
-
-    pub fn at_end(&self) -> bool {
-        self.rest.is_empty()
-    }
-
+impl Reader<'_> {
     /// A number of `width` bytes, the high byte first.
     pub fn number(&mut self, width: usize) -> Result<u32, Cause> {
         if self.rest.len() < width {
@@ -62,85 +55,104 @@ impl<'a> Reader<'a> {
             .fold(0, |high, &byte| high * 256 + u32::from(byte)))
     }
 
+    /// A number in its range.
+    pub fn number_within(
+        &mut self,
+        width: usize,
+        (least, most): (usize, usize),
+        cause: Cause,
+    ) -> Result<usize, Cause> {
+        let number = self.number(width)? as usize;
+        let outside = !self.reference.within(number, least, most);
+        self.reference.judge(&[(cause, outside)])?;
+        Ok(number)
+    }
+
     pub fn mark(&mut self, due: u32) -> Result<(), Cause> {
-        if self.number(2)? == due {
-            Ok(())
-        } else {
-            Err(Cause::Mark)
+        if self.reference.has(Fault::CutMarkJudged) && self.rest.len() == 1 && self.rest != b"L" {
+            return Err(Cause::Mark);
         }
+        let other = self.number(2)? != due;
+        self.reference.judge(&[(Cause::Mark, other)])
     }
 
     /// A header: bits and checks.
-    pub fn header(&mut self) -> Result<(usize, usize), Cause> {
+    fn header(&mut self) -> Result<(usize, usize), Cause> {
         self.mark(HEADER_MARK)?;
-        let bits = self.size(3, 4_096)?;
-        let checks = self.size(1, 2_048)?;
+        if self.reference.has(Fault::SizesReadTogether) && self.rest.len() < 4 {
+            return Err(Cause::Cut);
+        }
+        let bits = self.number_within(2, (3, 4_096), Cause::Size)?;
+        if self.reference.has(Fault::RoomJudgedBeforeChecks) && bits > 512 {
+            return Err(Cause::ListTooShort);
+        }
+        let checks = self.number_within(2, (1, 2_048), Cause::Size)?;
         Ok((bits, checks))
     }
 
-    fn size(&mut self, least: u32, most: u32) -> Result<usize, Cause> {
-        let size = self.number(2)?;
-        if size < least || size > most {
-            return Err(Cause::Size);
-        }
-        Ok(size as usize)
-    }
-
-    /// A check of a code with so many bits.
-    pub fn check(&mut self, bits: usize) -> Result<Vec<usize>, Cause> {
-        self.mark(CHECK_MARK)?;
-        let degree = self.number(1)?;
-        if !(3..=32).contains(&degree) {
-            return Err(Cause::Degree);
-        }
+    /// The indices of a check, in rising order.
+    fn indices(&mut self, bits: usize, degree: usize) -> Result<Vec<usize>, Cause> {
+        let late = self.reference.has(Fault::HighIndexJudgedLast);
         let mut check: Vec<usize> = Vec::new();
         for _ in 0..degree {
             let index = self.number(2)? as usize;
-            if index >= bits {
-                return Err(Cause::IndexTooHigh);
-            }
-            if check.last().is_some_and(|&before| index <= before) {
-                return Err(Cause::IndexNotRising);
-            }
+            let rises = check.last().is_none_or(|&before| before < index);
+            self.reference.judge(&[
+                (Cause::IndexTooHigh, index >= bits && !late),
+                (Cause::IndexNotRising, !rises),
+            ])?;
             check.push(index);
+        }
+        if late && check.iter().any(|&index| index >= bits) {
+            return Err(Cause::IndexTooHigh);
         }
         Ok(check)
     }
+
+    fn room(&self, needed: usize, held: usize) -> Result<(), Cause> {
+        let short = needed > held;
+        self.reference.judge(&[(Cause::ListTooShort, short)])
+    }
+
+    /// Header and checks of a code, for one who holds so many bits and triples.
+    pub fn code(&mut self, most_bits: usize, most_triples: usize) -> Result<Code, Cause> {
+        let (bits, count) = self.header()?;
+        let mut code = Code {
+            bits,
+            checks: Vec::new(),
+        };
+        let mut triples = 0;
+        self.room(bits, most_bits)?;
+        for _ in 0..count {
+            self.mark(CHECK_MARK)?;
+            let degree = self.number_within(1, (3, 32), Cause::Degree)?;
+            triples += degree - 2;
+            if self.reference.has(Fault::RoomJudgedBeforeIndices) {
+                self.room(triples, most_triples)?;
+            }
+            code.checks.push(self.indices(bits, degree)?);
+            self.room(triples, most_triples)?;
+            if self.reference.has(Fault::TriplesJudgedAtOnce) && triples > 8_192 {
+                return Err(Cause::TooManyTriples);
+            }
+        }
+        Ok(code)
+    }
 }
 
-/// The code that the bytes hold, or the first cause against them.
-pub fn read_code(bytes: &[u8]) -> Result<Code, Cause> {
-    let mut reader = Reader::new(bytes);
-    let (bits, count) = reader.header()?;
-    let mut checks = Vec::new();
-    for _ in 0..count {
-        checks.push(reader.check(bits)?);
-    }
-    let code = Code { bits, checks };
-    if !reader.at_end() {
-        return Err(Cause::BytesAfter);
-    }
-    if code.triples() > MOST_TRIPLES {
-        return Err(Cause::TooManyTriples);
-    }
-    if !code.uses_every_bit() {
-        return Err(Cause::UnusedBit);
-    }
-    Ok(code)
-}
-
-/// The reader as a call.
-pub fn read(bytes: &[u8]) -> ReadAnswer {
-    match read_code(bytes) {
-        Ok(code) => ReadAnswer {
-            number: 0,
-            bits: code.bits,
-            checks: code.checks.len(),
-            triples: code.triples(),
-        },
-        Err(cause) => ReadAnswer {
-            number: cause.number(),
-            ..ReadAnswer::default()
-        },
+impl Reference {
+    /// The code that the bytes hold, or the first cause against them.
+    pub fn read_code(self, bytes: &[u8]) -> Result<Code, Cause> {
+        let mut reader = Reader {
+            reference: self,
+            rest: bytes,
+        };
+        let code = reader.code(usize::MAX, usize::MAX)?;
+        self.judge(&[
+            (Cause::BytesAfter, !reader.rest.is_empty()),
+            (Cause::TooManyTriples, code.triples() > self.limit(8_192)),
+            (Cause::UnusedBit, !code.uses_every_bit()),
+        ])?;
+        Ok(code)
     }
 }

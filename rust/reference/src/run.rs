@@ -1,8 +1,10 @@
 //! A whole run, and the reading of its values as a word.
 
+use crate::cause::{number_of, Cause};
+use crate::fault::Fault;
 use crate::iteration::{iterate, start, Iterate, Problem, Totals};
 use crate::records::Code;
-use crate::words::first_odd_check;
+use crate::Reference;
 
 /// How a run ended.
 #[derive(Clone, Debug, PartialEq, Eq)]
@@ -12,49 +14,76 @@ pub struct End {
     pub settled: bool,
 }
 
-/// Runs for at most `limit` iterations and shows each one to `watch`.
-pub fn run(
-    problem: &Problem,
-    limit: u32,
-    tolerance: u32,
-    watch: &mut dyn FnMut(u32, &Iterate, Totals),
-) -> End {
+/// Runs to the end and shows each iteration to `watch`.
+pub fn run(problem: &Problem, watch: &mut dyn FnMut(&Iterate, Totals)) -> End {
+    let more = u32::from(problem.reference.has(Fault::OneIterationMore));
     let mut last = start(problem);
     let mut k = 0;
     loop {
         let (next, totals) = iterate(problem, &last);
         last = next;
         k += 1;
-        watch(k, &last, totals);
-        let settled = within(totals, tolerance);
-        if settled || k == limit {
+        watch(&last, totals);
+        let at_limit = k >= problem.settings.limit + more;
+        let ignored = at_limit && problem.reference.has(Fault::NotSettledAtLimit);
+        let settled = within(problem, totals) && !ignored;
+        if settled || at_limit {
             return End { last, k, settled };
         }
     }
 }
 
 /// Whether neither total exceeds the tolerance.
-fn within(totals: Totals, tolerance: u32) -> bool {
-    let most = i128::from(tolerance);
+fn within(problem: &Problem, totals: Totals) -> bool {
+    let most = i128::from(problem.settings.tolerance);
+    if problem.reference.has(Fault::TotalsTogether) {
+        return totals.multipliers + totals.slacks <= most;
+    }
     totals.multipliers <= most && totals.slacks <= most
 }
 
-/// What the values of the code bits say.
-#[derive(Clone, Debug, PartialEq, Eq)]
-pub enum Reading {
-    Word(Vec<u8>),
-    Undecided(usize),
-    NotCodeword(usize),
+/// What the values of the code bits say: the outcome's number and place, and
+/// the bits, which are a word where the number is 0.
+pub struct Reading {
+    pub number: u32,
+    pub place: usize,
+    pub bits: Vec<u8>,
 }
 
-pub fn reading(code: &Code, values: &[i64]) -> Reading {
-    let values = &values[..code.bits];
-    if let Some(bit) = values.iter().position(|&c| c == 0) {
-        return Reading::Undecided(bit);
+impl Reference {
+    pub(crate) fn reading(self, code: &Code, values: &[i64]) -> Reading {
+        let mut bits: Vec<u8> = values.iter().map(|&c| u8::from(c > 0)).collect();
+        bits.truncate(code.bits);
+        if self.has(Fault::SameWordEachTime) {
+            bits.fill(0);
+        }
+        let zero = self.undecided(code, values);
+        let odd = self.first_odd_check(code, &bits);
+        let judged = self.judge(&[
+            (Cause::Undecided, zero.is_some()),
+            (Cause::NotCodeword, odd.is_some()),
+        ]);
+        let place = match judged {
+            Ok(()) => None,
+            Err(Cause::Undecided) => zero,
+            Err(_) => odd,
+        };
+        Reading {
+            number: number_of(judged),
+            place: place.unwrap_or(0),
+            bits,
+        }
     }
-    let word: Vec<u8> = values.iter().map(|&c| u8::from(c > 0)).collect();
-    match first_odd_check(code, &word) {
-        Some(check) => Reading::NotCodeword(check),
-        None => Reading::Word(word),
+
+    /// The lowest code bit with c = 0.
+    fn undecided(self, code: &Code, values: &[i64]) -> Option<usize> {
+        let mut judged = &values[..code.bits];
+        if self.has(Fault::AuxiliariesUndecided) {
+            judged = values;
+        }
+        if self.has(Fault::HighestUndecided) {
+            return judged.iter().rposition(|&c| c == 0);
+        }
+        judged.iter().position(|&c| c == 0)
     }
 }

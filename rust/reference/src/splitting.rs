@@ -1,7 +1,9 @@
 //! Splitting checks into triples by a literal queue.
 
-use crate::cause::{number_of, Cause};
-use crate::records::{read_code, Code};
+use crate::cause::Cause;
+use crate::fault::Fault;
+use crate::records::Code;
+use crate::Reference;
 use std::collections::VecDeque;
 
 /// The triples of a code, and for each auxiliary the first two items of the
@@ -14,31 +16,6 @@ pub struct Split {
 }
 
 impl Split {
-    pub fn of(code: &Code) -> Split {
-        let mut split = Split {
-            bits: code.bits,
-            triples: Vec::new(),
-            makers: Vec::new(),
-        };
-        for check in &code.checks {
-            split.add(check);
-        }
-        split
-    }
-
-    fn add(&mut self, check: &[usize]) {
-        let mut queue: VecDeque<usize> = check.iter().copied().collect();
-        while queue.len() > 3 {
-            let first = queue.pop_front().unwrap();
-            let second = queue.pop_front().unwrap();
-            let auxiliary = self.variables();
-            self.makers.push([first, second]);
-            self.triples.push([first, second, auxiliary]);
-            queue.push_back(auxiliary);
-        }
-        self.triples.push([queue[0], queue[1], queue[2]]);
-    }
-
     /// Bits and auxiliaries made so far.
     pub fn variables(&self) -> usize {
         self.bits + self.makers.len()
@@ -52,28 +29,62 @@ impl Split {
         }
         counts
     }
+}
+
+impl Reference {
+    pub fn split_code(self, code: &Code) -> Split {
+        let mut split = Split {
+            bits: code.bits,
+            triples: Vec::new(),
+            makers: Vec::new(),
+        };
+        for check in &code.checks {
+            self.split_check(check, &mut split);
+        }
+        split
+    }
+
+    fn split_check(self, check: &[usize], split: &mut Split) {
+        let mut queue: VecDeque<usize> = check.iter().copied().collect();
+        while queue.len() > 3 {
+            let first = queue.pop_front().unwrap();
+            let second = queue.pop_front().unwrap();
+            let auxiliary = split.variables();
+            split.makers.push([first, second]);
+            split.triples.push([first, second, auxiliary]);
+            queue.push_back(auxiliary);
+        }
+        if self.has(Fault::LastTripleTurned) {
+            queue.make_contiguous().reverse();
+        }
+        split.triples.push([queue[0], queue[1], queue[2]]);
+    }
 
     /// Writes triples and counts; entries beyond those used stay.
-    pub fn write(&self, triples: &mut [u16], counts: &mut [u16]) {
-        for (entry, &variable) in triples.iter_mut().zip(self.triples.iter().flatten()) {
+    pub(crate) fn write_split(self, split: &Split, triples: &mut [u16], counts: &mut [u16]) {
+        if self.has(Fault::RestCleared) {
+            triples.fill(0);
+            counts.fill(0);
+        }
+        for (entry, &variable) in triples.iter_mut().zip(split.triples.iter().flatten()) {
             *entry = variable as u16;
         }
-        for (entry, &count) in counts.iter_mut().zip(&self.counts()) {
-            *entry = count as u16;
+        let times = if self.has(Fault::CountsOfRows) { 4 } else { 1 };
+        for (entry, count) in counts.iter_mut().zip(split.counts()) {
+            *entry = (times * count) as u16;
         }
     }
-}
 
-/// The splitter as a call.
-pub fn split(code: &[u8], triples: &mut [u16], counts: &mut [u16]) -> u32 {
-    number_of(try_split(code, triples, counts))
-}
-
-fn try_split(code: &[u8], triples: &mut [u16], counts: &mut [u16]) -> Result<(), Cause> {
-    let code = read_code(code)?;
-    if triples.len() < 3 * code.triples() || counts.len() < code.variables() {
-        return Err(Cause::ListTooShort);
+    pub(crate) fn try_split(
+        self,
+        code: &[u8],
+        triples: &mut [u16],
+        counts: &mut [u16],
+    ) -> Result<(), Cause> {
+        let code = self.read_code(code)?;
+        let short = triples.len() < 3 * code.triples() || counts.len() < code.variables();
+        self.judge(&[(Cause::ListTooShort, short)])?;
+        self.write_split(&self.split_code(&code), triples, counts);
+        Ok(())
     }
-    Split::of(&code).write(triples, counts);
-    Ok(())
 }

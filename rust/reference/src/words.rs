@@ -1,72 +1,106 @@
-//! Words and points: the codeword test and the extension.
+//! Words and points: the codeword test, the extension and the reflector.
 
-use crate::cause::{Cause, NOT_CODEWORD};
-use crate::records::{read_code, Code};
+use crate::cause::Cause;
+use crate::fault::Fault;
+use crate::records::Code;
 use crate::splitting::Split;
-use interface::PlaceAnswer;
-
-/// The first check over which the word's sum is odd.
-pub fn first_odd_check(code: &Code, word: &[u8]) -> Option<usize> {
-    code.checks.iter().position(|check| {
-        let sum: usize = check.iter().map(|&bit| usize::from(word[bit])).sum();
-        sum % 2 == 1
-    })
-}
+use crate::Reference;
+use interface::WordAnswer;
 
 /// Whether every entry is 0 or 1.
-pub fn is_binary(word: &[u8]) -> bool {
+fn is_binary(word: &[u8]) -> bool {
     word.iter().all(|&entry| entry <= 1)
 }
 
-/// The word, then each auxiliary's sum modulo 2 of the two items it was made of.
-pub fn point_of(split: &Split, word: &[u8]) -> Vec<u8> {
-    let mut point = word.to_vec();
-    for &[first, second] in &split.makers {
-        point.push((point[first] + point[second]) % 2);
+impl Reference {
+    /// The first check over which the word's sum is odd.
+    pub fn first_odd_check(self, code: &Code, word: &[u8]) -> Option<usize> {
+        let is_odd = |check: &Vec<usize>| {
+            let entries = check.iter().filter_map(|&bit| word.get(bit));
+            entries.map(|&entry| usize::from(entry)).sum::<usize>() % 2 == 1
+        };
+        if self.has(Fault::LastOddCheck) {
+            return code.checks.iter().rposition(is_odd);
+        }
+        code.checks.iter().position(is_odd)
     }
-    point
-}
 
-fn accepted(code: &[u8], word: &[u8]) -> Result<Code, Cause> {
-    let code = read_code(code)?;
-    if word.len() != code.bits {
-        return Err(Cause::Lengths);
+    /// The word, then each auxiliary's sum modulo 2 of the two items it was made of.
+    pub fn point_of(self, split: &Split, word: &[u8]) -> Vec<u8> {
+        let mut point = word.to_vec();
+        for &[mut first, mut second] in &split.makers {
+            if self.has(Fault::AuxiliaryOfLastTwo) {
+                [first, second] = [point.len() - 2, point.len() - 1];
+            }
+            point.push((point[first] + point[second]) % 2);
+        }
+        point
     }
-    if !is_binary(word) {
-        return Err(Cause::WordEntry);
-    }
-    Ok(code)
-}
 
-fn not_codeword(check: usize) -> PlaceAnswer {
-    PlaceAnswer {
-        number: NOT_CODEWORD,
-        place: check,
+    /// The codeword test and, with the room for its point, what the extension
+    /// judges.
+    pub(crate) fn try_test(
+        self,
+        code: &[u8],
+        word: &[u8],
+        room: Option<usize>,
+    ) -> Result<Code, WordAnswer> {
+        let code = self.read_code(code)?;
+        let odd = self.first_odd_check(&code, word);
+        let short = room.is_some_and(|room| room < code.variables());
+        let judged = self.judge(&[
+            (Cause::Lengths, word.len() != code.bits),
+            (Cause::WordEntry, !is_binary(word)),
+            (Cause::ListTooShort, short),
+            (Cause::NotCodeword, odd.is_some()),
+        ]);
+        let first = usize::from(self.has(Fault::OddCheckFromOne));
+        let place_of = |cause| match odd {
+            Some(check) if cause == Cause::NotCodeword => check + first,
+            _ => 0,
+        };
+        match judged {
+            Ok(()) => Ok(code),
+            Err(cause) => Err(WordAnswer {
+                number: cause as u32,
+                place: place_of(cause),
+            }),
+        }
     }
-}
 
-/// The codeword test as a call.
-pub fn test(code: &[u8], word: &[u8]) -> PlaceAnswer {
-    let code = match accepted(code, word) {
-        Ok(code) => code,
-        Err(cause) => return cause.into(),
-    };
-    first_odd_check(&code, word).map_or(PlaceAnswer::default(), not_codeword)
-}
+    pub(crate) fn try_extend(
+        self,
+        code: &[u8],
+        word: &[u8],
+        point: &mut [u8],
+    ) -> Result<(), WordAnswer> {
+        let code = self.try_test(code, word, Some(point.len()))?;
+        let made = self.point_of(&self.split_code(&code), word);
+        point[..made.len()].copy_from_slice(&made);
+        Ok(())
+    }
 
-/// The extension as a call.
-pub fn extend(code: &[u8], word: &[u8], point: &mut [u8]) -> PlaceAnswer {
-    let code = match accepted(code, word) {
-        Ok(code) => code,
-        Err(cause) => return cause.into(),
-    };
-    if point.len() < code.variables() {
-        return Cause::ListTooShort.into();
+    pub(crate) fn try_reflect(
+        self,
+        costs: &[i16],
+        word: &[u8],
+        result: &mut [i16],
+    ) -> Result<(), Cause> {
+        let refused = self.has(Fault::NoCostsRefused) && costs.is_empty();
+        self.judge(&[
+            (Cause::Lengths, costs.len() != word.len() || refused),
+            (Cause::Cost, costs.contains(&i16::MIN)),
+            (Cause::WordEntry, !is_binary(word)),
+            (Cause::ListTooShort, result.len() < costs.len()),
+        ])?;
+        let negated = u8::from(!self.has(Fault::NegatedAtZeros));
+        for place in 0..costs.len() {
+            result[place] = if word[place] == negated {
+                -costs[place]
+            } else {
+                costs[place]
+            };
+        }
+        Ok(())
     }
-    if let Some(check) = first_odd_check(&code, word) {
-        return not_codeword(check);
-    }
-    let made = point_of(&Split::of(&code), word);
-    point[..made.len()].copy_from_slice(&made);
-    PlaceAnswer::default()
 }

@@ -4,13 +4,6 @@
 mod common;
 
 use common::*;
-use interface::{Channel, Erasing, OwnLists, PlaceAnswer, ReadAnswer};
-use reference::channel::channel;
-use reference::decoder::decode;
-use reference::records::read;
-use reference::reflector::reflect;
-use reference::splitting::split;
-use reference::words::{extend, test};
 
 /// Damaged records and the number that they get.
 fn damaged() -> Vec<(Vec<u8>, u32)> {
@@ -45,24 +38,24 @@ fn damaged() -> Vec<(Vec<u8>, u32)> {
 #[test]
 fn records_from_every_entry() {
     for (bytes, number) in damaged() {
-        let refused = ReadAnswer {
+        let refused = CodeAnswer {
             number,
-            ..ReadAnswer::default()
+            ..CodeAnswer::default()
         };
-        assert_eq!(read(&bytes), refused);
+        assert_eq!(SOUND.read(&bytes), refused);
         let (mut triples, mut counts) = ([77; 9], [77; 9]);
-        assert_eq!(split(&bytes, &mut triples, &mut counts), number);
+        assert_eq!(SOUND.split(&bytes, &mut triples, &mut counts), number);
         assert_eq!((triples, counts), ([77; 9], [77; 9]));
         let mut lent = lists(3, 3, 1);
         assert_eq!(
-            decode(&bytes, settings(0, 0, 0, 0), &[], lent.lend()),
+            SOUND.decode(&bytes, Settings::new(0, 0, 0, 0), &[], lent.lend()),
             refusal(number)
         );
         assert_eq!(lent, lists(3, 3, 1));
         let mut point = [77; 3];
-        let answer = PlaceAnswer { number, place: 0 };
-        assert_eq!(test(&bytes, &[2; 3]), answer);
-        assert_eq!(extend(&bytes, &[2; 3], &mut point), answer);
+        let answer = WordAnswer { number, place: 0 };
+        assert_eq!(SOUND.test(&bytes, &[2; 3]), answer);
+        assert_eq!(SOUND.extend(&bytes, &[2; 3], &mut point), answer);
         assert_eq!(point, [77; 3]);
     }
 }
@@ -71,27 +64,26 @@ fn records_from_every_entry() {
 fn nine_before_seven_before_eight() {
     let many: Vec<&[usize]> = vec![&[0, 1, 2, 3, 4, 5, 6]; 1_639];
     let mut bytes = code(8, &many);
-    assert_eq!(read(&bytes).number, 7);
+    assert_eq!(SOUND.read(&bytes).number, 7);
     bytes.push(0x4C);
-    assert_eq!(read(&bytes).number, 9);
+    assert_eq!(SOUND.read(&bytes).number, 9);
 }
 
 #[test]
 fn the_decoder_in_order() {
     let mut exact = lists(3, 3, 1);
-    let good = settings(1, 0, 1, 0);
-    let bad = settings(0, 0, 1, 0);
+    let good = Settings::new(1, 0, 1, 0);
+    let bad = Settings::new(0, 0, 1, 0);
     let mut short = exact.clone();
     short.word.pop();
     let untouched = short.clone();
-    let mut number =
-        |settings, costs: &[i16]| decode(&small(), settings, costs, short.lend()).number;
+    let mut number = |settings, costs: &[i16]| decode_into(&mut short, settings, costs).number;
     assert_eq!(number(bad, &[i16::MIN; 2]), 11);
     assert_eq!(number(good, &[i16::MIN; 2]), 12);
     assert_eq!(number(good, &[0, 0, i16::MIN]), 13);
     assert_eq!(number(good, &[0; 3]), 10);
     assert_eq!(short, untouched);
-    assert_eq!(decode(&small(), good, &[0; 3], exact.lend()).number, 16);
+    assert_eq!(decode_into(&mut exact, good, &[0; 3]).number, 16);
 }
 
 #[test]
@@ -108,7 +100,7 @@ fn each_short_list_of_the_decoder() {
         let mut lent = lists(3, 3, 1);
         shorten(&mut lent);
         let before = lent.clone();
-        let answer = decode(&small(), settings(256, 0, 2, 0), &[20_000; 3], lent.lend());
+        let answer = decode_into(&mut lent, Settings::new(256, 0, 2, 0), &[20_000; 3]);
         assert_eq!(answer, refusal(10));
         assert_eq!(lent, before);
     }
@@ -117,7 +109,7 @@ fn each_short_list_of_the_decoder() {
 #[test]
 fn longer_lists_keep_their_rest() {
     let mut lent = lists(5, 6, 3);
-    let answer = decode(&small(), settings(256, 0, 2, 0), &[20_000; 3], lent.lend());
+    let answer = decode_into(&mut lent, Settings::new(256, 0, 2, 0), &[20_000; 3]);
     assert_eq!(answer.number, 0);
     assert_eq!(lent.triples, [0, 1, 2, 77, 77, 77, 77, 77, 77]);
     assert_eq!(lent.counts, [1, 1, 1, 77, 77, 77]);
@@ -130,48 +122,48 @@ fn longer_lists_keep_their_rest() {
 #[test]
 fn the_splitter_needs_its_room() {
     let four = one_check(4);
-    assert_eq!(split(&four, &mut [0; 5], &mut [0; 5]), 10);
-    assert_eq!(split(&four, &mut [0; 6], &mut [0; 4]), 10);
-    assert_eq!(split(&four, &mut [0; 6], &mut [0; 5]), 0);
+    assert_eq!(SOUND.split(&four, &mut [0; 5], &mut [0; 5]), 10);
+    assert_eq!(SOUND.split(&four, &mut [0; 6], &mut [0; 4]), 10);
+    assert_eq!(SOUND.split(&four, &mut [0; 6], &mut [0; 5]), 0);
 }
 
 #[test]
 fn the_word_entries() {
-    let answer = |number, place| PlaceAnswer { number, place };
-    assert_eq!(test(&small(), &[2, 0]), answer(12, 0));
-    assert_eq!(test(&small(), &[0, 0, 0, 0]), answer(12, 0));
-    assert_eq!(test(&small(), &[1, 0, 2]), answer(15, 0));
-    assert_eq!(test(&small(), &[1, 0, 0]), answer(17, 0));
-    assert_eq!(test(&small(), &[1, 0, 1]), answer(0, 0));
+    let answer = |number, place| WordAnswer { number, place };
+    assert_eq!(SOUND.test(&small(), &[2, 0]), answer(12, 0));
+    assert_eq!(SOUND.test(&small(), &[0, 0, 0, 0]), answer(12, 0));
+    assert_eq!(SOUND.test(&small(), &[1, 0, 2]), answer(15, 0));
+    assert_eq!(SOUND.test(&small(), &[1, 0, 0]), answer(17, 0));
+    assert_eq!(SOUND.test(&small(), &[1, 0, 1]), answer(0, 0));
     let two_checks = code(4, &[&[0, 1, 2], &[1, 2, 3]]);
-    assert_eq!(test(&two_checks, &[0, 0, 0, 1]), answer(17, 1));
+    assert_eq!(SOUND.test(&two_checks, &[0, 0, 0, 1]), answer(17, 1));
 }
 
 #[test]
 fn the_extension_in_order() {
     let four = one_check(4);
     let mut short = [77; 4];
-    let mut number = |word: &[u8]| extend(&four, word, &mut short).number;
+    let mut number = |word: &[u8]| SOUND.extend(&four, word, &mut short).number;
     assert_eq!(number(&[2; 5]), 12);
     assert_eq!(number(&[2; 4]), 15);
     assert_eq!(number(&[1, 0, 0, 0]), 10);
     assert_eq!(short, [77; 4]);
     let mut point = [77; 6];
-    assert_eq!(extend(&four, &[1, 0, 0, 0], &mut point).number, 17);
+    assert_eq!(SOUND.extend(&four, &[1, 0, 0, 0], &mut point).number, 17);
     assert_eq!(point, [77; 6]);
-    assert_eq!(extend(&four, &[1, 0, 0, 1], &mut point).number, 0);
+    assert_eq!(SOUND.extend(&four, &[1, 0, 0, 1], &mut point).number, 0);
     assert_eq!(point, [1, 0, 0, 1, 1, 77]);
 }
 
 #[test]
 fn the_reflector_in_order() {
     let mut short = [77; 1];
-    assert_eq!(reflect(&[i16::MIN; 2], &[2], &mut short), 12);
-    assert_eq!(reflect(&[0, i16::MIN], &[2, 0], &mut short), 13);
-    assert_eq!(reflect(&[0, 1], &[0, 2], &mut short), 15);
-    assert_eq!(reflect(&[0, 1], &[0, 1], &mut short), 10);
+    assert_eq!(SOUND.reflect(&[i16::MIN; 2], &[2], &mut short), 12);
+    assert_eq!(SOUND.reflect(&[0, i16::MIN], &[2, 0], &mut short), 13);
+    assert_eq!(SOUND.reflect(&[0, 1], &[0, 2], &mut short), 15);
+    assert_eq!(SOUND.reflect(&[0, 1], &[0, 1], &mut short), 10);
     assert_eq!(short, [77]);
-    assert_eq!(reflect(&[], &[], &mut short), 0);
+    assert_eq!(SOUND.reflect(&[], &[], &mut short), 0);
     assert_eq!(short, [77]);
 }
 
@@ -181,25 +173,19 @@ fn the_channel_in_order() {
     for setting in [
         Channel::Gaussian(0.0),
         Channel::Hard(f32::INFINITY),
-        Channel::Erasing(Erasing {
-            floor: -1.0,
-            weight: 1.0,
-        }),
+        Channel::erasing(-1.0, 1.0),
     ] {
-        assert_eq!(channel(setting, &[f32::NAN; 2], &mut short), 11);
-        assert_eq!(channel(setting, &[], &mut short), 11);
+        assert_eq!(SOUND.front(setting, &[f32::NAN; 2], &mut short), 11);
+        assert_eq!(SOUND.front(setting, &[], &mut short), 11);
     }
     for setting in [
         Channel::Gaussian(1.0),
         Channel::Hard(1.0),
-        Channel::Erasing(Erasing {
-            floor: 9.0,
-            weight: 1.0,
-        }),
+        Channel::erasing(9.0, 1.0),
     ] {
-        assert_eq!(channel(setting, &[1.0, f32::NAN], &mut short), 14);
-        assert_eq!(channel(setting, &[1.0, 1.0], &mut short), 10);
-        assert_eq!(channel(setting, &[], &mut []), 0);
+        assert_eq!(SOUND.front(setting, &[1.0, f32::NAN], &mut short), 14);
+        assert_eq!(SOUND.front(setting, &[1.0, 1.0], &mut short), 10);
+        assert_eq!(SOUND.front(setting, &[], &mut []), 0);
     }
     assert_eq!(short, [77]);
 }

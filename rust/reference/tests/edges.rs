@@ -3,12 +3,7 @@
 mod common;
 
 use common::*;
-use interface::{Channel, Erasing, RunAnswer};
-use reference::channel::channel;
-use reference::decoder::decode;
-use reference::quotient::{limited, nearest};
-use reference::records::read;
-use reference::reflector::reflect;
+use reference::quotient::limited;
 
 #[test]
 fn the_largest_codes_are_read() {
@@ -20,7 +15,7 @@ fn the_largest_codes_are_read() {
         })
         .collect();
     let checks: Vec<&[usize]> = checks.iter().map(Vec::as_slice).collect();
-    let answer = read(&code(4_096, &checks));
+    let answer = SOUND.read(&code(4_096, &checks));
     assert_eq!(
         (answer.number, answer.bits, answer.checks, answer.triples),
         (0, 4_096, 2_048, 8_192)
@@ -30,7 +25,7 @@ fn the_largest_codes_are_read() {
 #[test]
 fn equal_checks_are_allowed() {
     let all: &[usize] = &[0, 1, 2];
-    let answer = read(&code(3, &[all; 2_048]));
+    let answer = SOUND.read(&code(3, &[all; 2_048]));
     assert_eq!((answer.number, answer.triples), (0, 2_048));
 }
 
@@ -39,28 +34,28 @@ fn exactly_as_many_triples_as_allowed() {
     let wide: Vec<usize> = (0..32).collect();
     let mut checks: Vec<&[usize]> = vec![&wide; 273];
     checks.push(&wide[..4]);
-    assert_eq!(read(&code(32, &checks)).triples, 8_192);
+    assert_eq!(SOUND.read(&code(32, &checks)).triples, 8_192);
     checks.push(&wide[..3]);
-    assert_eq!(read(&code(32, &checks)).number, 7);
+    assert_eq!(SOUND.read(&code(32, &checks)).number, 7);
 }
 
 #[test]
 fn the_first_size_is_judged_before_the_second_is_read() {
-    assert_eq!(read(&[0x4C, 0x48, 0, 2]).number, 3);
-    assert_eq!(read(&[0x4C, 0x48, 0, 3]).number, 1);
-    assert_eq!(read(&[0x4C, 0x48, 0]).number, 1);
+    assert_eq!(SOUND.read(&[0x4C, 0x48, 0, 2]).number, 3);
+    assert_eq!(SOUND.read(&[0x4C, 0x48, 0, 3]).number, 1);
+    assert_eq!(SOUND.read(&[0x4C, 0x48, 0]).number, 1);
 }
 
 #[test]
 fn quotients() {
-    assert_eq!(nearest(1, 2), 1);
-    assert_eq!(nearest(-1, 2), -1);
-    assert_eq!(nearest(3, 2), 2);
-    assert_eq!(nearest(-3, 2), -2);
-    assert_eq!(nearest(4, 3), 1);
-    assert_eq!(nearest(-5, 3), -2);
-    assert_eq!(nearest(0, 7), 0);
-    assert_eq!(nearest(-7, 1), -7);
+    assert_eq!(SOUND.nearest(1, 2), 1);
+    assert_eq!(SOUND.nearest(-1, 2), -1);
+    assert_eq!(SOUND.nearest(3, 2), 2);
+    assert_eq!(SOUND.nearest(-3, 2), -2);
+    assert_eq!(SOUND.nearest(4, 3), 1);
+    assert_eq!(SOUND.nearest(-5, 3), -2);
+    assert_eq!(SOUND.nearest(0, 7), 0);
+    assert_eq!(SOUND.nearest(-7, 1), -7);
     assert_eq!(limited(16_385, 16_384), 16_384);
     assert_eq!(limited(-16_385, 16_384), -16_384);
     assert_eq!(limited(-16_384, 16_384), -16_384);
@@ -69,14 +64,14 @@ fn quotients() {
 #[test]
 fn squares_need_more_than_32_bits() {
     // Every c is -U, so the slacks are 0, 0, 0 and 4U: a total of 2^32.
-    let (answer, lent) = decode_small(settings(512, 0, 1, 0), [32_767; 3]);
+    let (answer, lent) = decode_small(Settings::new(512, 0, 1, 0), [32_767; 3]);
     assert_eq!(lent.rows, [0, 0, 0, -65_536]);
     assert_eq!((answer.number, answer.settled), (0, 0));
 }
 
 #[test]
 fn totals_equal_to_the_tolerance_settle_even_at_the_limit() {
-    let run = |tolerance| decode_small(settings(256, 0, 1, tolerance), [0; 3]).0;
+    let run = |tolerance| decode_small(Settings::new(256, 0, 1, tolerance), [0; 3]).0;
     assert_eq!(run(1_073_741_824).settled, 1);
     assert_eq!(run(1_073_741_823).settled, 0);
 }
@@ -86,8 +81,13 @@ fn undecided_comes_before_not_a_codeword() {
     let two_checks = code(4, &[&[0, 1, 2], &[1, 2, 3]]);
     let mut lent = lists(4, 4, 2);
     let costs = [-9_000, 9_000, 9_000, 0];
-    let answer = decode(&two_checks, settings(256, 0, 1, 0), &costs, lent.lend());
-    let undecided = RunAnswer {
+    let answer = SOUND.decode(
+        &two_checks,
+        Settings::new(256, 0, 1, 0),
+        &costs,
+        lent.lend(),
+    );
+    let undecided = DecodeAnswer {
         number: 16,
         place: 3,
         k: 1,
@@ -99,9 +99,9 @@ fn undecided_comes_before_not_a_codeword() {
 #[test]
 fn an_auxiliary_at_zero_decides_nothing() {
     let mut lent = lists(4, 5, 2);
-    let answer = decode(
+    let answer = SOUND.decode(
         &one_check(4),
-        settings(256, 0, 1, 0),
+        Settings::new(256, 0, 1, 0),
         &[9_000; 4],
         lent.lend(),
     );
@@ -113,9 +113,9 @@ fn an_auxiliary_at_zero_decides_nothing() {
 fn the_penalty_acts_on_auxiliaries() {
     let value = |ratio| {
         let mut lent = lists(4, 5, 2);
-        decode(
+        SOUND.decode(
             &one_check(4),
-            settings(512, ratio, 2, 0),
+            Settings::new(512, ratio, 2, 0),
             &[30_000, -30_000, 500, 3],
             lent.lend(),
         );
@@ -123,7 +123,7 @@ fn the_penalty_acts_on_auxiliaries() {
     };
     for ratio in [0, 512, 1_023] {
         let (sum, value) = value(ratio);
-        let expected = nearest(i128::from(-256 * sum), 2_048 - i128::from(ratio));
+        let expected = SOUND.nearest(i128::from(-256 * sum), 2_048 - i128::from(ratio));
         assert_eq!(i128::from(value), limited(expected, 16_384));
         assert_ne!(value, 0);
     }
@@ -131,16 +131,16 @@ fn the_penalty_acts_on_auxiliaries() {
 
 #[test]
 fn the_reflector_refuses_the_lowest_cost_everywhere() {
-    assert_eq!(reflect(&[i16::MIN], &[0], &mut [0]), 13);
-    assert_eq!(reflect(&[i16::MIN], &[1], &mut [0]), 13);
+    assert_eq!(SOUND.reflect(&[i16::MIN], &[0], &mut [0]), 13);
+    assert_eq!(SOUND.reflect(&[i16::MIN], &[1], &mut [0]), 13);
     let mut result = [0; 2];
-    assert_eq!(reflect(&[-32_767, 32_767], &[1, 1], &mut result), 0);
+    assert_eq!(SOUND.reflect(&[-32_767, 32_767], &[1, 1], &mut result), 0);
     assert_eq!(result, [32_767, -32_767]);
 }
 
 fn cost(setting: Channel, sample: f32) -> i16 {
     let mut costs = [77];
-    assert_eq!(channel(setting, &[sample], &mut costs), 0);
+    assert_eq!(SOUND.front(setting, &[sample], &mut costs), 0);
     costs[0]
 }
 
@@ -187,7 +187,7 @@ fn hard_costs() {
 
 #[test]
 fn erasing_costs() {
-    let at = |floor, sample| cost(Channel::Erasing(Erasing { floor, weight: 7.0 }), sample);
+    let at = |floor, sample| cost(Channel::erasing(floor, 7.0), sample);
     assert_eq!(at(1.0, 0.99), 0);
     assert_eq!(at(1.0, -0.99), 0);
     assert_eq!(at(1.0, 1.0), 7);
@@ -199,21 +199,13 @@ fn erasing_costs() {
 
 #[test]
 fn channel_settings_out_of_range() {
-    let number = |setting| channel(setting, &[], &mut []);
+    let number = |setting| SOUND.front(setting, &[], &mut []);
     for bad in [0.0, -0.0, -1.0, f32::NAN, -f32::NAN, f32::INFINITY] {
         assert_eq!(number(Channel::Gaussian(bad)), 11);
         assert_eq!(number(Channel::Hard(bad)), 11);
-        let erasing = Erasing {
-            floor: 1.0,
-            weight: bad,
-        };
-        assert_eq!(number(Channel::Erasing(erasing)), 11);
+        assert_eq!(number(Channel::erasing(1.0, bad)), 11);
     }
     for bad in [-1.0, -f32::from_bits(1), f32::NAN, f32::INFINITY] {
-        let erasing = Erasing {
-            floor: bad,
-            weight: 1.0,
-        };
-        assert_eq!(number(Channel::Erasing(erasing)), 11);
+        assert_eq!(number(Channel::erasing(bad, 1.0)), 11);
     }
 }

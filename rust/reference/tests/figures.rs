@@ -3,16 +3,11 @@
 mod common;
 
 use common::*;
-use interface::{Channel, RunAnswer};
-use reference::channel::channel;
-use reference::frames::frames;
-use reference::reflector::reflect;
-use reference::splitting::split;
 
 fn triples_of_one_check(bits: usize) -> Vec<u16> {
     let mut triples = vec![0; 3 * (bits - 2)];
     let mut counts = vec![0; 2 * bits - 3];
-    assert_eq!(split(&one_check(bits), &mut triples, &mut counts), 0);
+    assert_eq!(SOUND.split(&one_check(bits), &mut triples, &mut counts), 0);
     triples
 }
 
@@ -27,7 +22,10 @@ fn triples_of_one_check_over_all_bits() {
 
 fn cost_of_product(sample: f32, scale: f32) -> i16 {
     let mut costs = [77];
-    assert_eq!(channel(Channel::Gaussian(scale), &[sample], &mut costs), 0);
+    assert_eq!(
+        SOUND.front(Channel::Gaussian(scale), &[sample], &mut costs),
+        0
+    );
     costs[0]
 }
 
@@ -42,7 +40,7 @@ const COSTS: [i16; 3] = [20_000, 20_000, -8_000];
 
 #[test]
 fn first_iteration_by_hand() {
-    let (answer, lent) = decode_small(settings(256, 0, 1, 0), COSTS);
+    let (answer, lent) = decode_small(Settings::new(256, 0, 1, 0), COSTS);
     assert_eq!((answer.k, answer.settled), (1, 0));
     assert_eq!(lent.sums, [0, 0, 0]);
     assert_eq!(lent.values, [-5_000, -5_000, 2_000]);
@@ -51,7 +49,7 @@ fn first_iteration_by_hand() {
 
 #[test]
 fn second_iteration_by_hand() {
-    let (answer, lent) = decode_small(settings(256, 0, 2, 0), COSTS);
+    let (answer, lent) = decode_small(Settings::new(256, 0, 2, 0), COSTS);
     assert_eq!((answer.k, answer.settled), (2, 0));
     assert_eq!(lent.values, [-10_000, -10_000, 4_000]);
     assert_eq!(lent.rows, [-20_384, -20_384, 7_616, -32_384]);
@@ -60,15 +58,15 @@ fn second_iteration_by_hand() {
 #[test]
 fn reflected_iteration_by_hand() {
     let mut reflected = [0; 3];
-    assert_eq!(reflect(&COSTS, &[0, 1, 1], &mut reflected), 0);
+    assert_eq!(SOUND.reflect(&COSTS, &[0, 1, 1], &mut reflected), 0);
     assert_eq!(reflected, [20_000, -20_000, 8_000]);
-    let (_, lent) = decode_small(settings(256, 0, 1, 0), reflected);
+    let (_, lent) = decode_small(Settings::new(256, 0, 1, 0), reflected);
     assert_eq!(lent.values, [-5_000, 5_000, -2_000]);
     assert_eq!(lent.rows, [-24_384, -4_384, -18_384, -18_384]);
 }
 
 fn first_value(weight: u32, cost: i16) -> i16 {
-    let (_, lent) = decode_small(settings(weight, 0, 1, 0), [cost, 0, 0]);
+    let (_, lent) = decode_small(Settings::new(weight, 0, 1, 0), [cost, 0, 0]);
     lent.values[0]
 }
 
@@ -83,7 +81,7 @@ fn halves_go_away_from_zero() {
 
 #[test]
 fn all_costs_zero_settle() {
-    let undecided = |k| RunAnswer {
+    let undecided = |k| DecodeAnswer {
         number: 16,
         place: 0,
         k,
@@ -95,7 +93,7 @@ fn all_costs_zero_settle() {
         (1_073_741_824, 1),
         (u32::MAX, 1),
     ] {
-        let (answer, _) = decode_small(settings(256, 0, 2, tolerance), [0; 3]);
+        let (answer, _) = decode_small(Settings::new(256, 0, 2, tolerance), [0; 3]);
         assert_eq!(answer, undecided(k));
     }
 }
@@ -103,10 +101,7 @@ fn all_costs_zero_settle() {
 #[test]
 fn degrees_at_the_edges() {
     for (degree, number) in [(2, 4), (3, 0), (32, 0), (33, 4)] {
-        assert_eq!(
-            reference::records::read(&one_check_of(degree)).number,
-            number
-        );
+        assert_eq!(SOUND.read(&one_check_of(degree)).number, number);
     }
 }
 
@@ -127,7 +122,7 @@ fn settings_at_the_edges() {
         (0, 1_001, 11),
     ] {
         let costs = [20_000; 3];
-        let (answer, _) = decode_small(settings(65_535, ratio, limit, 0), costs);
+        let (answer, _) = decode_small(Settings::new(65_535, ratio, limit, 0), costs);
         assert_eq!(answer.number, number, "A = {ratio}, K = {limit}");
     }
 }
@@ -140,12 +135,12 @@ fn the_listing() {
         input.extend([0x4C, 0x46]);
         input.extend(costs.iter().flat_map(|cost| cost.to_be_bytes()));
     }
-    assert_eq!(frames(&input), "U 2 1 0\nN 2 0 0\nW 2 0 000\n");
+    assert_eq!(SOUND.frames(&input), "U 2 1 0\nN 2 0 0\nW 2 0 000\n");
 }
 
 #[test]
 fn the_same_frames_through_the_decoder() {
-    let run = |costs| decode_small(settings(256, 0, 2, 0), costs);
+    let run = |costs| decode_small(Settings::new(256, 0, 2, 0), costs);
     let (answer, lent) = run([20_000; 3]);
     assert_eq!((answer.number, answer.place), (0, 0));
     assert_eq!(lent.word, [0, 0, 0]);

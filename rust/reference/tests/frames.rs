@@ -3,7 +3,6 @@
 mod common;
 
 use common::*;
-use reference::frames::frames;
 
 const SETTINGS: [u8; 12] = [0x4C, 0x53, 1, 0, 0, 0, 0, 2, 0, 0, 0, 0];
 
@@ -14,7 +13,7 @@ fn frame(costs: &[i16]) -> Vec<u8> {
 }
 
 fn after_small(parts: &[&[u8]]) -> String {
-    frames(&[small(), parts.concat()].concat())
+    SOUND.frames(&[small(), parts.concat()].concat())
 }
 
 #[test]
@@ -27,15 +26,15 @@ fn every_cut() {
     let whole = [small(), SETTINGS.to_vec(), frame(&[1, 2, 3])].concat();
     for length in 0..whole.len() {
         let expected = if length == 27 { "" } else { "R 1\n" };
-        assert_eq!(frames(&whole[..length]), expected, "cut at {length}");
+        assert_eq!(SOUND.frames(&whole[..length]), expected, "cut at {length}");
     }
 }
 
 #[test]
 fn sizes_before_room() {
-    assert_eq!(frames(&header(513, 0)), "R 3\n");
-    assert_eq!(frames(&header(513, 1)), "R 10\n");
-    assert_eq!(frames(&header(512, 1)), "R 1\n");
+    assert_eq!(SOUND.frames(&header(513, 0)), "R 3\n");
+    assert_eq!(SOUND.frames(&header(513, 1)), "R 10\n");
+    assert_eq!(SOUND.frames(&header(512, 1)), "R 1\n");
 }
 
 #[test]
@@ -48,7 +47,7 @@ fn a_check_is_judged_whole_before_its_room() {
         let mut bytes = full.clone();
         bytes[4..6].copy_from_slice(&two(count));
         bytes.extend(last);
-        frames(&bytes)
+        SOUND.frames(&bytes)
     };
     assert_eq!(with_count(35, &[]), "R 1\n");
     assert_eq!(with_count(35, &SETTINGS), "");
@@ -62,8 +61,8 @@ fn a_check_is_judged_whole_before_its_room() {
 #[test]
 fn an_unused_bit_comes_right_after_the_last_check() {
     let unused = code(4, &[&[0, 1, 2]]);
-    assert_eq!(frames(&unused), "R 8\n");
-    assert_eq!(frames(&[unused, vec![0; 9]].concat()), "R 8\n");
+    assert_eq!(SOUND.frames(&unused), "R 8\n");
+    assert_eq!(SOUND.frames(&[unused, vec![0; 9]].concat()), "R 8\n");
 }
 
 #[test]

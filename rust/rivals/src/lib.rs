@@ -1,9 +1,9 @@
 //! Two decoders to measure against: a plain one, as a good engineer would
 //! first write it, and one tuned for x86-64.
 
-pub mod plain;
+mod plain;
 #[cfg(target_arch = "x86_64")]
-pub mod tuned;
+mod tuned;
 
 pub use plain::Plain;
 #[cfg(not(target_arch = "x86_64"))]

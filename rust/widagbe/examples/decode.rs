@@ -3,7 +3,7 @@
 //!     cargo run --release --offline -p widagbe --example decode
 
 use std::fmt::Write;
-use widagbe::{channel_gaussian, decode, read, Lists, Settings};
+use widagbe::{Channel, Decoder, Library, OwnLists, Settings, Widagbe};
 
 /// 7 bits, 3 checks of degree 4.
 const CODE: [u8; 39] = [
@@ -31,7 +31,7 @@ fn main() {
 /// What the example prints.
 pub fn report() -> String {
     let mut text = String::new();
-    let sizes = read(&CODE);
+    let sizes = Widagbe.read(&CODE);
     assert_eq!(sizes.number, 0, "the code is sound");
     let (n, m, t) = (sizes.bits, sizes.checks, sizes.triples);
     let v = n + t - m;
@@ -41,26 +41,18 @@ pub fn report() -> String {
     );
 
     let mut costs = [0; SAMPLES.len()];
-    assert_eq!(channel_gaussian(1000.0, &SAMPLES, &mut costs), 0);
+    let channel = Channel::Gaussian(1000.0);
+    assert_eq!(Widagbe.front(channel, &SAMPLES, &mut costs), 0);
     let _ = writeln!(text, "costs: {}", costs.map(|c| c.to_string()).join(" "));
 
-    let (mut triples, mut counts) = (vec![0; 3 * t], vec![0; v]);
-    let (mut sums, mut values, mut rows) = (vec![0; v], vec![0; v], vec![0; 4 * t]);
-    let mut word = vec![0; n];
-    let mut run = |room: usize| {
-        let lists = Lists {
-            triples: &mut triples[..room],
-            counts: &mut counts,
-            sums: &mut sums,
-            values: &mut values,
-            rows: &mut rows,
-            word: &mut word,
-        };
-        decode(&CODE, SETTINGS, &costs, lists)
-    };
-    let answer = run(3 * t);
-    // A list that is too short is refused and stays as it was.
-    let refused = run(3 * t - 1);
+    let mut lists = OwnLists::exact(n, v, t, 0);
+    let answer = Widagbe.decode(&CODE, SETTINGS, &costs, lists.lend());
+    // A list that is too short is refused, and all lists stay as they were.
+    let mut short = lists.clone();
+    short.triples.pop();
+    let before = short.clone();
+    let refused = Widagbe.decode(&CODE, SETTINGS, &costs, short.lend());
+    assert_eq!(short, before);
 
     let settled = ["not settled", "settled"][answer.settled as usize];
     let _ = writeln!(
@@ -69,7 +61,7 @@ pub fn report() -> String {
         answer.number, answer.place, answer.k
     );
     if answer.number == 0 {
-        let bits: String = word.iter().map(u8::to_string).collect();
+        let bits: String = lists.word.iter().map(u8::to_string).collect();
         let _ = writeln!(text, "word: {bits}");
     }
     let _ = writeln!(text, "with a list too short: number {}", refused.number);

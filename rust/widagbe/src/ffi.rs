@@ -1,33 +1,6 @@
-//! The C functions of the compiled library and their answers. A list is a
-//! pointer and a length.
+//! The C functions of the compiled library. A list is a pointer and a length.
 
-/// The sizes of a code.
-#[repr(C)]
-#[derive(Clone, Copy, Debug, PartialEq, Eq)]
-pub struct CodeAnswer {
-    pub number: u32,
-    pub bits: usize,
-    pub checks: usize,
-    pub triples: usize,
-}
-
-/// The answer about a word; the place is a check.
-#[repr(C)]
-#[derive(Clone, Copy, Debug, PartialEq, Eq)]
-pub struct WordAnswer {
-    pub number: u32,
-    pub place: usize,
-}
-
-/// The answer of a run; the place is a bit or a check.
-#[repr(C)]
-#[derive(Clone, Copy, Debug, PartialEq, Eq)]
-pub struct DecodeAnswer {
-    pub number: u32,
-    pub place: usize,
-    pub k: u32,
-    pub settled: u32,
-}
+use interface::{CodeAnswer, DecodeAnswer, WordAnswer};
 
 extern "C" {
     pub fn widagbe_read(code: *const u8, code_len: usize) -> CodeAnswer;

@@ -2,42 +2,47 @@
 //! an implementation (plain, tuned or library) differs from the reference.
 
 use compare::case::Case;
-use compare::outcome::outcome;
-use interface::Library;
-use reference::Reference;
+use compare::outcome::{decoded, outcome, Outcome};
+use reference::SOUND;
 use std::env;
 use std::io::{self, BufRead};
 use std::process::ExitCode;
 
-fn implementation(name: &str) -> Option<Box<dyn Library>> {
+type Subject = fn(&Case) -> Option<Outcome>;
+
+fn subject(name: &str) -> Option<Subject> {
     match name {
-        "plain" => Some(Box::new(rivals::Plain)),
-        "tuned" => Some(Box::new(rivals::Tuned)),
+        "plain" => Some(|case| decoded(&rivals::Plain, case)),
+        "tuned" => Some(|case| decoded(&rivals::Tuned, case)),
         #[cfg(feature = "library")]
-        "library" => Some(Box::new(compare::compiled::Compiled::new())),
+        "library" => Some(|case| {
+            use compare::{outcome::*, program};
+            called(&widagbe::Widagbe, case).or_else(|| printed(program::frames, case))
+        }),
         _ => None,
     }
 }
 
-fn replay(library: &dyn Library, line: &str) -> Result<(), String> {
+fn replay(subject: Subject, line: &str) -> Result<(), String> {
     let case: Case = line.parse()?;
-    let expected = outcome(&Reference, &case);
+    let expected = outcome(SOUND, &case);
     println!("expected {:?}", expected.fields);
     print!("{}", String::from_utf8_lossy(&expected.text));
-    match outcome(library, &case).difference(&expected) {
+    let found = subject(&case).ok_or("it has no such entry")?;
+    match found.difference(&expected) {
         None => Ok(()),
         Some(difference) => Err(difference),
     }
 }
 
 fn main() -> ExitCode {
-    let Some(library) = env::args().nth(1).and_then(|name| implementation(&name)) else {
+    let Some(subject) = env::args().nth(1).and_then(|name| subject(&name)) else {
         eprintln!("usage: replay plain|tuned|library < CASES");
         return ExitCode::FAILURE;
     };
     let mut code = ExitCode::SUCCESS;
     for line in io::stdin().lock().lines().map_while(Result::ok) {
-        match replay(library.as_ref(), &line) {
+        match replay(subject, &line) {
             Ok(()) => println!("equal"),
             Err(what) => {
                 println!("{what}");

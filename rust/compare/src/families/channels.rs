@@ -3,7 +3,7 @@
 use super::Family;
 use crate::case::Case;
 use crate::random::Random;
-use interface::{Channel, Erasing};
+use interface::Channel;
 
 pub fn families() -> Vec<Family> {
     vec![
@@ -51,24 +51,29 @@ fn next_down(float: f32) -> f32 {
     f32::from_bits(float.to_bits().saturating_sub(1))
 }
 
+/// Channels with this float in every place, and with a floor of zero.
+fn channels(float: f32, zero: f32) -> [Channel; 5] {
+    [
+        Channel::Gaussian(float),
+        Channel::Hard(float),
+        Channel::erasing(float, 3.0),
+        Channel::erasing(1.0, float),
+        Channel::erasing(zero, float),
+    ]
+}
+
 fn edge_settings() -> Vec<Case> {
     let mut cases = Vec::new();
     for float in edge_floats() {
-        for setting in [
-            Channel::Gaussian(float),
-            Channel::Hard(float),
-            erasing(float, 3.0),
-            erasing(1.0, float),
-            erasing(-0.0, float),
-        ] {
+        for channel in channels(float, -0.0) {
             for (samples, room) in [
                 (vec![], 0),
                 (vec![1.0, -1.0, 0.5, -0.0], 5),
                 (vec![f32::NAN], 0),
                 (vec![1.0], 0),
             ] {
-                cases.push(Case::Channel {
-                    setting,
+                cases.push(Case::Front {
+                    channel,
                     samples,
                     room,
                 });
@@ -78,24 +83,14 @@ fn edge_settings() -> Vec<Case> {
     cases
 }
 
-fn erasing(floor: f32, weight: f32) -> Channel {
-    Channel::Erasing(Erasing { floor, weight })
-}
-
 fn edge_samples() -> Vec<Case> {
     let finite = edge_floats().into_iter().filter(|float| float.is_finite());
     let samples: Vec<f32> = finite.collect();
     let mut cases = Vec::new();
     for &float in samples.iter().filter(|&&float| float > 0.0) {
-        for setting in [
-            Channel::Gaussian(float),
-            Channel::Hard(float),
-            erasing(float, 3.0),
-            erasing(1.0, float),
-            erasing(0.0, float),
-        ] {
-            cases.push(Case::Channel {
-                setting,
+        for channel in channels(float, 0.0) {
+            cases.push(Case::Front {
+                channel,
                 samples: samples.clone(),
                 room: samples.len(),
             });
@@ -122,19 +117,19 @@ fn any_factor(random: &mut Random) -> f32 {
     }
 }
 
-fn any_setting(random: &mut Random) -> Channel {
+fn any_channel(random: &mut Random) -> Channel {
     let factor = any_factor(random);
     let floor = any_factor(random);
     random.pick(&[
         Channel::Gaussian(factor),
         Channel::Hard(factor),
-        erasing(floor, factor),
-        erasing(0.0, factor),
+        Channel::erasing(floor, factor),
+        Channel::erasing(0.0, factor),
     ])
 }
 
 fn any_samples(random: &mut Random) -> Case {
-    let setting = any_setting(random);
+    let channel = any_channel(random);
     let length = random.below(60);
     let sample = |random: &mut Random| match random.below(4) {
         0 => any_finite(random),
@@ -142,8 +137,8 @@ fn any_samples(random: &mut Random) -> Case {
         2 => any_factor(random),
         _ => -any_factor(random),
     };
-    Case::Channel {
-        setting,
+    Case::Front {
+        channel,
         samples: (0..length).map(|_| sample(random)).collect(),
         room: length + random.below(3),
     }
@@ -163,8 +158,8 @@ fn near_halves(random: &mut Random) -> Case {
         let near = random.pick(&[sample, sample, next_up(sample), next_down(sample)]);
         near * random.pick(&[1.0, -1.0])
     };
-    Case::Channel {
-        setting: Channel::Gaussian(scale),
+    Case::Front {
+        channel: Channel::Gaussian(scale),
         samples: (0..60).map(|_| sample(random)).collect(),
         room: 60,
     }
@@ -173,7 +168,7 @@ fn near_halves(random: &mut Random) -> Case {
 fn damaged_samples(random: &mut Random) -> Case {
     let length = random.between(1, 20);
     let mut samples: Vec<f32> = (0..length).map(|_| any_factor(random)).collect();
-    let mut setting = any_setting(random);
+    let mut channel = any_channel(random);
     let mut room = length + random.below(3);
     for _ in 0..random.between(1, 3) {
         let wrong = random.pick(&[f32::NAN, f32::INFINITY, f32::NEG_INFINITY]);
@@ -181,16 +176,16 @@ fn damaged_samples(random: &mut Random) -> Case {
             0 => samples[random.below(length)] = wrong,
             1 => room = random.below(length),
             _ => {
-                setting = match setting {
+                channel = match channel {
                     Channel::Gaussian(_) => Channel::Gaussian(wrong),
                     Channel::Hard(_) => Channel::Hard(-0.0),
-                    Channel::Erasing(_) => erasing(wrong, 1.0),
+                    Channel::Erasing(_) => Channel::erasing(wrong, 1.0),
                 }
             }
         }
     }
-    Case::Channel {
-        setting,
+    Case::Front {
+        channel,
         samples,
         room,
     }

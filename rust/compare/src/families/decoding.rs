@@ -3,15 +3,16 @@
 use super::Family;
 use crate::case::{Case, DecodeCase};
 use crate::codes::{
-    one_check, random_code, records, regular_code, room, training_code, Code, Shape,
+    code_of, code_within, one_check, records, regular_code, room, small_or_training_code,
+    tiny_code, training_code, Code,
 };
 use crate::codewords::Codewords;
-use crate::draft::{code_within, random_settings, small_code, tiny_code, Draft, Entry};
+use crate::draft::{random_settings, Draft, Entry};
 use crate::random::Random;
 use interface::Settings;
 use reference::iteration::Problem;
 use reference::run::run;
-use reference::splitting::Split;
+use reference::SOUND;
 
 pub fn families() -> Vec<Family> {
     vec![
@@ -27,15 +28,6 @@ pub fn families() -> Vec<Family> {
         Family::random("runs on large codes", 10, large_run),
         Family::listed("runs at the limits", limits),
     ]
-}
-
-fn settings(weight: u32, ratio: u32, limit: u32, tolerance: u32) -> Settings {
-    Settings {
-        weight,
-        ratio,
-        limit,
-        tolerance,
-    }
 }
 
 fn exact_case(code: &Code, settings: Settings, costs: Vec<i16>) -> Case {
@@ -56,7 +48,11 @@ fn grid() -> Vec<Case> {
             for third in COSTS {
                 for limit in 1..=3 {
                     let costs = vec![first, second, third];
-                    cases.push(exact_case(&one_check(3), settings(256, 0, limit, 0), costs));
+                    cases.push(exact_case(
+                        &one_check(3),
+                        Settings::new(256, 0, limit, 0),
+                        costs,
+                    ));
                 }
             }
         }
@@ -69,7 +65,7 @@ fn edge_settings() -> Vec<Case> {
     for weight in [0, 1, 65_535, 65_536, 65_537, u32::MAX] {
         for ratio in [0, 1_023, 1_024, 65_536, u32::MAX] {
             for limit in [0, 1, 2, 1_000, 1_001, 65_537, u32::MAX] {
-                let settings = settings(weight, ratio, limit, u32::MAX);
+                let settings = Settings::new(weight, ratio, limit, u32::MAX);
                 cases.push(exact_case(&one_check(4), settings, vec![3, -2, 1, 5]));
             }
         }
@@ -84,7 +80,7 @@ fn edge_settings() -> Vec<Case> {
     ] {
         for costs in [[0; 3], [32_767; 3], [-32_767, 32_767, -32_767]] {
             for weight in [256, 512, 65_535] {
-                let settings = settings(weight, 0, 5, tolerance);
+                let settings = Settings::new(weight, 0, 5, tolerance);
                 cases.push(exact_case(&one_check(3), settings, costs.to_vec()));
             }
         }
@@ -92,7 +88,7 @@ fn edge_settings() -> Vec<Case> {
     cases
 }
 
-fn run_of(random: &mut Random, code: Code) -> Case {
+fn run_of(random: &mut Random, code: fn(&mut Random) -> Code) -> Case {
     let mut draft = Draft::random(random, code);
     if random.once_in(2) {
         draft.lengthen(random);
@@ -101,22 +97,16 @@ fn run_of(random: &mut Random, code: Code) -> Case {
 }
 
 fn tiny_run(random: &mut Random) -> Case {
-    let code = tiny_code(random);
-    run_of(random, code)
+    run_of(random, tiny_code)
 }
 
 fn small_run(random: &mut Random) -> Case {
-    let code = match random.below(10) {
-        0 => training_code(),
-        _ => small_code(random),
-    };
-    run_of(random, code)
+    run_of(random, small_or_training_code)
 }
 
 /// One list shorter than needed or longer, the others exact.
 fn other_lengths(random: &mut Random) -> Case {
-    let code = tiny_code(random);
-    let mut draft = Draft::random(random, code);
+    let mut draft = Draft::random(random, tiny_code);
     let list = random.below(6);
     let room = draft.room[list];
     draft.room[list] = random.pick(&[room - 1, room - 1, 0, room + 1, room + 1_000]);
@@ -125,18 +115,13 @@ fn other_lengths(random: &mut Random) -> Case {
 
 /// A tolerance equal to the larger total of some iteration, or one less.
 fn exact_tolerance(random: &mut Random) -> Case {
-    let code = tiny_code(random);
-    let mut draft = Draft::random(random, code);
-    let limit = random.between(2, 40) as u32;
-    draft.settings.limit = limit;
-    let problem = Problem::new(
-        Split::of(&draft.code),
-        draft.settings.weight,
-        draft.settings.ratio,
-        &draft.costs,
-    );
+    let mut draft = Draft::random(random, tiny_code);
+    draft.settings.limit = random.between(2, 40) as u32;
+    draft.settings.tolerance = 0;
+    let split = SOUND.split_code(&draft.code);
+    let problem = Problem::new(SOUND, split, draft.settings, &draft.costs);
     let mut totals = Vec::new();
-    run(&problem, limit, 0, &mut |_, _, both| {
+    run(&problem, &mut |_, both| {
         totals.push(both.multipliers.max(both.slacks))
     });
     let total = totals[random.below(totals.len())];
@@ -146,8 +131,7 @@ fn exact_tolerance(random: &mut Random) -> Case {
 }
 
 fn middle_run(random: &mut Random) -> Case {
-    let code = code_within(random, 400, 200, 1_500);
-    run_of(random, code)
+    run_of(random, |random| code_within(random, 400, 200, 1_500))
 }
 
 /// A code that corrects errors, settings that decode, and noise that it can
@@ -167,12 +151,11 @@ fn noisy_codeword(random: &mut Random) -> Case {
     let costs = costs.collect();
     let tolerance = random.pick(&[10_000, 10_000_000]);
     let weight = random.pick(&[1_000, 8_000]);
-    exact_case(&code, settings(weight, 150, 200, tolerance), costs)
+    exact_case(&code, Settings::new(weight, 150, 200, tolerance), costs)
 }
 
 fn long_run(random: &mut Random) -> Case {
-    let code = tiny_code(random);
-    let mut draft = Draft::random(random, code);
+    let mut draft = Draft::random(random, tiny_code);
     draft.settings.limit = random.pick(&[999, 1_000, 1_000]);
     draft.settings.tolerance = random.pick(&[0, 0, 1_000]);
     draft.settings.weight = random.pick(&[300, 5_000, 65_535]);
@@ -180,8 +163,7 @@ fn long_run(random: &mut Random) -> Case {
 }
 
 fn large_run(random: &mut Random) -> Case {
-    let code = code_within(random, 4_096, 600, 8_192);
-    run_of(random, code)
+    run_of(random, |random| code_within(random, 4_096, 600, 8_192))
 }
 
 /// Codes at their limits: the widest checks, the most triples, and the most
@@ -196,12 +178,7 @@ fn limits() -> Vec<Case> {
         (3, 2_048, 2_048, 1_000),
         (32, 274, 8_192, 100),
     ] {
-        let shape = Shape {
-            bits,
-            checks,
-            triples,
-        };
-        let code = random_code(&mut random, shape);
+        let code = code_of(&mut random, bits, checks, triples);
         let mut run = random_settings(&mut random);
         run.limit = limit;
         run.tolerance = 0;

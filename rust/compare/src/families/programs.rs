@@ -2,10 +2,10 @@
 
 use super::Family;
 use crate::case::Case;
-use crate::codes::{one_check, random_code, records, Code, Shape};
+use crate::codes::{code_of, code_within, one_check, records, tiny_code, Code};
 use crate::codewords::Codewords;
 use crate::damage::{apply, damages_of};
-use crate::draft::{code_within, random_costs, random_settings, tiny_code, Draft, Entry};
+use crate::draft::{random_costs, random_settings, Draft, Entry};
 use crate::random::Random;
 use interface::Settings;
 
@@ -40,18 +40,12 @@ fn frame_record(costs: &[i16]) -> Vec<u8> {
     bytes
 }
 
-fn listed_settings() -> Settings {
-    Settings {
-        weight: 256,
-        ratio: 0,
-        limit: 2,
-        tolerance: 0,
-    }
-}
+/// The settings of document 01's listing.
+const LISTED: Settings = Settings::new(256, 0, 2, 0);
 
 fn listing() -> Vec<Case> {
     let mut input = records(&one_check(3));
-    input.extend(settings_record(listed_settings()));
+    input.extend(settings_record(LISTED));
     for costs in [[0; 3], [20_000, 20_000, -8_000], [20_000; 3], [i16::MIN; 3]] {
         input.extend(frame_record(&costs));
     }
@@ -76,7 +70,7 @@ fn two_checks() -> Vec<Case> {
         checks: vec![vec![0, 1, 2, 3], vec![2, 3, 4]],
     };
     let mut input = records(&code);
-    input.extend(settings_record(listed_settings()));
+    input.extend(settings_record(LISTED));
     for place in 0..5 {
         let mut costs = [9_000, -7_000, 5_000, -3_000, 1_000];
         input.extend(frame_record(&costs));
@@ -84,7 +78,7 @@ fn two_checks() -> Vec<Case> {
         input.extend(frame_record(&costs));
     }
     input.extend(frame_record(&[0; 5]));
-    input.extend(settings_record(listed_settings()));
+    input.extend(settings_record(LISTED));
     input.extend(frame_record(&[1; 5]));
     cut_everywhere(&input)
 }
@@ -96,17 +90,10 @@ fn unused_bit() -> Vec<Case> {
         bits: 5,
         checks: vec![vec![0, 1, 2], vec![1, 2, 3]],
     };
-    let wrong = Settings {
-        weight: 0,
-        ratio: 1_024,
-        limit: 0,
-        tolerance: 0,
-    };
     let mut cases = Vec::new();
-    for settings in [listed_settings(), wrong] {
-        let mut input = records(&code);
-        input.extend(settings_record(settings));
-        input.extend(frame_record(&[0; 5]));
+    for settings in [LISTED, Settings::new(0, 1_024, 0, 0)] {
+        let frame = frame_record(&[0; 5]);
+        let input = [records(&code), settings_record(settings), frame].concat();
         cases.extend(cut_everywhere(&input));
     }
     cases
@@ -127,16 +114,10 @@ fn room() -> Vec<Case> {
         (32, 35, 1_030),
         (7, 206, 1_026),
     ] {
-        let shape = Shape {
-            bits,
-            checks,
-            triples,
-        };
-        let code = random_code(&mut random, shape);
-        let mut whole = records(&code);
-        let end = whole.len();
-        whole.extend(settings_record(listed_settings()));
-        whole.extend(frame_record(&vec![100; bits]));
+        let code = code_of(&mut random, bits, checks, triples);
+        let end = records(&code).len();
+        let frame = frame_record(&vec![100; bits]);
+        let whole = [records(&code), settings_record(LISTED), frame].concat();
         let mut no_checks = whole.clone();
         no_checks[4..6].copy_from_slice(&[0, 0]);
         let mut unused = whole.clone();
@@ -159,21 +140,17 @@ fn edge_settings() -> Vec<Case> {
     let mut cases = Vec::new();
     for field in 0..3 {
         for number in [0u16, 1, 1_000, 1_001, 1_023, 1_024, 65_535] {
-            let mut record = settings_record(listed_settings());
+            let mut record = settings_record(LISTED);
             record[2 + 2 * field..4 + 2 * field].copy_from_slice(&number.to_be_bytes());
             for length in 0..=record.len() {
-                let mut input = records(&one_check(3));
-                input.extend(&record[..length]);
+                let input = [&records(&one_check(3)), &record[..length]].concat();
                 cases.push(Case::Frames { input });
             }
         }
     }
     for tolerance in [0x3FFF_FFFF, 0x4000_0000, 0x0000_0040, 0xFFFF_FFFF] {
-        let mut settings = listed_settings();
-        settings.tolerance = tolerance;
-        let mut input = records(&one_check(3));
-        input.extend(settings_record(settings));
-        input.extend(frame_record(&[0; 3]));
+        let record = settings_record(Settings::new(256, 0, 2, tolerance));
+        let input = [records(&one_check(3)), record, frame_record(&[0; 3])].concat();
         cases.push(Case::Frames { input });
     }
     cases
@@ -201,10 +178,9 @@ fn settings_and_frames(random: &mut Random, code: &Code, count: usize) -> Vec<u8
     bytes
 }
 
-fn stream_of(random: &mut Random, code: &Code) -> Vec<u8> {
-    let mut input = records(code);
-    input.extend(after_code(random, code));
-    input
+fn stream_of(random: &mut Random, code: fn(&mut Random) -> Code) -> Vec<u8> {
+    let code = code(random);
+    [records(&code), after_code(random, &code)].concat()
 }
 
 fn some_code(random: &mut Random) -> Code {
@@ -215,23 +191,20 @@ fn some_code(random: &mut Random) -> Code {
 }
 
 fn stream(random: &mut Random) -> Case {
-    let code = some_code(random);
     Case::Frames {
-        input: stream_of(random, &code),
+        input: stream_of(random, some_code),
     }
 }
 
 fn cut_stream(random: &mut Random) -> Case {
-    let code = some_code(random);
-    let mut input = stream_of(random, &code);
+    let mut input = stream_of(random, some_code);
     input.truncate(random.below(input.len()));
     Case::Frames { input }
 }
 
 /// A stream with bytes flipped, left out or put in.
 fn damaged_stream(random: &mut Random) -> Case {
-    let code = some_code(random);
-    let mut input = stream_of(random, &code);
+    let mut input = stream_of(random, some_code);
     for _ in 0..random.between(1, 2) {
         let place = random.below(input.len());
         match random.below(4) {
@@ -245,29 +218,27 @@ fn damaged_stream(random: &mut Random) -> Case {
 
 /// Damaged code records, with settings and frames after them.
 fn damaged_records(random: &mut Random) -> Case {
-    let code = some_code(random);
-    let mut draft = Draft::random(random, code);
+    let mut draft = Draft::random(random, some_code);
     for _ in 0..random.between(1, 2) {
         let damage = random.pick(&damages_of(Entry::Read));
         apply(random, &mut draft, Entry::Read, damage);
     }
-    let mut input = draft.records.clone();
-    input.extend(after_code(random, &draft.code));
+    let after = after_code(random, &draft.code);
+    let input = [draft.records, after].concat();
     Case::Frames { input }
 }
 
 fn large_stream(random: &mut Random) -> Case {
-    let code = code_within(random, 512, 300, 1_024);
     Case::Frames {
-        input: stream_of(random, &code),
+        input: stream_of(random, |random| code_within(random, 512, 300, 1_024)),
     }
 }
 
 /// More frames than the pipe to the program holds at once.
 fn long_stream(random: &mut Random) -> Case {
     let code = code_within(random, 60, 30, 200);
-    let mut input = records(&code);
     let count = random.between(600, 1_200);
-    input.extend(settings_and_frames(random, &code, count));
+    let after = settings_and_frames(random, &code, count);
+    let input = [records(&code), after].concat();
     Case::Frames { input }
 }

@@ -3,9 +3,11 @@
 
 use super::Family;
 use crate::case::Case;
-use crate::codes::{one_check, random_code, records, training_code, Code, Shape};
+use crate::codes::{
+    code_of, code_within, one_check, records, small_code, tiny_code, training_code, Code,
+};
 use crate::damage::{apply, damages_of};
-use crate::draft::{small_code, tiny_code, Draft, Entry, ENTRIES};
+use crate::draft::{Draft, Entry, ENTRIES};
 use crate::random::Random;
 
 pub fn families() -> Vec<Family> {
@@ -32,7 +34,7 @@ fn exact_split(code: &Code) -> Case {
 
 /// A call of every entry with these records, else fit for this code.
 fn calls(code: &Code, records: &[u8]) -> Vec<Case> {
-    let mut draft = Draft::random(&mut Random::new(0), code.clone());
+    let mut draft = Draft::of(&mut Random::new(0), code.clone());
     draft.records = records.to_vec();
     draft.settings.limit = 2;
     ENTRIES.map(|entry| draft.case(entry)).to_vec()
@@ -113,8 +115,7 @@ fn damage_pairs() -> Vec<Case> {
     for entry in ENTRIES {
         for first in damages_of(entry) {
             for second in damages_of(entry) {
-                let code = small_code(&mut random);
-                let mut draft = Draft::random(&mut random, code);
+                let mut draft = Draft::random(&mut random, small_code);
                 apply(&mut random, &mut draft, entry, first);
                 apply(&mut random, &mut draft, entry, second);
                 cases.push(draft.case(entry));
@@ -140,12 +141,7 @@ fn largest() -> Vec<Case> {
         (32, 274, 8_192),
         (32, 274, 8_220),
     ] {
-        let shape = Shape {
-            bits,
-            checks,
-            triples,
-        };
-        let code = random_code(&mut random, shape);
+        let code = code_of(&mut random, bits, checks, triples);
         let whole = records(&code);
         let after = [&whole[..], b"L"].concat();
         let mut unused = whole.clone();
@@ -159,7 +155,7 @@ fn largest() -> Vec<Case> {
 
 fn damaged(random: &mut Random, code: Code) -> Case {
     let entry = random.pick(&ENTRIES);
-    let mut draft = Draft::random(random, code);
+    let mut draft = Draft::of(random, code);
     if random.once_in(2) {
         draft.lengthen(random);
     }
@@ -181,15 +177,13 @@ fn damaged_small(random: &mut Random) -> Case {
 }
 
 fn split_small(random: &mut Random) -> Case {
-    let code = small_code(random);
-    let mut draft = Draft::random(random, code);
+    let mut draft = Draft::random(random, small_code);
     draft.lengthen(random);
     draft.case(Entry::Split)
 }
 
 fn split_large(random: &mut Random) -> Case {
-    let shape = Shape::random(random, 4_096, 2_048, 8_192);
-    exact_split(&random_code(random, shape))
+    exact_split(&code_within(random, 4_096, 2_048, 8_192))
 }
 
 /// Bytes that begin like records but go on at random, from a few values.

@@ -2,8 +2,8 @@
 
 use super::Family;
 use crate::case::Case;
-use crate::codes::{random_code, training_code, Shape};
-use crate::draft::{small_code, tiny_code, Draft, Entry};
+use crate::codes::{code_within, small_or_training_code, tiny_code, Code};
+use crate::draft::{Draft, Entry};
 use crate::random::Random;
 
 pub fn families() -> Vec<Family> {
@@ -25,8 +25,7 @@ fn every_word() -> Vec<Case> {
     let mut random = Random::new(4);
     let mut cases = Vec::new();
     for _ in 0..8 {
-        let code = tiny_code(&mut random);
-        let mut draft = Draft::random(&mut random, code);
+        let mut draft = Draft::random(&mut random, tiny_code);
         for number in 0..1 << draft.code.bits {
             let bits = 0..draft.code.bits;
             draft.word = bits.map(|bit| (number >> bit & 1) as u8).collect();
@@ -37,27 +36,23 @@ fn every_word() -> Vec<Case> {
     cases
 }
 
-fn tiny_word(random: &mut Random) -> Case {
-    let code = tiny_code(random);
+fn word_of(random: &mut Random, code: fn(&mut Random) -> Code) -> Case {
     let mut draft = Draft::random(random, code);
     draft.lengthen(random);
     draft.case(word_entry(random))
+}
+
+fn tiny_word(random: &mut Random) -> Case {
+    word_of(random, tiny_code)
 }
 
 fn small_word(random: &mut Random) -> Case {
-    let code = match random.below(10) {
-        0 => training_code(),
-        _ => small_code(random),
-    };
-    let mut draft = Draft::random(random, code);
-    draft.lengthen(random);
-    draft.case(word_entry(random))
+    word_of(random, small_or_training_code)
 }
 
 fn large_word(random: &mut Random) -> Case {
-    let shape = Shape::random(random, 4_096, 1_000, 8_192);
-    let code = random_code(random, shape);
-    Draft::random(random, code).case(word_entry(random))
+    let draft = Draft::random(random, |random| code_within(random, 4_096, 1_000, 8_192));
+    draft.case(word_entry(random))
 }
 
 fn reflector_edges() -> Vec<Case> {

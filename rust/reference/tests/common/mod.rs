@@ -1,8 +1,8 @@
 //! Builders for records and lent lists.
 #![allow(dead_code)]
 
-use interface::{OwnLists, RunAnswer, Settings};
-use reference::decoder::decode;
+pub use interface::*;
+pub use reference::SOUND;
 
 pub fn two(number: usize) -> [u8; 2] {
     (number as u16).to_be_bytes()
@@ -39,30 +39,25 @@ pub fn small() -> Vec<u8> {
     one_check(3)
 }
 
-pub fn settings(weight: u32, ratio: u32, limit: u32, tolerance: u32) -> Settings {
-    Settings {
-        weight,
-        ratio,
-        limit,
-        tolerance,
-    }
-}
-
 /// Lists of a decoder call, of exactly the needed lengths, all entries 77 before it.
 pub fn lists(bits: usize, variables: usize, triples: usize) -> OwnLists {
     OwnLists::exact(bits, variables, triples, 77)
 }
 
-/// Decodes with the small code; the answer and the lists afterwards.
-pub fn decode_small(settings: Settings, costs: [i16; 3]) -> (RunAnswer, OwnLists) {
-    let mut lent = lists(3, 3, 1);
-    let answer = decode(&small(), settings, &costs, lent.lend());
-    (answer, lent)
+/// Decodes with the small code into these lists.
+pub fn decode_into(lent: &mut OwnLists, settings: Settings, costs: &[i16]) -> DecodeAnswer {
+    SOUND.decode(&small(), settings, costs, lent.lend())
 }
 
-pub fn refusal(number: u32) -> RunAnswer {
-    RunAnswer {
+/// Decodes with the small code; the answer and the lists afterwards.
+pub fn decode_small(settings: Settings, costs: [i16; 3]) -> (DecodeAnswer, OwnLists) {
+    let mut lent = lists(3, 3, 1);
+    (decode_into(&mut lent, settings, &costs), lent)
+}
+
+pub fn refusal(number: u32) -> DecodeAnswer {
+    DecodeAnswer {
         number,
-        ..RunAnswer::default()
+        ..DecodeAnswer::default()
     }
 }

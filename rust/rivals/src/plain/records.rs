@@ -9,18 +9,18 @@ pub struct Code {
 }
 
 /// Takes a field of N bytes off the front.
-pub fn take<const N: usize>(bytes: &mut &[u8]) -> Refused<[u8; N]> {
+fn take<const N: usize>(bytes: &mut &[u8]) -> Refused<[u8; N]> {
     let (field, rest) = bytes.split_first_chunk::<N>().ok_or(1u32)?;
     *bytes = rest;
     Ok(*field)
 }
 
-pub fn take_two(bytes: &mut &[u8]) -> Refused<u16> {
+fn take_two(bytes: &mut &[u8]) -> Refused<u16> {
     take(bytes).map(u16::from_be_bytes)
 }
 
 /// Takes a mark, which must be L and this letter.
-pub fn take_mark(bytes: &mut &[u8], letter: u8) -> Refused<()> {
+fn take_mark(bytes: &mut &[u8], letter: u8) -> Refused<()> {
     if take(bytes)? == [b'L', letter] {
         Ok(())
     } else {
@@ -29,7 +29,7 @@ pub fn take_mark(bytes: &mut &[u8], letter: u8) -> Refused<()> {
 }
 
 /// Takes a header: bits and checks.
-pub fn take_header(bytes: &mut &[u8]) -> Refused<(usize, usize)> {
+fn take_header(bytes: &mut &[u8]) -> Refused<(usize, usize)> {
     take_mark(bytes, b'H')?;
     let bits = take_two(bytes)?;
     if !(3..=4096).contains(&bits) {
@@ -43,17 +43,13 @@ pub fn take_header(bytes: &mut &[u8]) -> Refused<(usize, usize)> {
 }
 
 impl Code {
-    pub fn with_bits(bits: usize) -> Code {
-        Code {
+    pub fn read(mut bytes: &[u8]) -> Refused<Code> {
+        let (bits, checks) = take_header(&mut bytes)?;
+        let mut code = Code {
             bits,
             degrees: Vec::new(),
             indices: Vec::new(),
-        }
-    }
-
-    pub fn read(mut bytes: &[u8]) -> Refused<Code> {
-        let (bits, checks) = take_header(&mut bytes)?;
-        let mut code = Code::with_bits(bits);
+        };
         for _ in 0..checks {
             code.take_check(&mut bytes)?;
         }
@@ -67,7 +63,7 @@ impl Code {
         }
     }
 
-    pub fn take_check(&mut self, bytes: &mut &[u8]) -> Refused<()> {
+    fn take_check(&mut self, bytes: &mut &[u8]) -> Refused<()> {
         take_mark(bytes, b'C')?;
         let [degree] = take(bytes)?;
         if !(3..=32).contains(&degree) {
@@ -90,7 +86,7 @@ impl Code {
     }
 
     /// Refuses with 8 unless each bit lies in some check.
-    pub fn covered(&self) -> Refused<()> {
+    fn covered(&self) -> Refused<()> {
         let mut seen = [false; 4096];
         for &index in &self.indices {
             seen[usize::from(index)] = true;

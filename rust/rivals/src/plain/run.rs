@@ -3,7 +3,7 @@
 use super::records::Code;
 use super::split::fill;
 use super::Refused;
-use interface::{Lists, RunAnswer, Settings};
+use interface::{DecodeAnswer, Lists, Settings};
 
 const UNIT: i64 = 16384;
 
@@ -27,12 +27,18 @@ pub struct State<'a> {
 pub type Run = fn(&Task, &mut State) -> (u32, bool);
 
 /// The decoder's call around any way to run.
-pub fn decode(code: &[u8], settings: Settings, costs: &[i16], lists: Lists, run: Run) -> RunAnswer {
+pub fn decode(
+    code: &[u8],
+    settings: Settings,
+    costs: &[i16],
+    lists: Lists,
+    run: Run,
+) -> DecodeAnswer {
     match accept(code, settings, costs, &lists) {
         Ok(code) => decode_accepted(&code, settings, costs, lists, run),
-        Err(number) => RunAnswer {
+        Err(number) => DecodeAnswer {
             number,
-            ..RunAnswer::default()
+            ..DecodeAnswer::default()
         },
     }
 }
@@ -70,13 +76,13 @@ fn in_range(settings: Settings) -> bool {
 }
 
 /// The run on accepted input, and the word if there is one.
-pub fn decode_accepted(
+fn decode_accepted(
     code: &Code,
     settings: Settings,
     costs: &[i16],
     lists: Lists,
     run: Run,
-) -> RunAnswer {
+) -> DecodeAnswer {
     let (triples, variables) = (code.triples(), code.variables());
     fill(code, lists.triples, lists.counts);
     let task = Task {
@@ -93,7 +99,7 @@ pub fn decode_accepted(
     };
     let (k, settled) = run(&task, &mut state);
     let (number, place) = write_word(code, &lists.values[..code.bits], lists.word);
-    RunAnswer {
+    DecodeAnswer {
         number,
         place,
         k,

@@ -4,16 +4,6 @@
 //! takes item 2d - 4, the last there is.
 
 use super::records::Code;
-use super::Refused;
-
-pub fn split(code: &[u8], triples: &mut [u16], counts: &mut [u16]) -> Refused<()> {
-    let code = Code::read(code)?;
-    if triples.len() < 3 * code.triples() || counts.len() < code.variables() {
-        return Err(10);
-    }
-    fill(&code, triples, counts);
-    Ok(())
-}
 
 /// Writes triples and counts into lists that have the room.
 pub fn fill(code: &Code, triples: &mut [u16], counts: &mut [u16]) {

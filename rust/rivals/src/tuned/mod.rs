@@ -10,45 +10,16 @@ mod lists;
 mod work;
 
 use crate::plain::run::{decode, run, run_on, State, Task};
-use crate::Plain;
-use interface::{Channel, Library, Lists, PlaceAnswer, ReadAnswer, RunAnswer, Settings};
+use interface::{DecodeAnswer, Decoder, Lists, Settings};
 use layout::{Layout, MOST_COUNT};
 use work::Work;
 
-/// The plain rival with another decoder.
+/// The plain rival with another run.
 pub struct Tuned;
 
-impl Library for Tuned {
-    fn read(&self, code: &[u8]) -> ReadAnswer {
-        Plain.read(code)
-    }
-
-    fn split(&self, code: &[u8], triples: &mut [u16], counts: &mut [u16]) -> u32 {
-        Plain.split(code, triples, counts)
-    }
-
-    fn channel(&self, setting: Channel, samples: &[f32], costs: &mut [i16]) -> u32 {
-        Plain.channel(setting, samples, costs)
-    }
-
-    fn reflect(&self, costs: &[i16], word: &[u8], result: &mut [i16]) -> u32 {
-        Plain.reflect(costs, word, result)
-    }
-
-    fn test(&self, code: &[u8], word: &[u8]) -> PlaceAnswer {
-        Plain.test(code, word)
-    }
-
-    fn extend(&self, code: &[u8], word: &[u8], point: &mut [u8]) -> PlaceAnswer {
-        Plain.extend(code, word, point)
-    }
-
-    fn decode(&self, code: &[u8], settings: Settings, costs: &[i16], lists: Lists) -> RunAnswer {
+impl Decoder for Tuned {
+    fn decode(&self, code: &[u8], settings: Settings, costs: &[i16], lists: Lists) -> DecodeAnswer {
         decode(code, settings, costs, lists, run_tuned)
-    }
-
-    fn frames(&self, input: &[u8]) -> Vec<u8> {
-        Plain.frames(input)
     }
 }
 

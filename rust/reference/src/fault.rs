@@ -1,0 +1,163 @@
+//! Faults on request. With one of them the reference is wrong in one place, so
+//! that a test can show that a comparison notices it.
+
+use crate::cause::Cause::{self, *};
+use crate::Reference;
+
+/// Defines the faults, and lists those with a place of their own in the
+/// reference after the entries in which they show.
+macro_rules! faults {
+    ($([$($entry:literal),+]: $($fault:ident),+;)+) => {
+        /// Where the reference goes wrong.
+        #[derive(Clone, Copy, Debug, PartialEq, Eq)]
+        pub enum Fault {
+            /// This limit of the document is one more, or one less.
+            OneMore(usize),
+            OneLess(usize),
+            /// These two causes are judged in the other order.
+            Exchanged(Cause, Cause),
+            /// This cause is never told.
+            Overlooked(Cause),
+            $($($fault,)+)+
+        }
+
+        const SLIPS: &[(&[&str], &[Fault])] =
+            &[$((&[$($entry),+], &[$(Fault::$fault),+])),+];
+    };
+}
+
+faults! {
+    ["read", "split", "test", "extend", "decode"]:
+        CutMarkJudged, SizesReadTogether, HighIndexJudgedLast, TriplesJudgedAtOnce;
+    ["read"]:
+        SizesWithRefusal;
+    ["split", "decode"]:
+        LastTripleTurned, CountsOfRows, RestCleared;
+    ["test", "extend"]:
+        LastOddCheck, OddCheckFromOne;
+    ["extend"]:
+        AuxiliaryOfLastTwo;
+    ["reflect"]:
+        NegatedAtZeros, NoCostsRefused;
+    ["gaussian"]:
+        ProductNotRounded, HalfAddedAndFloored, InfiniteProductIsZero, SubnormalsFlushed;
+    ["gaussian", "hard", "erasing"]:
+        SettingNotJudgedWithoutSamples;
+    ["hard", "erasing"]:
+        NegativeZeroIsBelow;
+    ["erasing"]:
+        NegativeZeroFloorRefused;
+    ["decode"]:
+        QuotientFloored, QuotientIn32Bits, ChangedRowOrder, TripleSumsIn16Bits, RowsIn16Bits,
+        TotalsTogether, SumsOfNextIteration, NotSettledAtLimit, OneIterationMore,
+        AuxiliariesUndecided, HighestUndecided, SameWordEachTime, WordWrittenAlways,
+        SplitBeforeJudged, ShortWordPassesUnwritten, SignedTolerance, WeightIn16Bits;
+    ["frames"]:
+        RoomJudgedBeforeChecks, RoomJudgedBeforeIndices, MarkAfterCodeIsNine,
+        HalfMarkEndsQuietly, CostJudgedBeforeCut;
+}
+
+const OF_RECORDS: &[&str] = &["read", "split", "test", "extend", "decode"];
+const OF_CHANNELS: &[&str] = &["gaussian", "hard", "erasing"];
+const OF_FIELDS: &[Cause] = &[Mark, Size, Degree, IndexTooHigh, IndexNotRising];
+
+/// Limits to move.
+const LIMITS: &[(&[&str], &[usize])] = &[
+    (OF_RECORDS, &[3, 32, 2_048, 4_096, 8_192]),
+    (OF_CHANNELS, &[32_767]),
+    (&["decode"], &[1_000, 1_023, 16_384, 65_535]),
+    (&["frames"], &[32, 512, 1_000, 1_023, 1_024]),
+];
+
+/// Causes that are judged together, in their order.
+const TOGETHER: &[(&[&str], &[Cause])] = &[
+    (OF_RECORDS, &[BytesAfter, TooManyTriples, UnusedBit]),
+    (OF_CHANNELS, &[Setting, Sample, ListTooShort]),
+    (&["reflect"], &[Lengths, Cost, WordEntry, ListTooShort]),
+    (&["test"], &[Lengths, WordEntry, NotCodeword]),
+    (
+        &["extend"],
+        &[Lengths, WordEntry, ListTooShort, NotCodeword],
+    ),
+    (&["decode"], &[Setting, Lengths, Cost, ListTooShort]),
+    (&["decode", "frames"], &[Undecided, NotCodeword]),
+];
+
+/// Causes that are judged alone.
+const ALONE: &[(&[&str], &[Cause])] = &[
+    (OF_RECORDS, OF_FIELDS),
+    (&["split"], &[ListTooShort]),
+    (&["frames"], OF_FIELDS),
+    (&["frames"], &[UnusedBit, ListTooShort, Setting, Cost]),
+];
+
+/// Every fault, with the entries in which it shows.
+pub fn all() -> Vec<(&'static [&'static str], Fault)> {
+    let mut all = Vec::new();
+    for &(entries, slips) in SLIPS {
+        all.extend(slips.iter().map(|&slip| (entries, slip)));
+    }
+    for &(entries, limits) in LIMITS {
+        all.extend(limits.iter().map(|&limit| (entries, Fault::OneMore(limit))));
+        all.extend(limits.iter().map(|&limit| (entries, Fault::OneLess(limit))));
+    }
+    for &(entries, causes) in TOGETHER {
+        for (place, &cause) in causes.iter().enumerate() {
+            let earlier = causes[..place].iter();
+            all.extend(earlier.map(|&other| (entries, Fault::Exchanged(other, cause))));
+        }
+    }
+    for &(entries, causes) in TOGETHER.iter().chain(ALONE) {
+        let overlooked = causes.iter().map(|&cause| Fault::Overlooked(cause));
+        all.extend(overlooked.map(|fault| (entries, fault)));
+    }
+    all
+}
+
+impl Reference {
+    pub(crate) fn has(self, fault: Fault) -> bool {
+        self.fault == Some(fault)
+    }
+
+    /// A limit of the document.
+    pub(crate) fn limit(self, number: usize) -> usize {
+        match self.fault {
+            Some(Fault::OneMore(moved)) if moved == number => number + 1,
+            Some(Fault::OneLess(moved)) if moved == number => number - 1,
+            _ => number,
+        }
+    }
+
+    /// A number, cut to 16 bits with this fault.
+    pub(crate) fn narrowed(self, number: i64, fault: Fault) -> i64 {
+        if self.has(fault) {
+            i64::from(number as i16)
+        } else {
+            number
+        }
+    }
+
+    /// Whether a number lies in a range of the document.
+    pub(crate) fn within(self, number: usize, least: usize, most: usize) -> bool {
+        self.limit(least) <= number && number <= self.limit(most)
+    }
+
+    /// The first of these causes that holds.
+    pub(crate) fn judge(self, causes: &[(Cause, bool)]) -> Result<(), Cause> {
+        let place_of = |cause| causes.iter().position(|&(other, _)| other == cause);
+        let exchanged = match self.fault {
+            Some(Fault::Exchanged(one, other)) => place_of(one).zip(place_of(other)),
+            _ => None,
+        };
+        let at = |place| match exchanged {
+            Some((one, other)) if place == one => causes[other],
+            Some((one, other)) if place == other => causes[one],
+            _ => causes[place],
+        };
+        let told = |&(cause, holds): &(Cause, bool)| holds && !self.has(Fault::Overlooked(cause));
+        match (0..causes.len()).map(at).find(told) {
+            Some((cause, _)) => Err(cause),
+            None => Ok(()),
+        }
+    }
+}
