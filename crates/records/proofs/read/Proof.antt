@@ -10,7 +10,6 @@ use lib.Dec.{ltb}
 use lib.ListN.{drop}
 use Rattle.lists.proofs.Parts.{part-from}
 use Rattle.model.specs.Causes.{_if_, firstOf}
-use Rattle.model.specs.Code.{triples}
 use Rattle.model.specs.RecordClaims.{Bytes}
 use Rattle.model.specs.Records.{bitCount, checkCount, codeOf, judgeHeader, judgeChecks, covered, judge}
 use Rattle.model.proofs.Accepted.{SoundHeader, header-sound}
@@ -38,9 +37,6 @@ module _ (b : List ℕ) where
 bytes-known : (c : tie.After-shared-slice-known) → Bytes (c .before .args .code .now)
 bytes-known c i = omega (arith, c .shared-slice-known .given i)
 
-judge-header-requires : tie.Need-judge-header-requires
-judge-header-requires c κs = search needs
-
 returns : tie.Need-returns
 returns c = refused-told _ (bytes-known (c .before .before)) _ (c .if1 .taken) (header-decides _ _ (c .before .judge-header .ensures) (c .if1 .taken))
 
@@ -62,9 +58,6 @@ sub-judge-checks c = omega (arith, sound (c .before .before) .room)
 
 part-judge-checks-start : tie.Need-part-judge-checks-start
 part-judge-checks-start c = omega (arith, sound (c .before .before) .room)
-
-part-judge-checks-end : tie.Need-part-judge-checks-end
-part-judge-checks-end c = search needs
 
 judge-checks-requires : tie.Need-judge-checks-requires
 judge-checks-requires c κs = omega (arith, sound (c .before .before .before) .checks-most, c .before .two-bytes2 .ensures .0)
@@ -105,15 +98,12 @@ sub-covers c = omega (arith, sound (c .before .before .before .before .before .b
 part-covers-start : tie.Need-part-covers-start
 part-covers-start c = omega (arith, sound (c .before .before .before .before .before .before .before) .room)
 
-part-covers-end : tie.Need-part-covers-end
-part-covers-end c = search needs
-
 covers-requires : tie.Need-covers-requires
 covers-requires c κs =
     let e = c .before .before .before in
     let k = e .before in
     let w = k .before .before in
-    rw (part-from 6 (w .before .before .before .before .before .args .code .now), w .before .two-bytes .ensures .0, w .two-bytes2 .ensures .0) ((sound (w .before .before) .bits-least, sound (w .before .before) .bits-most), sym (found k .first) ∙ e .if2 .left)
+    rw (part-from 6 (w .before .before .before .before .before .args .code .now), w .before .two-bytes .ensures .0, w .two-bytes2 .ensures .0) (sound (w .before .before) .bits-most, sym (found k .first) ∙ e .if2 .left)
 
 covered-is : (c : tie.After-covers) → c .covers .result ≡ covered (codeOf (bytes (c .before .before .before .before .before)))
 unfolding codeOf
@@ -139,22 +129,5 @@ returns-6 c =
 
 pub read-spec : {M : Type 1} → statement M
 read-spec =
-    tie.close
-    (tie.spec
-    judge-header-requires
-    returns
-    two-bytes-requires
-    two-bytes-requires-2
-    sub-judge-checks
-    part-judge-checks-start
-    part-judge-checks-end
-    judge-checks-requires
-    returns-2
-    returns-3
-    returns-4
-    sub-covers
-    part-covers-start
-    part-covers-end
-    covers-requires
-    returns-5
-    returns-6)
+    tie.close (tie.spec (λ c κs. search needs) returns two-bytes-requires two-bytes-requires-2 sub-judge-checks part-judge-checks-start (λ c. search needs)
+    judge-checks-requires returns-2 returns-3 returns-4 sub-covers part-covers-start (λ c. search needs) covers-requires returns-5 returns-6)
