@@ -15,9 +15,13 @@ use model::Reading;
 
 // The limits of document 01.
 pub const MOST_BITS: usize = 4096;
+
 pub const MOST_CHECKS: usize = 2048;
+
 pub const LEAST_DEGREE: usize = 3;
+
 pub const MOST_DEGREE: usize = 32;
+
 pub const MOST_TRIPLES: usize = 8192;
 
 pub fn wide(x: u8) -> usize

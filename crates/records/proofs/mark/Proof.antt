@@ -50,8 +50,14 @@ loop-again c =
     let k = indices (l .before .before .before .args .s .now) in (
       length-set q x 1 ∙ l .loop .inv .0,
       λ b h.
-          rw (marked-set q x b (omega (arith, l .loop .inv .0)), l .loop .inv .1 b h, add-one (l .loop .i), take-suc k (l .loop .i) 0 (omega (arith, degree-is (l .before))),
-          ← c .index .ensures .0, some-last (eqb b) (take (l .loop .i) k) x)
+          rw (
+            marked-set q x b (omega (arith, l .loop .inv .0)),
+            l .loop .inv .1 b h,
+            add-one (l .loop .i),
+            take-suc k (l .loop .i) 0 (omega (arith, degree-is (l .before))),
+            ← c .index .ensures .0,
+            some-last (eqb b) (take (l .loop .i) k) x,
+          )
           (sym (or-assoc (eqb b x) (some (eqb b) (take (l .loop .i) k)) _)),
     )
 
