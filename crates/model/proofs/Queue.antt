@@ -9,7 +9,7 @@ use Rattle.integers.proofs.Sums.{sumℕ-same, sumℕ-first, sumℕ-split}
 use Rattle.lists.specs.Entries.{total}
 use Rattle.lists.proofs.Entries.{total-append}
 use Rattle.model.specs.Code.{turns}
-use Rattle.model.specs.Splitting.{queue, triplesFrom, member}
+use Rattle.model.specs.Splitting.{queue, triplesOf, triplesFrom, member}
 
 -- ---- each item of the queue is taken once, and each auxiliary is recorded once more when it is made: every sum over the triples
 module _ (f : ℕ → ℕ) where
@@ -28,7 +28,7 @@ module _ (f : ℕ → ℕ) where
   triples-total [] a = refl
   triples-total (c ∷ cs) a =
       let later : sumℕ (total turns cs) (λ j. f (a + turns c + j)) ≡ sumℕ (total turns cs) (λ j. f (a + (turns c + j))) = sumℕ-same (total turns cs) _ _ (λ j l. ap f (omega arith)) in
-      total-append f (queue (turns c) c a) (triplesFrom cs (a + turns c))
+      total-append f (triplesOf c a) (triplesFrom cs (a + turns c))
       ∙ rw (queue-total (turns c) c a, triples-total cs (a + turns c)) (omega (arith, later, sumℕ-split (turns c) (total turns cs) (λ j. f (a + j))))
 
 -- ---- induction over the turns: the last three; and a turn, which takes x and y and puts a at the back
