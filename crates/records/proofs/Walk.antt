@@ -63,6 +63,14 @@ judged-at n j zero s h e = absurd (omega arith)
 judged-at n zero (suc m) s h e = clear (judgeCheck n s ∷ judgeChecks n m (afterCheck s) ∷ []) e .0
 judged-at n (suc j) (suc m) s h e = judged-at n j m (afterCheck s) (omega arith) (clear (judgeCheck n s ∷ judgeChecks n m (afterCheck s) ∷ []) e .1 .0)
 
+pub judge-within : (n j m : ℕ) (s : List ℕ) → j ≤ m → judgeChecks n m s ≡ 0 → judgeChecks n j s ≡ 0
+unfolding judgeChecks
+judge-within n zero m s h e = refl
+judge-within n (suc j) zero s h e = absurd (omega arith)
+judge-within n (suc j) (suc m) s h e =
+    let x = clear (judgeCheck n s ∷ judgeChecks n m (afterCheck s) ∷ []) e in
+    rw (x .0, judge-within n j m (afterCheck s) (omega arith) (x .1 .0))
+
 pub total-within : (f : List ℕ → ℕ) (j m : ℕ) (s : List ℕ) → j ≤ m → total f (checksIn j s) ≤ total f (checksIn m s)
 unfolding checksIn
 total-within f zero m s h = omega arith

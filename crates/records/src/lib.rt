@@ -44,10 +44,18 @@ pub fn two_bytes(s: &[u8], at: usize) -> usize
     256 * wide(s[at]) + wide(s[at + 1])
 }
 
+// The check records of a code, behind its header.
+pub fn after_header(code: &[u8]) -> &[u8]
+    requires { ⌜ 6 ≤ length (now code) ⌝ }
+    ensures { λ r. ⌜ now r ≡ drop 6 (now (code .entry)) ⌝ }
+{
+    &code[6..]
+}
+
 // The degree of the check record that `s` begins with.
 pub fn degree(s: &[u8]) -> usize
     requires { ⌜ 3 ≤ length (now s) ⌝ }
-    ensures { λ r. ⌜ (r ≡ degree (now (s .entry))) × (r ≤ 255) ⌝ }
+    ensures { λ r. ⌜ (r ≡ degree (now (s .entry))) × (r ≡ length (indices (now (s .entry)))) × (r ≤ 255) ⌝ }
 {
     wide(s[2])
 }
@@ -245,7 +253,8 @@ pub fn read(code: &[u8]) -> Reading
     }
     let bits = two_bytes(code, 2);
     let checks = two_bytes(code, 4);
-    let found = judge_checks(&code[6..], bits, checks);
+    let body = after_header(code);
+    let found = judge_checks(body, bits, checks);
     let next = found.cause;
     if next != 0 {
         return Reading::Refused(next);
@@ -258,7 +267,7 @@ pub fn read(code: &[u8]) -> Reading
     if MOST_TRIPLES < triples {
         return Reading::Refused(7);
     }
-    if !covers(&code[6..], bits, checks) {
+    if !covers(body, bits, checks) {
         return Reading::Refused(8);
     }
     Reading::Code {

@@ -10,7 +10,7 @@ use lib.ListN.{length, take, length-set}
 use lib.Seq.{take-suc, take-all}
 use Rattle.lists.specs.Entries.{some}
 use Rattle.model.specs.Records.{indices}
-use Rattle.model.proofs.Accepted.{SoundRecord, record-sound, length-numbers}
+use Rattle.model.proofs.Accepted.{SoundRecord, record-sound}
 use Rattle.model.proofs.Sound.{rising-below}
 use Rattle.records.specs.Marks.{marked}
 use Rattle.records.proofs.Marks.{marked-set, some-last}
@@ -30,9 +30,6 @@ sound s = record-sound _ _ (s .pre .1)
 degree-requires : tie.Need-degree-requires Inv-loop μ-loop
 degree-requires c κs = omega (arith, sound (c .before) .room)
 
-degree-is : (c : tie.After-degree Inv-loop μ-loop) → length (indices (c .before .before .args .s .now)) ≡ c .degree .result
-degree-is c = length-numbers _ _ ∙ sym (c .degree .ensures .0)
-
 index-requires : tie.Need-index-requires Inv-loop μ-loop
 index-requires c κs = (sound (c .before .before .before .before) .room, omega (arith, c .before .before .degree .ensures .0))
 
@@ -40,7 +37,7 @@ element-write-seen : tie.Need-element-write-seen Inv-loop μ-loop
 element-write-seen c =
     let l = c .before .before in
     let s = l .before .before .before in
-    omega (arith, rising-below (s .args .bits) 0 (indices (s .args .s .now)) (sound s .rising) (l .loop .i) (omega (arith, degree-is (l .before))), c .index .ensures .0)
+    omega (arith, rising-below (s .args .bits) 0 (indices (s .args .s .now)) (sound s .rising) (l .loop .i) (omega arith), c .index .ensures .0)
 
 loop-again : tie.Need-loop-again Inv-loop μ-loop
 loop-again c =
@@ -54,7 +51,7 @@ loop-again c =
             marked-set q x b (omega (arith, l .loop .inv .0)),
             l .loop .inv .1 b h,
             add-one (l .loop .i),
-            take-suc k (l .loop .i) 0 (omega (arith, degree-is (l .before))),
+            take-suc k (l .loop .i) 0 (omega arith),
             ← c .index .ensures .0,
             some-last (eqb b) (take (l .loop .i) k) x,
           )
@@ -64,7 +61,7 @@ loop-again c =
 returns : tie.Need-returns Inv-loop μ-loop
 returns c =
     let l = c .before in
-    let e = take-all (l .loop .i) (indices (l .before .before .before .args .s .now)) (omega (arith, degree-is (l .before))) in
+    let e = take-all (l .loop .i) (indices (l .before .before .before .args .s .now)) (omega arith) in
     record { long = l .loop .inv .0; each = λ b h. rw e at (l .loop .inv .1 b h) }
 
 pub mark-spec : {M : Type 1} → statement M
