@@ -54,5 +54,6 @@ module _ (b : List ℕ) (j : ℕ) (rest : List ℕ) (next : ℕ) (n : Numbered b
         last = omega (arith, n .auxiliary, more, total-next turns j (body b));
       })
 
-  pub numbered-next : Numbered b (j + 1) (afterCheck rest) (next + turns (indices rest))
-  numbered-next = rw (add-one j, n .left) (record { few = h; left = sym (after-next j (body b)); auxiliary = omega (arith, n .auxiliary, total-next turns j (body b)) })
+  pub numbered-next : (t : List ℕ) (next′ : ℕ) → t ≡ afterCheck rest → next′ ≡ next + turns (indices rest) → Numbered b (j + 1) t next′
+  numbered-next t next′ e m =
+      rw (add-one j, e, m, n .left) (record { few = h; left = sym (after-next j (body b)); auxiliary = omega (arith, n .auxiliary, total-next turns j (body b)) })

@@ -54,15 +54,19 @@ module _ (b : List ℕ) (judged : judge b ≡ 0) where
     unfolding codeOf
     going-room h = rw (g .numbered .left) (omega (arith, g .entries, total-next tripleCount j (body b), total-within tripleCount (suc j) (checkCount b) (body b) (omega arith)))
 
-    pub going-next : (k : List ℕ) → j < checkCount b → k ≡ written (triplesOf (indices rest) next) (drop done ts)
-        → Going b old (j + 1) (take done ts ++ (k ++ drop (length ts - done) (drop done ts))) (afterCheck rest) (next + turns (indices rest)) (done + 3 * tripleCount (indices rest))
-    going-next k h w =
+    pub going-next : (k t : List ℕ) (next′ done′ : ℕ) → j < checkCount b → k ≡ written (triplesOf (indices rest) next) (drop done ts)
+        → t ≡ afterCheck rest → next′ ≡ next + turns (indices rest) → done′ ≡ done + 3 * tripleCount (indices rest)
+        → Going b old (j + 1) (take done ts ++ (k ++ drop (length ts - done) (drop done ts))) t next′ done′
+    going-next k t next′ done′ h w e m n =
         let l = members-to b j in
         let d : done ≡ length l = omega (arith, g .entries, length-members j (g .numbered .few)) in
         let more : members-to b (suc j) ≡ l ++ triplesOf (indices rest) next
         = rw (checks-next j (body b), triples-last (checksIn j (body b)) (indices (afterChecks j (body b))) (bitCount b), g .numbered .left, g .numbered .auxiliary) in
         record {
-          numbered = numbered-next b j rest next (g .numbered) h;
-          entries = rw (add-one j, g .numbered .left) (omega (arith, g .entries, total-next tripleCount j (body b)));
+          numbered = numbered-next b j rest next (g .numbered) h t next′ e m;
+          entries = n ∙ rw (add-one j, g .numbered .left) (omega (arith, g .entries, total-next tripleCount j (body b)));
           filled = rw (add-one j, more, d) (written-more l (triplesOf (indices rest) next) k old ts (g .filled) (rw d at w));
         }
+
+    pub going-end : checkCount b ≤ j → ts ≡ written (members-to b (checkCount b)) old
+    going-end h = let e : checkCount b ≡ j = omega (arith, g .numbered .few) in rw e (g .filled)

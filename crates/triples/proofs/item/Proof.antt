@@ -18,5 +18,4 @@ returns-2 c =
     omega (arith, item-auxiliary (indices (a .s .now)) (a .next) (a .i) (omega arith) (omega arith))
 
 pub item-spec : {M : Type 1} → statement M
-item-spec =
-    tie.close (tie.spec (λ c κs. search needs) (λ c κs. search needs) (λ c. search needs) (λ c. search needs) (λ c. search needs) returns returns-2)
+item-spec = tie.close (tie.spec (λ c κs. search needs) (λ c κs. search needs) (λ c. search needs) (λ c. search needs) (λ c. search needs) returns returns-2)
