@@ -14,9 +14,9 @@ use borrow.Author.Tests.{eq-eqb, ne-eqb}
 use Rattle.lists.specs.Entries.{total}
 use Rattle.lists.proofs.Entries.{total-append}
 use Rattle.quotient.specs.Quotient.{unit}
-use Rattle.model.specs.Code.{Code, turns, tripleCount, triples}
+use Rattle.model.specs.Code.{Code, turns, tripleCount}
 use Rattle.model.specs.Sound.{Rising, SoundCheck, SoundChecks, Sound}
-use Rattle.model.specs.Splitting.{queue, triplesFrom, systemOf, member}
+use Rattle.model.specs.Splitting.{queue, triplesOf, triplesFrom, systemOf, member}
 use Rattle.model.specs.Iteration.{sign, rowSum}
 use Rattle.model.specs.Words.{bitAt}
 use Rattle.model.specs.Points.{Bits, Codeword, centred, Point, extend, pointOf}
@@ -192,7 +192,7 @@ module _ (n : ℕ) (some-bit : 0 < n) where
   checks-follow r binary [] a l s h e = take-all a r (omega arith)
   checks-follow r binary (c ∷ cs) a l s h e =
       let d : length c ≡ 3 + turns c = omega (arith, s .0 .least) in
-      let e′ : Even (bitAt r) (queue (turns c) c a ++ triplesFrom cs (a + turns c)) (suc (turns c) + total tripleCount cs) = λ t k. e t (omega arith) in
+      let e′ : Even (bitAt r) (triplesOf c a ++ triplesFrom cs (a + turns c)) (suc (turns c) + total tripleCount cs) = λ t k. e t (omega arith) in
       follows r binary (triplesFrom cs (a + turns c)) (total tripleCount cs) (turns c) c a d (below a c l (s .0)) (omega arith) e′
       ∙ checks-follow r binary cs (a + turns c) (omega arith) (s .1) (omega arith) (check-even (bitAt r) (triplesFrom cs (a + turns c)) (total tripleCount cs) (turns c) c a d e′ .1)
 

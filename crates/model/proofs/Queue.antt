@@ -1,6 +1,6 @@
 -- The queue rule, for all degrees together. Assumes nothing.
 use mathlib.Core.Path.{_≡_, refl, sym, ap, _∙_}
-use mathlib.Core.List.{List, [], _∷_, _++_}
+use mathlib.Core.List.{List, [], _∷_, _++_, append-nil, append-assoc}
 use Prim.Native.Nat.{ℕ, zero, suc, _+_, _*_}
 use native.Mathlib.Omega.{arith}
 use lib.ListN.{length, take, drop, length-append, take-append-drop}
@@ -9,7 +9,7 @@ use Rattle.integers.proofs.Sums.{sumℕ-same, sumℕ-first, sumℕ-split}
 use Rattle.lists.specs.Entries.{total}
 use Rattle.lists.proofs.Entries.{total-append}
 use Rattle.model.specs.Code.{turns}
-use Rattle.model.specs.Splitting.{queue, triplesFrom, member}
+use Rattle.model.specs.Splitting.{queue, triplesOf, triplesFrom, member}
 
 -- ---- each item of the queue is taken once, and each auxiliary is recorded once more when it is made: every sum over the triples
 module _ (f : ℕ → ℕ) where
@@ -28,8 +28,16 @@ module _ (f : ℕ → ℕ) where
   triples-total [] a = refl
   triples-total (c ∷ cs) a =
       let later : sumℕ (total turns cs) (λ j. f (a + turns c + j)) ≡ sumℕ (total turns cs) (λ j. f (a + (turns c + j))) = sumℕ-same (total turns cs) _ _ (λ j l. ap f (omega arith)) in
-      total-append f (queue (turns c) c a) (triplesFrom cs (a + turns c))
+      total-append f (triplesOf c a) (triplesFrom cs (a + turns c))
       ∙ rw (queue-total (turns c) c a, triples-total cs (a + turns c)) (omega (arith, later, sumℕ-split (turns c) (total turns cs) (λ j. f (a + j))))
+
+-- ---- one check more, at the end
+pub triples-last : (cs : List (List ℕ)) (c : List ℕ) (a : ℕ) → triplesFrom (cs ++ (c ∷ [])) a ≡ triplesFrom cs a ++ triplesOf c (a + total turns cs)
+unfolding triplesFrom
+triples-last [] c a = let z : a + 0 ≡ a = omega arith in rw z (append-nil (triplesOf c a))
+triples-last (d ∷ cs) c a =
+    let e : a + turns d + total turns cs ≡ a + (turns d + total turns cs) = omega arith in
+    rw (triples-last cs c (a + turns d), e) (sym (append-assoc (triplesOf d a) (triplesFrom cs (a + turns d)) (triplesOf c (a + (turns d + total turns cs)))))
 
 -- ---- induction over the turns: the last three; and a turn, which takes x and y and puts a at the back
 pub by-turns : (P : ℕ → List ℕ → ℕ → Type 0) → ((x y z a : ℕ) → P 0 (x ∷ y ∷ z ∷ []) a) → ((m x y : ℕ) (q : List ℕ) (a : ℕ) → P m (q ++ (a ∷ [])) (suc a) → P (suc m) (x ∷ y ∷ q) a)

@@ -8,18 +8,19 @@ use native.Mathlib.Omega.{arith}
 use lib.Dec.{T, ltb, eqb, leb·suc-suc}
 use lib.ListN.{length, getD, drop, length-append}
 use lib.Seq.{getD-drop, drop-append-le, getD-append-add}
-use borrow.Author.Tests.{eqb-true, eq-eqb, ne-eqb, lt-ltb, le-ltb}
+use borrow.Author.Tests.{eqb-true, eqb-false, eq-eqb, ne-eqb, lt-ltb, le-ltb}
 use Rattle.integers.specs.Sum.{sumℕ}
 use Rattle.lists.specs.Tabulated.{tab}
 use Rattle.lists.specs.Entries.{some, total}
 use Rattle.lists.proofs.Tabulated.{length-tab, tab-same, getD-tab}
 use Rattle.lists.proofs.Entries.{total-one, total-same}
 use Rattle.model.specs.Causes.{_if_}
+use Rattle.model.specs.Limits.{mostChecks}
 use Rattle.model.specs.Code.{Code, turns, tripleCount, triples, variables}
 use Rattle.model.specs.Sound.{Rising, SoundCheck, SoundChecks, Sound}
-use Rattle.model.specs.Splitting.{queue, triplesFrom, systemOf, member}
+use Rattle.model.specs.Splitting.{queue, triplesOf, triplesFrom, systemOf, member, Named}
 use Rattle.model.specs.Iteration.{occurrences}
-use Rattle.model.specs.TripleRule.{items, TripleRule}
+use Rattle.model.specs.TripleRule.{items, TripleRule, standing, Counts}
 use Rattle.model.proofs.Queue.{queue-total, triples-total, by-turns, member-next, members-total}
 use Rattle.model.proofs.Sound.{rising-below, rising-apart}
 
@@ -48,22 +49,24 @@ is-range v (suc m) a =
     by (no k) before at l = let e : a + m ≡ v = omega arith in rw (before (omega arith), e, is-same v)
 
 -- in a rising list
-is-rising : (v n low : ℕ) (l : List ℕ) → Rising n low l → (total (is v) l ≤ 1) × (v < low → total (is v) l ≡ 0) × (n ≤ v → total (is v) l ≡ 0)
-is-rising v n low [] r = (omega arith, λ h. refl, λ h. refl)
+is-rising : (v n low : ℕ) (l : List ℕ) → Rising n low l
+    → (total (is v) l ≡ 1 if some (eqb v) l) × (v < low → total (is v) l ≡ 0) × (n ≤ v → total (is v) l ≡ 0)
+is-rising v n low [] r = (refl, λ h. refl, λ h. refl)
 is-rising v n low (x ∷ l) r =
     let ih = is-rising v n (suc x) l (r .2) in (
-      by (decLt v (suc x)) (ih .0) (ih .1),
+      by (eqb v x) refl (ih .0) (ih .1),
       λ h. rw (is-other v x (λ e. omega (arith, r .0)), ih .1 (omega (arith, r .0))),
       λ h. rw (is-other v x (λ e. omega (arith, r .1)), ih .2 h),
     )
   where
-    small : (b : Bool) → 1 if b ≤ 1
-    small true = omega arith
-    small false = omega arith
+    by : (t : Bool) → eqb v x ≡ t → total (is v) l ≡ 1 if some (eqb v) l → (v < suc x → total (is v) l ≡ 0)
+        → is v x + total (is v) l ≡ 1 if (t || some (eqb v) l)
+    by true e ih none = let p : v ≡ x = eqb-true v x e in rw (none (omega arith), ← p, is-same v)
+    by false e ih none = omega (arith, is-other v x (λ p. eqb-false v x e (sym p)))
 
-    by : Dec (v < suc x) → total (is v) l ≤ 1 → (v < suc x → total (is v) l ≡ 0) → is v x + total (is v) l ≤ 1
-    by (yes h) most none = omega (arith, none h, small (eqb x v))
-    by (no h) most none = let e : is v x ≡ 0 = is-other v x (λ e. omega arith) in omega arith
+pub if-most : (t : Bool) → 1 if t ≤ 1
+if-most true = omega arith
+if-most false = omega arith
 
 total-entry : (f : ℕ → ℕ) (l : List ℕ) (i : ℕ) → i < length l → f (getD l i 0) ≤ total f l
 total-entry f [] i h = absurd (omega arith)
@@ -137,7 +140,7 @@ module _ (n a : ℕ) (c : List ℕ) (sound : SoundCheck n c) (above : n ≤ a) w
   degree : length c ≡ 3 + turns c
   degree = omega (arith, sound .least)
 
-  long-queue : length (queue (turns c) c a) ≡ 3 * tripleCount c
+  long-queue : length (triplesOf c a) ≡ 3 * tripleCount c
   long-queue = queue-long (turns c) c a ∙ omega (arith, degree)
 
   -- the items rise, so those at two places differ
@@ -151,22 +154,23 @@ module _ (n a : ℕ) (c : List ℕ) (sound : SoundCheck n c) (above : n ≤ a) w
   unfolding items
   auxiliary-item t h = getD-append-add c (tab (turns c) (λ j. a + j)) t 0 ∙ getD-tab (turns c) (λ j. a + j) t 0 h
 
-  occurs-here : (v : ℕ) → occurrences (queue (turns c) c a) (tripleCount c) v ≡ total (is v) c + 2 * sumℕ (turns c) (λ j. is v (a + j))
-  occurs-here v = occurs v (tripleCount c) (queue (turns c) c a) long-queue ∙ queue-total (is v) (turns c) c a
+  occurs-here : (v : ℕ) → occurrences (triplesOf c a) (tripleCount c) v ≡ total (is v) c + 2 * sumℕ (turns c) (λ j. is v (a + j))
+  occurs-here v = occurs v (tripleCount c) (triplesOf c a) long-queue ∙ queue-total (is v) (turns c) c a
 
-  bit-once : (i : ℕ) → i < length c → occurrences (queue (turns c) c a) (tripleCount c) (getD c i 0) ≡ 1
+  bit-once : (i : ℕ) → i < length c → occurrences (triplesOf c a) (tripleCount c) (getD c i 0) ≡ 1
   bit-once i h =
       let v = getD c i 0 in
       omega (
         arith,
         occurs-here v,
         is-rising v n 0 c (sound .rising) .0,
+        if-most (some (eqb v) c),
         total-entry (is v) c i h,
         is-same v,
         is-range v (turns c) a .0 (omega (arith, rising-below n 0 c (sound .rising) i h)),
       )
 
-  auxiliary-twice : (j : ℕ) → j < turns c → occurrences (queue (turns c) c a) (tripleCount c) (a + j) ≡ 2
+  auxiliary-twice : (j : ℕ) → j < turns c → occurrences (triplesOf c a) (tripleCount c) (a + j) ≡ 2
   auxiliary-twice j h =
       omega (arith, occurs-here (a + j), is-rising (a + j) n 0 c (sound .rising) .2 (omega arith), is-range (a + j) (turns c) a .2 (omega arith) (omega arith))
 
@@ -200,75 +204,76 @@ triples-long n cs a s =
     sym (total-one (triplesFrom cs a)) ∙ triples-total (λ _. 1) cs a
     ∙ rw (total-same (total (λ _. 1)) length total-one cs, long (total turns cs)) (checks-long n cs s)
 
-checks-occur : (v n : ℕ) (cs : List (List ℕ)) → SoundChecks n cs → (total (total (is v)) cs ≤ length cs) × (n ≤ v → total (total (is v)) cs ≡ 0)
-checks-occur v n [] s = (omega arith, λ h. refl)
+-- how many entries pass
+none-more : {A : Type 0} (p : A → Bool) (l : List A) → total (λ x. 1 if p x) l ≤ length l
+none-more p [] = omega arith
+none-more p (x ∷ l) = omega (arith, none-more p l, if-most (p x))
+
+one-least : {A : Type 0} (p : A → Bool) (l : List A) → some p l ≡ true → 1 ≤ total (λ x. 1 if p x) l
+one-least p [] e = absurd (subst T (sym e) tt)
+one-least p (x ∷ l) e = by (p x) e (one-least p l)
+  where
+    by : (t : Bool) → (t || some p l) ≡ true → (some p l ≡ true → 1 ≤ total (λ x. 1 if p x) l) → 1 ≤ 1 if t + total (λ x. 1 if p x) l
+    by true e ih = omega arith
+    by false e ih = omega (arith, ih e)
+
+checks-occur : (v n : ℕ) (cs : List (List ℕ)) → SoundChecks n cs
+    → (total (total (is v)) cs ≡ total (λ c. 1 if some (eqb v) c) cs) × (n ≤ v → total (total (is v)) cs ≡ 0)
+checks-occur v n [] s = (refl, λ h. refl)
 checks-occur v n (c ∷ cs) s =
     let ih = checks-occur v n cs (s .1) in
     let r = is-rising v n 0 c (s .0 .rising) in
     (omega (arith, ih .0, r .0), λ h. omega (arith, ih .1 h, r .2 h))
 
--- a bit that lies in some check
-lies : {A : Type 0} (p : A → Bool) (f : A → ℕ) → ((x : A) → p x ≡ true → 1 ≤ f x) → (l : List A) → some p l ≡ true → 1 ≤ total f l
-lies p f h [] e = absurd (subst T (sym e) tt)
-lies p f h (x ∷ l) e = by (p x) refl e (lies p f h l)
-  where
-    by : (t : Bool) → p x ≡ t → (t || some p l) ≡ true → (some p l ≡ true → 1 ≤ total f l) → 1 ≤ f x + total f l
-    by true q e ih = omega (arith, h x q)
-    by false q e ih = omega (arith, ih e)
-
 module _ (k : Code) (s : Sound k) where
-  abbrev count : ℕ → ℕ
-  count v = occurrences (systemOf k .members) (systemOf k .triples) v
-
-  count-is : (v : ℕ) → count v ≡ total (total (is v)) (k .checks) + 2 * sumℕ (total turns (k .checks)) (λ j. is v (k .bits + j))
+  pub members-long : length (systemOf k .members) ≡ 3 * triples k
   unfolding systemOf
-  count-is v =
-      occurs v (triples k) (triplesFrom (k .checks) (k .bits)) (triples-long (k .bits) (k .checks) (k .bits) (s .checks)) ∙ triples-total (is v) (k .checks) (k .bits)
+  members-long = triples-long (k .bits) (k .checks) (k .bits) (s .checks)
 
-  -- a bit occurs once in each of its checks
-  pub bit-occurs : (v : ℕ) → v < k .bits → (1 ≤ count v) × (count v ≤ 2048)
-  bit-occurs v h =
-      let none = is-range v (total turns (k .checks)) (k .bits) .0 h in
-      let here : 1 ≤ total (total (is v)) (k .checks)
-      = lies (some (eqb v)) (total (is v)) (lies (eqb v) (is v) (λ u e. let p : v ≡ u = eqb-true v u e in rw (← p, is-same v) (omega arith))) (k .checks) (s .covered v h) in
-      (omega (arith, count-is v, none, here), omega (arith, count-is v, none, checks-occur v (k .bits) (k .checks) (s .checks) .0, s .checks-most))
+  standing-is : (v : ℕ) → standing k v ≡ total (total (is v)) (k .checks) + 2 * sumℕ (total turns (k .checks)) (λ j. is v (k .bits + j))
+  unfolding systemOf
+  standing-is v = occurs v (triples k) (systemOf k .members) members-long ∙ triples-total (is v) (k .checks) (k .bits)
 
-  pub auxiliary-occurs : (v : ℕ) → k .bits ≤ v → v < variables k → count v ≡ 2
-  auxiliary-occurs v h l =
-      omega (arith, count-is v, is-range v (total turns (k .checks)) (k .bits) .2 h l, checks-occur v (k .bits) (k .checks) (s .checks) .1 h)
+  pub counts : Counts k
+  counts = record {
+    bits = λ v h. omega (arith, standing-is v, is-range v (total turns (k .checks)) (k .bits) .0 h, checks-occur v (k .bits) (k .checks) (s .checks) .0);
+    auxiliaries = λ v h l. omega (arith, standing-is v, is-range v (total turns (k .checks)) (k .bits) .2 h l, checks-occur v (k .bits) (k .checks) (s .checks) .1 h);
+  }
 
-  none-occurs : (v : ℕ) → variables k ≤ v → count v ≡ 0
-  none-occurs v h =
-      omega (arith, count-is v, is-range v (total turns (k .checks)) (k .bits) .1 h, checks-occur v (k .bits) (k .checks) (s .checks) .1 (omega arith))
+  none-stands : (v : ℕ) → variables k ≤ v → standing k v ≡ 0
+  none-stands v h =
+      omega (arith, standing-is v, is-range v (total turns (k .checks)) (k .bits) .1 h, checks-occur v (k .bits) (k .checks) (s .checks) .1 (omega arith))
 
-  pub occurs-some : (v : ℕ) → v < variables k → 1 ≤ count v
+  pub occurs-some : (v : ℕ) → v < variables k → 1 ≤ standing k v
   occurs-some v h = by (decLt v (k .bits))
     where
-      by : Dec (v < k .bits) → 1 ≤ count v
-      by (yes l) = bit-occurs v l .0
-      by (no l) = omega (arith, auxiliary-occurs v (omega arith) h)
+      by : Dec (v < k .bits) → 1 ≤ standing k v
+      by (yes l) = rw (counts .bits v l) (one-least (some (eqb v)) (k .checks) (s .covered v l))
+      by (no l) = omega (arith, counts .auxiliaries v (omega arith) h)
 
-  pub occurs-few : (v : ℕ) → count v ≤ 2048
+  pub occurs-few : (v : ℕ) → standing k v ≤ mostChecks
   occurs-few v = by (decLt v (k .bits)) (decLt v (variables k))
     where
-      by : Dec (v < k .bits) → Dec (v < variables k) → count v ≤ 2048
-      by (yes l) d = bit-occurs v l .1
-      by (no l) (yes h) = omega (arith, auxiliary-occurs v (omega arith) h)
-      by (no l) (no h) = omega (arith, none-occurs v (omega arith))
+      by : Dec (v < k .bits) → Dec (v < variables k) → standing k v ≤ mostChecks
+      by (yes l) d = omega (arith, counts .bits v l, none-more (some (eqb v)) (k .checks), s .checks-most)
+      by (no l) (yes h) = omega (arith, counts .auxiliaries v (omega arith) h)
+      by (no l) (no h) = omega (arith, none-stands v (omega arith))
 
   -- the variables of a triple are variables of the code
-  pub member-below : (t p : ℕ) → t < systemOf k .triples → p < 3 → member (systemOf k .members) t p < systemOf k .variables
+  pub members-named : Named (systemOf k .members) (variables k)
   unfolding systemOf
-  member-below t p h l = by (decLt v (variables k))
+  members-named i h = by (decLt v (variables k))
     where
       ts : List ℕ
-      ts = triplesFrom (k .checks) (k .bits)
+      ts = systemOf k .members
 
       v : ℕ
-      v = member ts t p
+      v = getD ts i 0
 
       by : Dec (v < variables k) → v < variables k
       by (yes m) = m
-      by (no m) =
-          let long = triples-long (k .bits) (k .checks) (k .bits) (s .checks) in
-          absurd (omega (arith, none-occurs v (omega arith), occurs v (triples k) ts long, total-entry (is v) ts (3 * t + p) (omega arith), is-same v))
+      by (no m) = absurd (omega (arith, none-stands v (omega arith), occurs v (triples k) ts members-long, total-entry (is v) ts i h, is-same v))
+
+  pub member-below : (t p : ℕ) → t < systemOf k .triples → p < 3 → member (systemOf k .members) t p < systemOf k .variables
+  unfolding systemOf
+  member-below t p h l = members-named (3 * t + p) (omega (arith, members-long))

@@ -19,7 +19,7 @@ use Rattle.lists.proofs.Entries.{first-before, first-passes, some-at, none-in}
 use Rattle.model.specs.Causes.{_if_, firstOf}
 use Rattle.model.specs.Code.{Code, turns, tripleCount}
 use Rattle.model.specs.Sound.{SoundChecks, Sound}
-use Rattle.model.specs.Splitting.{queue, triplesFrom, systemOf, member}
+use Rattle.model.specs.Splitting.{triplesOf, triplesFrom, systemOf, member}
 use Rattle.model.specs.Iteration.{at}
 use Rattle.model.specs.Words.{bitAt, bitOf, wordOf, firstUndecided, odd, firstOdd, Outcome, tested, outcome}
 use Rattle.model.specs.Points.{Bits, Codeword, pointOf}
@@ -137,20 +137,20 @@ module _ (k : Code) (c : List ℤ) where
 -- ---- the triples of check j, in the list of all triples
 module _ (n : ℕ) where
   triples-at : (cs : List (List ℕ)) (a : ℕ) → SoundChecks n cs → n ≤ a → (j i p : ℕ) → j < length cs → i < tripleCount (getD cs j []) → p < 3
-      → member (triplesFrom cs a) (total tripleCount (take j cs) + i) p ≡ member (queue (turns (getD cs j [])) (getD cs j []) (a + total turns (take j cs))) i p
+      → member (triplesFrom cs a) (total tripleCount (take j cs) + i) p ≡ member (triplesOf (getD cs j []) (a + total turns (take j cs))) i p
   unfolding triplesFrom
   triples-at [] a s h j i p l m q = absurd (omega arith)
   triples-at (c ∷ cs) a s h zero i p l m q =
       let z : a + 0 ≡ a = omega arith in
       let y : 0 + i ≡ i = omega arith in
       let long = triple-rule n a c (s .0) h .long in
-      rw (z, y) (List·getD-append (queue (turns c) c a) (triplesFrom cs (a + turns c)) 0 (3 * i + p) (omega arith))
+      rw (z, y) (List·getD-append (triplesOf c a) (triplesFrom cs (a + turns c)) 0 (3 * i + p) (omega arith))
   triples-at (c ∷ cs) a s h (suc j) i p l m q =
       let T = total tripleCount (take j cs) in
       let long = triple-rule n a c (s .0) h .long in
-      let here : 3 * (tripleCount c + T + i) + p ≡ length (queue (turns c) c a) + (3 * (T + i) + p) = omega arith in
+      let here : 3 * (tripleCount c + T + i) + p ≡ length (triplesOf c a) + (3 * (T + i) + p) = omega arith in
       let there : a + (turns c + total turns (take j cs)) ≡ a + turns c + total turns (take j cs) = omega arith in
-      rw (here, there) (getD-append-add (queue (turns c) c a) (triplesFrom cs (a + turns c)) (3 * (T + i) + p) 0 ∙ triples-at cs (a + turns c) (s .1) (omega arith) j i p (omega arith) m q)
+      rw (here, there) (getD-append-add (triplesOf c a) (triplesFrom cs (a + turns c)) (3 * (T + i) + p) 0 ∙ triples-at cs (a + turns c) (s .1) (omega arith) j i p (omega arith) m q)
 
   triples-below : (cs : List (List ℕ)) (j i : ℕ) → j < length cs → i < tripleCount (getD cs j []) → total tripleCount (take j cs) + i < total tripleCount cs
   triples-below [] j i l m = absurd (omega arith)
@@ -166,7 +166,7 @@ module _ (k : Code) (s : Sound k) (w : List ℕ) (c : Codeword k w) where
       let x : ℕ → ℕ = bitAt (pointOf k w) in
       let t = total tripleCount (take j (k .checks)) + i in
       let r = triple-rule (k .bits) (firstAuxiliary k j) (check k j) (sound-at (k .bits) (k .checks) (s .checks) j h) (omega arith) in
-      let m : (p : ℕ) → p < 3 → member (systemOf k .members) t p ≡ member (queue (turns (check k j)) (check k j) (firstAuxiliary k j)) i p
+      let m : (p : ℕ) → p < 3 → member (systemOf k .members) t p ≡ member (triplesOf (check k j) (firstAuxiliary k j)) i p
       = λ p q. triples-at (k .bits) (k .checks) (k .bits) (s .checks) (omega arith) j i p h (omega arith) q in
       let a : member (systemOf k .members) t 0 ≡ getD (queued k j) (2 * i) 0 = m 0 (omega arith) ∙ r .firsts i (omega arith) in
       let b : member (systemOf k .members) t 1 ≡ getD (queued k j) (2 * i + 1) 0 = m 1 (omega arith) ∙ r .seconds i (omega arith) in

@@ -1,13 +1,15 @@
--- Document 01, 'Splitting a check', as a statement for all degrees together; the proof is in proofs/TripleRule.antt.
+-- Document 01, 'Splitting a check', as statements for all degrees together; the proofs are in proofs/TripleRule.antt.
 use mathlib.Core.Path.{_≡_}
 use mathlib.Core.Bool.{cond}
 use mathlib.Core.List.{List, _++_}
-use Prim.Native.Nat.{ℕ, _+_, _-_, _*_, _<_}
-use lib.Dec.{ltb}
+use Prim.Native.Nat.{ℕ, _+_, _-_, _*_, _≤_, _<_}
+use lib.Dec.{ltb, eqb}
 use lib.ListN.{length, getD}
 use Rattle.lists.specs.Tabulated.{tab}
-use Rattle.model.specs.Code.{turns, tripleCount}
-use Rattle.model.specs.Splitting.{queue, member}
+use Rattle.lists.specs.Entries.{some, total}
+use Rattle.model.specs.Causes.{_if_}
+use Rattle.model.specs.Code.{Code, turns, tripleCount, variables}
+use Rattle.model.specs.Splitting.{triplesOf, systemOf, member}
 use Rattle.model.specs.Iteration.{occurrences}
 
 -- all that ever waits in the queue, in the order in which it comes: the bits of the check, then the auxiliaries from a on
@@ -19,14 +21,23 @@ pub record TripleRule (c : List ℕ) (a : ℕ) : Type 0 where
   -- "A check of degree d yields d − 2 triples and d − 3 auxiliaries"
   pub triples : tripleCount c ≡ length c - 2
   pub auxiliaries : turns c ≡ length c - 3
-  pub long : length (queue (turns c) c a) ≡ 3 * tripleCount c
+  pub long : length (triplesOf c a) ≡ 3 * tripleCount c
   -- the closed form: the two items that are next in turn, and the auxiliary that is made of them; at the end, the three that are left
-  pub firsts : (t : ℕ) → t < tripleCount c → member (queue (turns c) c a) t 0 ≡ getD (items c a) (2 * t) 0
-  pub seconds : (t : ℕ) → t < tripleCount c → member (queue (turns c) c a) t 1 ≡ getD (items c a) (2 * t + 1) 0
-  pub thirds : (t : ℕ) → t < tripleCount c → member (queue (turns c) c a) t 2 ≡ cond (ltb t (turns c)) (a + t) (getD (items c a) (2 * t + 2) 0)
+  pub firsts : (t : ℕ) → t < tripleCount c → member (triplesOf c a) t 0 ≡ getD (items c a) (2 * t) 0
+  pub seconds : (t : ℕ) → t < tripleCount c → member (triplesOf c a) t 1 ≡ getD (items c a) (2 * t + 1) 0
+  pub thirds : (t : ℕ) → t < tripleCount c → member (triplesOf c a) t 2 ≡ cond (ltb t (turns c)) (a + t) (getD (items c a) (2 * t + 2) 0)
   -- each bit of the check stands in exactly one of its triples, each auxiliary in exactly two
-  pub bit-once : (i : ℕ) → i < length c → occurrences (queue (turns c) c a) (tripleCount c) (getD c i 0) ≡ 1
-  pub auxiliary-twice : (j : ℕ) → j < turns c → occurrences (queue (turns c) c a) (tripleCount c) (a + j) ≡ 2
+  pub bit-once : (i : ℕ) → i < length c → occurrences (triplesOf c a) (tripleCount c) (getD c i 0) ≡ 1
+  pub auxiliary-twice : (j : ℕ) → j < turns c → occurrences (triplesOf c a) (tripleCount c) (a + j) ≡ 2
   -- three different variables in every triple: they rise
   pub rising : (t : ℕ) → t < tripleCount c
-      → (member (queue (turns c) c a) t 0 < member (queue (turns c) c a) t 1) × (member (queue (turns c) c a) t 1 < member (queue (turns c) c a) t 2)
+      → (member (triplesOf c a) t 0 < member (triplesOf c a) t 1) × (member (triplesOf c a) t 1 < member (triplesOf c a) t 2)
+
+-- how often each variable of a code stands in its triples
+abbrev pub standing : Code → ℕ → ℕ
+standing k v = occurrences (systemOf k .members) (systemOf k .triples) v
+
+pub record Counts (k : Code) : Type 0 where
+  -- a bit as often as there are checks that have it
+  pub bits : (b : ℕ) → b < k .bits → standing k b ≡ total (λ c. 1 if some (eqb b) c) (k .checks)
+  pub auxiliaries : (v : ℕ) → k .bits ≤ v → v < variables k → standing k v ≡ 2

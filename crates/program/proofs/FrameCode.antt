@@ -58,20 +58,19 @@ module _ (n t : ℕ) (r s : List ℕ) (h : judgeHeldCheck n t r ≡ 0) where
 
 -- ---- one more check
 pub held-next : (left t : ℕ) (b r : List ℕ) → Begun (suc left) t b → judgeHeldCheck (bitCount b) t r ≡ 0 → length r ≡ 3 + 2 * degree r
-    → Begun left (t + (degree r - 2)) (b ++ r)
+    → Begun left (t + tripleCount (indices r)) (b ++ r)
 unfolding judgeHeldChecks afterChecks
 held-next left t b r g h l =
     let n = bitCount b in
     let one = check-held n t r h in
     let sound = record-sound n r (one .sound) in
-    let more : t + tripleCount (indices r) ≡ t + (degree r - 2) = omega (arith, sound .least, length-numbers (degree r) (drop 3 r)) in
     let past : (s : List ℕ) → afterCheck (r ++ s) ≡ s = λ s. rw (degree-more n t r s h) (drop-at r s (3 + 2 * degree r) l) in
     record {
       header = header-more b r (g .header);
-      checks = λ s. rw (bits-more b r (g .header), count-more b r (g .header), append-assoc b r s, g .checks (r ++ s), check-more n t r s h, indices-more n t r s h, past s, more) (only (judgeHeldChecks n (t + (degree r - 2)) left s));
+      checks = λ s. rw (bits-more b r (g .header), count-more b r (g .header), append-assoc b r s, g .checks (r ++ s), check-more n t r s h, indices-more n t r s h, past s) (only (judgeHeldChecks n (t + tripleCount (indices r)) left s));
       after = λ s. rw (count-more b r (g .header), append-assoc b r s, g .after (r ++ s), past s);
-      few = omega (arith, one .room, more);
-      size = omega (arith, g .size, sound .least, length-append b r);
+      few = one .room;
+      size = omega (arith, g .size, sound .least, length-numbers (degree r) (drop 3 r), length-append b r);
     }
 
 -- ---- the whole code: check records that are sound are so by their own bytes

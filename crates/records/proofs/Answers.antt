@@ -25,9 +25,9 @@ module _ (b : List ℕ) (bytes : Bytes b) where
   refused-told zero h e = absurd (h refl)
   refused-told (suc c) h e = (reader-call b _ bytes (rw e), code-refuses b (suc c) e h)
 
-  pub code-told : judge b ≡ 0 → Answered b (Reading.Code (bitCount b) (checkCount b) (triples (codeOf b)))
+  pub code-told : (n m t : ℕ) → n ≡ bitCount b → m ≡ checkCount b → t ≡ triples (codeOf b) → judge b ≡ 0 → Answered b (Reading.Code n m t)
   unfolding reader codeOf
-  code-told e = (reader-call b _ bytes (rw (e, length-checks (checkCount b) (drop 6 b))), tt)
+  code-told n m t p q r e = (reader-call b _ bytes (rw (e, p, q, r, length-checks (checkCount b) (drop 6 b))), tt)
 
 -- ---- what a caller learns
 pub record Read (b : List ℕ) (n m t : ℕ) : Type 0 where

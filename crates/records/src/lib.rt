@@ -1,15 +1,28 @@
 // The reader of code records (document 01, 'Code records').
 ghost use mathlib.Core.Path.{_≡_};
 ghost use Prim.Native.Nat.{_+_, _-_, _≤_, _<_};
-ghost use lib.ListN.{length, drop};
+ghost use lib.ListN.{length, getD, drop};
 ghost use Rattle.model.specs.Causes.{outside};
-ghost use Rattle.model.specs.Records.{twoBytes, degree, indices, checksIn, covered, judgeHeader, judgeIndices, judgeCheck, judgeChecks};
+ghost use Rattle.model.specs.Limits.{mostBits, mostChecks};
+ghost use Rattle.model.specs.Code.{turns, tripleCount};
+ghost use Rattle.model.specs.Records.{twoBytes, degree, indices, afterCheck, checksIn, covered, judgeHeader, judgeIndices, judgeCheck, judgeChecks};
 ghost use Rattle.model.specs.Calls.{readingTold};
 ghost use Rattle.model.specs.Told.{readingKind};
 ghost use Rattle.model.specs.Promises.{ReaderCall};
-ghost use Rattle.records.specs.Judged.{Judged};
+ghost use Rattle.records.specs.Judged.{Whole, Judged};
 ghost use Rattle.records.specs.Marks.{allMarked, Marks};
 use model::Reading;
+
+// The limits of document 01.
+pub const MOST_BITS: usize = 4096;
+
+pub const MOST_CHECKS: usize = 2048;
+
+pub const LEAST_DEGREE: usize = 3;
+
+pub const MOST_DEGREE: usize = 32;
+
+pub const MOST_TRIPLES: usize = 8192;
 
 pub fn wide(x: u8) -> usize
     ensures { λ r. ⌜ (r ≡ x) × (r ≤ 255) ⌝ }
@@ -31,12 +44,54 @@ pub fn two_bytes(s: &[u8], at: usize) -> usize
     256 * wide(s[at]) + wide(s[at + 1])
 }
 
+// The check records of a code, behind its header.
+pub fn after_header(code: &[u8]) -> &[u8]
+    requires { ⌜ 6 ≤ length (now code) ⌝ }
+    ensures { λ r. ⌜ now r ≡ drop 6 (now (code .entry)) ⌝ }
+{
+    &code[6..]
+}
+
 // The degree of the check record that `s` begins with.
 pub fn degree(s: &[u8]) -> usize
     requires { ⌜ 3 ≤ length (now s) ⌝ }
-    ensures { λ r. ⌜ (r ≡ degree (now (s .entry))) × (r ≤ 255) ⌝ }
+    ensures { λ r. ⌜ (r ≡ degree (now (s .entry))) × (r ≡ length (indices (now (s .entry)))) × (r ≤ 255) ⌝ }
 {
     wide(s[2])
+}
+
+// Index i of that check.
+pub fn index(s: &[u8], i: usize) -> usize
+    requires { ⌜ Whole (now s) × (i < degree (now s)) ⌝ }
+    ensures { λ r. ⌜ (r ≡ getD (indices (now (s .entry))) i 0) × (r ≤ 65535) ⌝ }
+{
+    two_bytes(s, 3 + 2 * i)
+}
+
+// The turns of the queue on that check: one for each bit above three.
+pub fn turns(s: &[u8]) -> usize
+    requires { ⌜ 3 ≤ length (now s) ⌝ }
+    ensures { λ r. ⌜ (r ≡ turns (indices (now (s .entry)))) × (r ≤ 252) ⌝ }
+{
+    let d = degree(s);
+    if 3 < d { d - 3 } else { 0 }
+}
+
+// Its triples: one for each turn, and the last.
+pub fn triple_count(s: &[u8]) -> usize
+    requires { ⌜ 3 ≤ length (now s) ⌝ }
+    ensures { λ r. ⌜ (r ≡ tripleCount (indices (now (s .entry)))) × (r ≤ 253) ⌝ }
+{
+    turns(s) + 1
+}
+
+// What follows the record.
+pub fn after_check(s: &[u8]) -> &[u8]
+    requires { ⌜ Whole (now s) ⌝ }
+    ensures { λ r. ⌜ now r ≡ afterCheck (now (s .entry)) ⌝ }
+{
+    let size = 3 + 2 * degree(s);
+    &s[size..]
 }
 
 // The cause in the header that `s` begins with, 0 for none.
@@ -53,13 +108,13 @@ pub fn judge_header(s: &[u8]) -> u32
     if len < 4 {
         return 1;
     }
-    if outside(3, 4096, two_bytes(s, 2)) {
+    if outside(3, MOST_BITS, two_bytes(s, 2)) {
         return 3;
     }
     if len < 6 {
         return 1;
     }
-    if outside(1, 2048, two_bytes(s, 4)) {
+    if outside(1, MOST_CHECKS, two_bytes(s, 4)) {
         return 3;
     }
     0
@@ -105,7 +160,7 @@ pub fn judge_check(s: &[u8], bits: usize) -> u32
         return 1;
     }
     let d = degree(s);
-    if outside(3, 32, d) {
+    if outside(LEAST_DEGREE, MOST_DEGREE, d) {
         return 4;
     }
     judge_indices(&s[3..], d, bits)
@@ -120,13 +175,12 @@ struct Judgement {
 
 // The judgement of the check records that `s` begins with.
 fn judge_checks(s: &[u8], bits: usize, checks: usize) -> Judgement
-    requires { ⌜ checks ≤ 2048 ⌝ }
+    requires { ⌜ checks ≤ mostChecks ⌝ }
     ensures { λ r. ⌜ Judged bits checks (now (s .entry)) (r .cause) (r .triples) (r .after) ⌝ }
 {
     let mut rest = s;
-    let mut left = checks;
     let mut triples = 0usize;
-    while 0 < left {
+    for j in 0..checks {
         let cause = judge_check(rest, bits);
         if cause != 0 {
             return Judgement {
@@ -135,10 +189,9 @@ fn judge_checks(s: &[u8], bits: usize, checks: usize) -> Judgement
                 after: 0,
             };
         }
-        let d = degree(rest);
-        triples += d - 2;
-        rest = &rest[3 + 2 * d..];
-        left -= 1;
+        triples += triple_count(rest);
+        let after = after_check(rest);
+        rest = after;
     }
     Judgement {
         cause: 0,
@@ -148,47 +201,45 @@ fn judge_checks(s: &[u8], bits: usize, checks: usize) -> Judgement
 }
 
 // A mark at each bit of the check record that `s` begins with.
-fn mark(s: &[u8], bits: usize, seen: &mut [u8; 4096])
-    requires { ⌜ bits ≤ 4096 ⌝ }
+fn mark(s: &[u8], bits: usize, seen: &mut [u8; MOST_BITS])
+    requires { ⌜ bits ≤ mostBits ⌝ }
     requires { ⌜ judgeCheck bits (now s) ≡ 0 ⌝ }
     ensures { λ _. ⌜ Marks (indices (now (s .entry))) (now (seen .entry)) (now (seen .exit)) ⌝ }
 {
     let d = degree(s);
     for i in 0..d {
-        let index = two_bytes(s, 3 + 2 * i);
-        seen[index] = 1;
+        let b = index(s, i);
+        seen[b] = 1;
     }
 }
 
-// Whether each entry from the first to `last` has a mark.
-fn all_marked(seen: &[u8; 4096], last: usize) -> bool
-    requires { ⌜ last < 4096 ⌝ }
-    ensures { λ r. ⌜ r ≡ allMarked (now (seen .entry)) (last + 1) ⌝ }
+// Whether each of the first n entries has a mark.
+fn all_marked(seen: &[u8; MOST_BITS], n: usize) -> bool
+    requires { ⌜ n ≤ mostBits ⌝ }
+    ensures { λ r. ⌜ r ≡ allMarked (now (seen .entry)) n ⌝ }
 {
-    let mut b = 0usize;
-    while b <= last {
+    for b in 0..n {
         if seen[b] == 0 {
             return false;
         }
-        b += 1;
     }
     true
 }
 
 // Whether each bit lies in some of the check records that `s` begins with.
 fn covers(s: &[u8], bits: usize, checks: usize) -> bool
-    requires { ⌜ (3 ≤ bits) × (bits ≤ 4096) ⌝ }
+    requires { ⌜ bits ≤ mostBits ⌝ }
     requires { ⌜ judgeChecks bits checks (now s) ≡ 0 ⌝ }
     ensures { λ r. ⌜ r ≡ covered (record { bits = bits; checks = checksIn checks (now (s .entry)) }) ⌝ }
 {
-    let mut seen = [0u8; 4096];
+    let mut seen = [0u8; MOST_BITS];
     let mut rest = s;
     for j in 0..checks {
         mark(rest, bits, &mut seen);
-        let d = degree(rest);
-        rest = &rest[3 + 2 * d..];
+        let after = after_check(rest);
+        rest = after;
     }
-    all_marked(&seen, bits - 1)
+    all_marked(&seen, bits)
 }
 
 // The reader: n, m and the number of triples of a sound code, or the first cause.
@@ -202,7 +253,8 @@ pub fn read(code: &[u8]) -> Reading
     }
     let bits = two_bytes(code, 2);
     let checks = two_bytes(code, 4);
-    let found = judge_checks(&code[6..], bits, checks);
+    let body = after_header(code);
+    let found = judge_checks(body, bits, checks);
     let next = found.cause;
     if next != 0 {
         return Reading::Refused(next);
@@ -212,10 +264,10 @@ pub fn read(code: &[u8]) -> Reading
     if 0 < after {
         return Reading::Refused(9);
     }
-    if 8192 < triples {
+    if MOST_TRIPLES < triples {
         return Reading::Refused(7);
     }
-    if !covers(&code[6..], bits, checks) {
+    if !covers(body, bits, checks) {
         return Reading::Refused(8);
     }
     Reading::Code {

@@ -1,6 +1,5 @@
 -- Counts that grow with the triples. Assumes nothing.
 use mathlib.Core.Path.{_≡_, refl, sym}
-use mathlib.Core.Bool.{Bool, true, false}
 use mathlib.Core.List.{List}
 use Prim.Native.Nat.{ℕ, zero, suc, _+_, _*_, _≤_, _<_}
 use native.Mathlib.Omega.{arith}
@@ -14,6 +13,7 @@ use Rattle.lists.specs.Tabulated.{over}
 use Rattle.lists.proofs.Tabulated.{over-in, over-set}
 use Rattle.model.specs.Causes.{_if_}
 use Rattle.model.specs.Iteration.{occurrences}
+use Rattle.model.proofs.TripleRule.{if-most}
 use Rattle.triples.specs.Counting.{counted}
 
 pub count-next : (n : ℕ) (f : ℕ → ℕ) (old : List ℕ) (v : ℕ) → v < n → counted (over n f old) v ≡ over n (λ u. f u + 1 if eqb v u) old
@@ -27,11 +27,7 @@ abbrev pub hits : List ℕ → ℕ → ℕ → ℕ
 hits ts n v = sumℕ n (λ i. 1 if eqb (getD ts i 0) v)
 
 pub hits-most : (ts : List ℕ) (n v : ℕ) → hits ts n v ≤ n
-hits-most ts n v = omega (arith, sumℕ-bound n 1 (λ i. 1 if eqb (getD ts i 0) v) (λ i h. one (eqb (getD ts i 0) v)))
-  where
-    one : (b : Bool) → 1 if b ≤ 1
-    one true = omega arith
-    one false = omega arith
+hits-most ts n v = omega (arith, sumℕ-bound n 1 (λ i. 1 if eqb (getD ts i 0) v) (λ i h. if-most (eqb (getD ts i 0) v)))
 
 -- and in t triples
 pub hits-triples : (ts : List ℕ) (t v : ℕ) → hits ts (3 * t) v ≡ occurrences ts t v

@@ -2,4 +2,3 @@ pub mod Items
 pub mod Auxiliaries
 pub mod Writing
 pub mod Counting
-pub mod Members

@@ -1,63 +1,72 @@
 -- The triples that the walk over the checks of an accepted code writes. Assumes nothing.
 use mathlib.Core.Path.{_≡_, sym, ap, _∙_}
-use mathlib.Core.List.{List, _++_}
-use Prim.Native.Nat.{ℕ, _+_, _-_, _*_, _≤_, _<_}
+use mathlib.Core.List.{List, [], _++_, append-nil, append-assoc}
+use Prim.Native.Nat.{ℕ, suc, _+_, _-_, _*_, _≤_, _<_}
+use native.Mathlib.Numerals.{add-one}
 use native.Mathlib.Omega.{arith}
-use lib.ListN.{length, take, drop}
-use lib.Seq.{drop-drop, drop-append-seam}
+use lib.ListN.{length, take, drop, length-append, length-drop, drop-of-length-le}
+use lib.Seq.{drop-drop, take-append-seam, drop-append-seam}
 use Rattle.lists.specs.Tabulated.{written}
 use Rattle.lists.specs.Entries.{total}
-use Rattle.lists.proofs.Parts.{begun, length-begun, begun-all, begun-next}
+use Rattle.lists.proofs.Tabulated.{length-written}
 use Rattle.model.specs.Code.{turns, tripleCount, triples}
-use Rattle.model.specs.Records.{bitCount, checkCount, indices, afterCheck, codeOf, judge}
-use Rattle.model.specs.Splitting.{queue, triplesFrom}
-use Rattle.model.proofs.Accepted.{accepted}
-use Rattle.model.proofs.TripleRule.{triple-rule, triples-long}
-use Rattle.records.proofs.Walk.{here}
-use Rattle.triples.proofs.Auxiliaries.{checks-of, Numbered, numbered-at, numbered-next, none-left}
+use Rattle.model.specs.Records.{bitCount, checkCount, indices, afterCheck, checksIn, afterChecks, codeOf, judge}
+use Rattle.model.specs.Splitting.{triplesOf, triplesFrom}
+use Rattle.model.proofs.Queue.{triples-last}
+use Rattle.model.proofs.Accepted.{bytes-sound, checks-sound}
+use Rattle.model.proofs.TripleRule.{triples-long}
+use Rattle.records.proofs.Walk.{checks-next, total-next, total-within, judge-within}
+use Rattle.triples.proofs.Auxiliaries.{body, Numbered, numbered-next}
 
--- ---- check j is next, at `rest`; `next` is its first auxiliary, and `done` entries are written
-abbrev pub members-of : List ℕ → List ℕ
-members-of b = triplesFrom (checks-of b) (bitCount b)
+-- k behind l, written to what was left of the list, which then comes back
+written-more : (l k q old ts : List ℕ) → ts ≡ written l old → q ≡ written k (drop (length l) ts)
+    → take (length l) ts ++ (q ++ drop (length ts - length l) (drop (length l) ts)) ≡ written (l ++ k) old
+written-more l k q old ts e w =
+    let none : drop (length ts - length l) (drop (length l) ts) ≡ [] = drop-of-length-le (drop (length l) ts) {i = length ts - length l} (omega (arith, length-drop (length l) ts)) in
+    rw (none, append-nil q, w, e, take-append-seam l (drop (length l) old), drop-append-seam l (drop (length l) old), drop-drop (length k) (length l) old, length-append l k)
+    (sym (append-assoc l k (drop (length l + length k) old)))
 
-pub record Going (b old ts rest : List ℕ) (next done j : ℕ) : Type 0 where
-  pub numbered : Numbered b rest next j
-  pub entries : done + 3 * total tripleCount (drop j (checks-of b)) ≡ 3 * triples (codeOf b)
-  pub left : drop done (members-of b) ≡ triplesFrom (drop j (checks-of b)) next
-  pub filled : ts ≡ begun done (members-of b) old
+-- the triples of the first j checks
+abbrev pub members-to : List ℕ → ℕ → List ℕ
+members-to b j = triplesFrom (checksIn j (body b)) (bitCount b)
 
-module _ (b old : List ℕ) (judged : judge b ≡ 0) (fits : 3 * triples (codeOf b) ≤ length old) where
-  pub length-members : length (members-of b) ≡ 3 * triples (codeOf b)
-  unfolding codeOf
-  length-members = triples-long (bitCount b) (checks-of b) (bitCount b) (accepted b judged .checks)
+-- check j is next, at `rest`, and `next` is its first auxiliary; `done` entries are written
+pub record Going (b old : List ℕ) (j : ℕ) (ts rest : List ℕ) (next done : ℕ) : Type 0 where
+  pub numbered : Numbered b j rest next
+  pub entries : done ≡ 3 * total tripleCount (checksIn j (body b))
+  pub filled : ts ≡ written (members-to b j) old
 
-  module _ (ts rest : List ℕ) (next done j : ℕ) (g : Going b old ts rest next done j) where
+module _ (b : List ℕ) (judged : judge b ≡ 0) where
+  pub length-members : (j : ℕ) → j ≤ checkCount b → length (members-to b j) ≡ 3 * total tripleCount (checksIn j (body b))
+  length-members j h =
+      let s = checks-sound (bitCount b) j (body b) (judge-within (bitCount b) j (checkCount b) (body b) h (bytes-sound b judged .checks)) in
+      triples-long (bitCount b) (checksIn j (body b)) (bitCount b) s
+
+  module _ (old : List ℕ) (fits : 3 * triples (codeOf b) ≤ length old) (j : ℕ) (ts rest : List ℕ) (next done : ℕ) (g : Going b old j ts rest next done) where
     pub length-now : length ts ≡ length old
-    length-now = ap length (g .filled) ∙ length-begun done (members-of b) old (omega (arith, length-members, g .entries)) (omega (arith, g .entries))
+    unfolding codeOf
+    length-now =
+        let few = g .numbered .few in
+        ap length (g .filled) ∙ length-written (members-to b j) old (omega (arith, length-members j few, total-within tripleCount j (checkCount b) (body b) few))
 
     -- room for the triples of the check at hand
     pub going-room : j < checkCount b → done + 3 * tripleCount (indices rest) ≤ length old
-    going-room h = omega (arith, g .entries, ap (total tripleCount) (here _ _ _ j rest h (g .numbered .walk) .checks))
+    unfolding codeOf
+    going-room h = rw (g .numbered .left) (omega (arith, g .entries, total-next tripleCount j (body b), total-within tripleCount (suc j) (checkCount b) (body b) (omega arith)))
 
-    pub going-next : (k t : List ℕ) (next′ done′ : ℕ) → j < checkCount b → t ≡ afterCheck rest → k ≡ written (queue (turns (indices rest)) (indices rest) next) (drop done ts)
-        → next′ ≡ next + turns (indices rest) → done′ ≡ done + 3 * tripleCount (indices rest)
-        → Going b old (take done ts ++ (k ++ drop (length ts - done) (drop done ts))) t next′ done′ (j + 1)
-    unfolding triplesFrom
-    going-next k t next′ done′ h e w n m =
-        let c = indices rest in
-        let q = queue (turns c) c next in
-        let r = here _ _ _ j rest h (g .numbered .walk) in
-        let a = numbered-at b judged rest next j (g .numbered) h in
-        let more : done′ ≡ done + length q = omega (arith, triple-rule next next c (a .check) (omega arith) .long) in
-        let left : drop done (members-of b) ≡ q ++ triplesFrom (drop (j + 1) (checks-of b)) (next + turns c) = g .left ∙ rw (r .checks) in
+    pub going-next : (k t : List ℕ) (next′ done′ : ℕ) → j < checkCount b → k ≡ written (triplesOf (indices rest) next) (drop done ts)
+        → t ≡ afterCheck rest → next′ ≡ next + turns (indices rest) → done′ ≡ done + 3 * tripleCount (indices rest)
+        → Going b old (j + 1) (take done ts ++ (k ++ drop (length ts - done) (drop done ts))) t next′ done′
+    going-next k t next′ done′ h w e m n =
+        let l = members-to b j in
+        let d : done ≡ length l = omega (arith, g .entries, length-members j (g .numbered .few)) in
+        let more : members-to b (suc j) ≡ l ++ triplesOf (indices rest) next
+        = rw (checks-next j (body b), triples-last (checksIn j (body b)) (indices (afterChecks j (body b))) (bitCount b), g .numbered .left, g .numbered .auxiliary) in
         record {
-          numbered = numbered-next b judged rest next j (g .numbered) t next′ h e n;
-          entries = omega (arith, g .entries, ap (total tripleCount) (r .checks));
-          left = rw (more, n) (sym (drop-drop (length q) done (members-of b)) ∙ ap (drop (length q)) left ∙ drop-append-seam q _);
-          filled = rw more (begun-next done (members-of b) q _ old ts k (omega (arith, length-members, g .entries)) left (g .filled) w);
+          numbered = numbered-next b j rest next (g .numbered) h t next′ e m;
+          entries = n ∙ rw (add-one j, g .numbered .left) (omega (arith, g .entries, total-next tripleCount j (body b)));
+          filled = rw (add-one j, more, d) (written-more l (triplesOf (indices rest) next) k old ts (g .filled) (rw d at w));
         }
 
-    pub going-end : checkCount b ≤ j → ts ≡ written (members-of b) old
-    going-end h =
-        let all : done ≡ length (members-of b) = omega (arith, length-members, g .entries, ap (total tripleCount) (none-left b j h)) in
-        g .filled ∙ rw all (begun-all (members-of b) old)
+    pub going-end : checkCount b ≤ j → ts ≡ written (members-to b (checkCount b)) old
+    going-end h = let e : checkCount b ≡ j = omega (arith, g .numbered .few) in rw e (g .filled)

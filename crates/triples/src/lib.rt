@@ -1,62 +1,59 @@
 // The splitting of checks into triples (document 01, 'Splitting a check'), and how many triples each variable is in.
 ghost use mathlib.Core.Path.{_≡_};
-ghost use Prim.Native.Nat.{ℕ, _+_, _*_, _≤_, _<_};
+ghost use Prim.Native.Nat.{_+_, _*_, _≤_, _<_};
 ghost use lib.ListN.{length, getD, set};
 ghost use Rattle.lists.specs.Tabulated.{over, written};
+ghost use Rattle.model.specs.Limits.{mostTriples, mostVariables};
 ghost use Rattle.model.specs.Code.{turns, tripleCount};
-ghost use Rattle.model.specs.Records.{degree, indices, codeOf, judge};
+ghost use Rattle.model.specs.Records.{indices, codeOf, judge};
 ghost use Rattle.model.specs.Sound.{SoundCheck};
-ghost use Rattle.model.specs.Splitting.{queue, systemOf};
+ghost use Rattle.model.specs.Splitting.{triplesOf, systemOf, Named};
 ghost use Rattle.model.specs.TripleRule.{items};
 ghost use Rattle.model.specs.Iteration.{occurrences, countsOf};
 ghost use Rattle.model.specs.Promises.{SplitterCall};
+ghost use Rattle.records.specs.Judged.{Whole};
 ghost use Rattle.triples.specs.Counting.{counted};
 use model::Reading;
 
 // Item i of the queue of the check record that `s` begins with: its bits, then the auxiliaries from `next` on.
 pub fn item(s: &[u8], next: usize, i: usize) -> u16
-    requires { ⌜ 3 + 2 * degree (now s) ≤ length (now s) ⌝ }
-    requires { ⌜ i < degree (now s) + turns (indices (now s)) ⌝ }
-    requires { ⌜ next ≤ 12288 ⌝ }
+    requires { ⌜ Whole (now s) × (next ≤ mostVariables) ⌝ }
+    requires { ⌜ i < length (indices (now s)) + turns (indices (now s)) ⌝ }
     ensures { λ r. ⌜ r ≡ getD (items (indices (now (s .entry))) next) i 0 ⌝ }
 {
     let d = records::degree(s);
     if i < d {
-        records::two_bytes(s, 3 + 2 * i) as u16
+        records::index(s, i) as u16
     } else {
         (next + (i - d)) as u16
     }
 }
 
-// Three entries from `at` on.
-fn put(out: &mut [u16], at: usize, first: u16, second: u16, third: u16)
-    requires { ⌜ at + 3 ≤ length (now out) ⌝ }
-    ensures { λ _. ⌜ now (out .exit) ≡ set (set (set (now (out .entry)) at first) (at + 1) second) (at + 2) third ⌝ }
+// Triple t of that check: items 2t and 2t + 1, and the third.
+fn put(s: &[u8], next: usize, t: usize, third: u16, out: &mut [u16])
+    requires { ⌜ Whole (now s) × (next ≤ mostVariables) ⌝ }
+    requires { ⌜ (2 * t + 1 < length (indices (now s)) + turns (indices (now s))) × (3 * t + 3 ≤ length (now out)) ⌝ }
+    ensures { λ _. ⌜ now (out .exit) ≡ (let i = items (indices (now (s .entry))) next in
+        set (set (set (now (out .entry)) (3 * t) (getD i (2 * t) 0)) (3 * t + 1) (getD i (2 * t + 1) 0)) (3 * t + 2) third) ⌝ }
 {
-    out[at] = first;
-    out[at + 1] = second;
-    out[at + 2] = third;
+    let first = item(s, next, 2 * t);
+    let second = item(s, next, 2 * t + 1);
+    out[3 * t] = first;
+    out[3 * t + 1] = second;
+    out[3 * t + 2] = third;
 }
 
-// The triples of the check record that `s` begins with.
+// The triples of that check: one for each auxiliary, and the last three items.
 fn write_check(s: &[u8], next: usize, out: &mut [u16])
-    requires { ⌜ 3 + 2 * degree (now s) ≤ length (now s) ⌝ }
-    requires { ⌜ SoundCheck next (indices (now s)) ⌝ }
-    requires { ⌜ next ≤ 12288 ⌝ }
+    requires { ⌜ Whole (now s) × SoundCheck next (indices (now s)) × (next ≤ mostVariables) ⌝ }
     requires { ⌜ 3 * tripleCount (indices (now s)) ≤ length (now out) ⌝ }
-    ensures { λ _. ⌜ now (out .exit) ≡ written (queue (turns (indices (now (s .entry)))) (indices (now (s .entry))) next) (now (out .entry)) ⌝ }
+    ensures { λ _. ⌜ now (out .exit) ≡ written (triplesOf (indices (now (s .entry))) next) (now (out .entry)) ⌝ }
 {
-    let d = records::degree(s);
-    for t in 0..d - 2 {
-        let third = if t < d - 3 { d + t } else { 2 * t + 2 };
-        put(
-            out,
-            3 * t,
-            item(s, next, 2 * t),
-            item(s, next, 2 * t + 1),
-            item(s, next, third),
-        );
+    let turns = records::turns(s);
+    for t in 0..turns {
+        put(s, next, t, (next + t) as u16, out);
     }
+    put(s, next, turns, item(s, next, 2 * turns + 2), out);
 }
 
 // The triples of an accepted code.
@@ -66,15 +63,15 @@ fn write_triples(code: &[u8], triples: &mut [u16])
     ensures { λ _. ⌜ now (triples .exit) ≡ written (systemOf (codeOf (now (code .entry))) .members) (now (triples .entry)) ⌝ }
 {
     let checks = records::two_bytes(code, 4);
-    let mut rest = &code[6..];
+    let mut rest = records::after_header(code);
     let mut next = records::two_bytes(code, 2);
     let mut done = 0usize;
     for j in 0..checks {
-        let d = records::degree(rest);
         write_check(rest, next, &mut triples[done..]);
-        done += 3 * (d - 2);
-        next += d - 3;
-        rest = &rest[3 + 2 * d..];
+        done += 3 * records::triple_count(rest);
+        next += records::turns(rest);
+        let after = records::after_check(rest);
+        rest = after;
     }
 }
 
@@ -107,12 +104,12 @@ fn count(triples: &[u16], i: usize, counts: &mut [u16])
 
 // How often each of the variables stands in the triples, of which there are `total`.
 fn write_counts(triples: &[u16], total: usize, variables: usize, counts: &mut [u16])
-    requires { ⌜ (total ≤ 8192) × (3 * total ≤ length (now triples)) × (variables ≤ length (now counts)) ⌝ }
-    requires { ⌜ ((i : ℕ) → i < 3 * total → getD (now triples) i 0 < variables) ⌝ }
+    requires { ⌜ (total ≤ mostTriples) × (length (now triples) ≡ 3 * total) ⌝ }
+    requires { ⌜ (variables ≤ length (now counts)) × Named (now triples) variables ⌝ }
     ensures { λ _. ⌜ now (counts .exit) ≡ over variables (occurrences (now (triples .entry)) total) (now (counts .entry)) ⌝ }
 {
     clear(counts, variables);
-    for i in 0..3 * total {
+    for i in 0..triples.len() {
         count(triples, i, counts);
     }
 }
@@ -132,7 +129,7 @@ pub fn write_system(
     ensures { λ _. ⌜ now (counts .exit) ≡ written (countsOf (systemOf (codeOf (now (code .entry))))) (now (counts .entry)) ⌝ }
 {
     write_triples(code, triples);
-    write_counts(triples, total, variables, counts);
+    write_counts(&triples[..3 * total], total, variables, counts);
 }
 
 // The splitting of any code into lent lists: 0, or the first cause.

@@ -2,7 +2,7 @@
 use mathlib.Core.Path.{_≡_, refl, sym, _∙_}
 use mathlib.Core.Bool.{Bool, true, false}
 use mathlib.Core.List.{List}
-use Prim.Native.Nat.{ℕ, _+_, _-_, _<_}
+use Prim.Native.Nat.{ℕ, _-_, _<_}
 use native.Mathlib.Numerals.{add-one}
 use native.Mathlib.Omega.{arith}
 use borrow.Author.Needs.{needs}
@@ -16,55 +16,43 @@ use Rattle.records.specs.Marks.{marked, allMarked}
 use Rattle.records.proofs.all_marked.Statement.{statement}
 use Rattle.records.proofs.all_marked.Tie as tie
 
-abbrev itself : ℕ → ℕ
-itself b = b
+abbrev places : ℕ → List ℕ
+places n = tab n (λ b. b)
 
 abbrev Inv-loop : tie.InvT-loop
-Inv-loop seen last b₀ b = every (marked seen) (drop b (tab (last + 1) itself)) ≡ every (marked seen) (tab (last + 1) itself)
+Inv-loop seen n b₀ b = every (marked seen) (drop b (places n)) ≡ every (marked seen) (places n)
 
 abbrev μ-loop : tie.MeasureT-loop
-μ-loop seen last b₀ b = last + 1 - b
+μ-loop seen n b₀ b = n - b
 
 -- the test of entry b
-test-at : (seen : List ℕ) (n b : ℕ) (t : Bool) → b < n → marked seen b ≡ t → marked seen (getD (tab n itself) b 0) ≡ t
-test-at seen n b t h e = rw (getD-tab n itself b 0 h) e
-
-loop-holds : tie.Need-loop-holds Inv-loop μ-loop
-loop-holds c = refl
-
-element-copy-out-if1 : tie.Need-element-copy-out-if1 Inv-loop μ-loop
-element-copy-out-if1 c = search needs
+test-at : (seen : List ℕ) (n b : ℕ) (t : Bool) → b < n → marked seen b ≡ t → marked seen (getD (places n) b 0) ≡ t
+test-at seen n b t h e = rw (getD-tab n (λ b. b) b 0 h) e
 
 returns : tie.Need-returns Inv-loop μ-loop
 unfolding allMarked
 returns c =
     let t = c .before .before in
-    let l = t .before in
-    let a = l .before .args in
-    sym (sym (l .loop .inv) ∙ every-stop (marked (a .seen .now)) _ (l .loop .b) 0 (omega (arith, length-tab (a .last + 1) itself))
-    (test-at (a .seen .now) (a .last + 1) (l .loop .b) false (omega arith) (rw (eq-eqb _ 0 (c .if1 .taken)))))
-
-add-b : tie.Need-add-b Inv-loop μ-loop
-add-b c = search needs
-
-loop-less : tie.Need-loop-less Inv-loop μ-loop
-loop-less c = search needs
+    let l = t .before .loop in
+    let a = t .before .before .args in
+    sym (sym (l .inv) ∙ every-stop (marked (a .seen .now)) (places (a .n)) (l .b) 0 (omega (arith, length-tab (a .n) (λ b. b)))
+    (test-at (a .seen .now) (a .n) (l .b) false (omega arith) (rw (eq-eqb _ 0 (c .if1 .taken)))))
 
 loop-again : tie.Need-loop-again Inv-loop μ-loop
 loop-again c =
     let t = c .before .before in
-    let l = t .before in
-    let a = l .before .args in
-    rw (add-one (l .loop .b))
-    (sym (every-next (marked (a .seen .now)) _ (l .loop .b) 0 (omega (arith, length-tab (a .last + 1) itself))
-    (test-at (a .seen .now) (a .last + 1) (l .loop .b) true (omega arith) (rw (ne-eqb _ 0 (c .if1 .left))))) ∙ l .loop .inv)
+    let l = t .before .loop in
+    let a = t .before .before .args in
+    rw (add-one (l .b))
+    (sym (every-next (marked (a .seen .now)) (places (a .n)) (l .b) 0 (omega (arith, length-tab (a .n) (λ b. b)))
+    (test-at (a .seen .now) (a .n) (l .b) true (omega arith) (rw (ne-eqb _ 0 (c .if1 .left))))) ∙ l .inv)
 
 returns-2 : tie.Need-returns-2 Inv-loop μ-loop
 unfolding allMarked
 returns-2 c =
     let l = c .before in
     let a = l .before .args in
-    sym (sym (l .loop .inv) ∙ every-end (marked (a .seen .now)) _ (l .loop .b) (omega (arith, length-tab (a .last + 1) itself)))
+    sym (sym (l .loop .inv) ∙ every-end (marked (a .seen .now)) (places (a .n)) (l .loop .b) (omega (arith, length-tab (a .n) (λ b. b))))
 
 pub all-marked-spec : {M : Type 1} → statement M
-all-marked-spec = tie.close (tie.spec Inv-loop μ-loop loop-holds element-copy-out-if1 returns add-b loop-less loop-again returns-2)
+all-marked-spec = tie.close (tie.spec Inv-loop μ-loop (λ c. refl) (λ c. search needs) returns (λ c. search needs) (λ c. search needs) loop-again returns-2)

@@ -32,9 +32,6 @@ returns : tie.Need-returns
 unfolding judgeCheck
 returns c = rw (lt-ltb _ 2 (c .if1 .taken))
 
-two-bytes-requires : tie.Need-two-bytes-requires
-two-bytes-requires c κs = search needs
-
 returns-2 : tie.Need-returns-2
 unfolding judgeCheck
 returns-2 c = rw (le-ltb _ 2 (c .before .before .if1 .left), ne-eqb _ 0x4C43 (λ e. c .if2 .taken (c .before .two-bytes .ensures .0 ∙ e)))
@@ -42,26 +39,8 @@ returns-2 c = rw (le-ltb _ 2 (c .before .before .if1 .left), ne-eqb _ 0x4C43 (λ
 returns-3 : tie.Need-returns-3
 returns-3 c = rw (after-mark _ _ (c .before .before .before .if1 .left) (mark-is (c .before)), lt-ltb _ 3 (c .if3 .taken))
 
-degree-requires : tie.Need-degree-requires
-degree-requires c κs = search needs
-
-outside-requires : tie.Need-outside-requires
-outside-requires c κs = search needs
-
 returns-4 : tie.Need-returns-4
 returns-4 c = rw (marked (c .before), c .if4 .taken)
-
-sub-judge-indices : tie.Need-sub-judge-indices
-sub-judge-indices c = search needs
-
-part-judge-indices-start : tie.Need-part-judge-indices-start
-part-judge-indices-start c = search needs
-
-part-judge-indices-end : tie.Need-part-judge-indices-end
-part-judge-indices-end c = search needs
-
-judge-indices-requires : tie.Need-judge-indices-requires
-judge-indices-requires c κs = search needs
 
 returns-5 : tie.Need-returns-5
 returns-5 c =
@@ -70,17 +49,5 @@ returns-5 c =
 
 pub judge-check-spec : {M : Type 1} → statement M
 judge-check-spec =
-    tie.close
-    (tie.spec
-    returns
-    two-bytes-requires
-    returns-2
-    returns-3
-    degree-requires
-    outside-requires
-    returns-4
-    sub-judge-indices
-    part-judge-indices-start
-    part-judge-indices-end
-    judge-indices-requires
-    returns-5)
+    tie.close (tie.spec returns (λ c κs. search needs) returns-2 returns-3 (λ c κs. search needs) (λ c κs. search needs) returns-4 (λ c. search needs)
+    (λ c. search needs) (λ c. search needs) (λ c κs. search needs) returns-5)

@@ -44,21 +44,12 @@ returns : tie.Need-returns
 unfolding judgeHeader
 returns c = rw (lt-ltb _ 2 (c .if1 .taken))
 
-two-bytes-requires : tie.Need-two-bytes-requires
-two-bytes-requires c κs = search needs
-
 returns-2 : tie.Need-returns-2
 unfolding judgeHeader
 returns-2 c = rw (le-ltb _ 2 (c .before .before .if1 .left), ne-eqb _ 0x4C48 (λ e. c .if2 .taken (c .before .two-bytes .ensures .0 ∙ e)))
 
 returns-3 : tie.Need-returns-3
 returns-3 c = rw (after-mark _ (c .before .before .before .if1 .left) (mark-is (c .before)), lt-ltb _ 4 (c .if3 .taken))
-
-two-bytes-requires-2 : tie.Need-two-bytes-requires-2
-two-bytes-requires-2 c κs = search needs
-
-outside-requires : tie.Need-outside-requires
-outside-requires c κs = search needs
 
 returns-4 : tie.Need-returns-4
 returns-4 c =
@@ -67,12 +58,6 @@ returns-4 c =
 
 returns-5 : tie.Need-returns-5
 returns-5 c = rw (bits-passed (c .before), lt-ltb _ 6 (c .if5 .taken))
-
-two-bytes-requires-3 : tie.Need-two-bytes-requires-3
-two-bytes-requires-3 c κs = search needs
-
-outside-requires-2 : tie.Need-outside-requires-2
-outside-requires-2 c κs = search needs
 
 returns-6 : tie.Need-returns-6
 returns-6 c =
@@ -86,17 +71,5 @@ returns-7 c =
 
 pub judge-header-spec : {M : Type 1} → statement M
 judge-header-spec =
-    tie.close
-    (tie.spec
-    returns
-    two-bytes-requires
-    returns-2
-    returns-3
-    two-bytes-requires-2
-    outside-requires
-    returns-4
-    returns-5
-    two-bytes-requires-3
-    outside-requires-2
-    returns-6
-    returns-7)
+    tie.close (tie.spec returns (λ c κs. search needs) returns-2 returns-3 (λ c κs. search needs) (λ c κs. search needs) returns-4 returns-5
+    (λ c κs. search needs) (λ c κs. search needs) returns-6 returns-7)

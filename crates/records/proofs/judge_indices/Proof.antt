@@ -28,16 +28,10 @@ unfolding judgeIndices
 next n zero low s h = absurd (omega arith)
 next n (suc d) low s h = let e : suc d - 1 ≡ d = omega arith in rw (add-one (twoBytes s), e)
 
-loop-holds : tie.Need-loop-holds Inv-loop μ-loop
-loop-holds c = refl
-
 returns : tie.Need-returns Inv-loop μ-loop
 returns c =
     let l = c .before .before in
     rw (l .loop .inv, next _ _ _ _ (c .before .loop-test .taken), lt-ltb _ 2 (c .if1 .taken))
-
-two-bytes-requires : tie.Need-two-bytes-requires Inv-loop μ-loop
-two-bytes-requires c κs = search needs
 
 -- what is left to judge of an index that is there, and after it
 at-index : (c : tie.After-two-bytes Inv-loop μ-loop)
@@ -62,24 +56,6 @@ returns-2 c = rw (at-index (c .before), le-leb _ _ (above c))
 returns-3 : tie.Need-returns-3 Inv-loop μ-loop
 returns-3 c = rw (at-index (c .before .before), lt-leb _ _ (below (c .before)), lt-ltb _ _ (c .if3 .taken))
 
-add-low : tie.Need-add-low Inv-loop μ-loop
-add-low c = omega arith
-
-sub-rest : tie.Need-sub-rest Inv-loop μ-loop
-sub-rest c = search needs
-
-part-rest-start : tie.Need-part-rest-start Inv-loop μ-loop
-part-rest-start c = search needs
-
-part-rest-end : tie.Need-part-rest-end Inv-loop μ-loop
-part-rest-end c = search needs
-
-sub-left : tie.Need-sub-left Inv-loop μ-loop
-sub-left c = search needs
-
-loop-less : tie.Need-loop-less Inv-loop μ-loop
-loop-less c = search needs
-
 loop-again : tie.Need-loop-again Inv-loop μ-loop
 loop-again c =
     let e = c .before in
@@ -95,20 +71,5 @@ returns-4 c =
 
 pub judge-indices-spec : {M : Type 1} → statement M
 judge-indices-spec =
-    tie.close
-    (tie.spec
-    Inv-loop
-    μ-loop
-    loop-holds
-    returns
-    two-bytes-requires
-    returns-2
-    returns-3
-    add-low
-    sub-rest
-    part-rest-start
-    part-rest-end
-    sub-left
-    loop-less
-    loop-again
-    returns-4)
+    tie.close (tie.spec Inv-loop μ-loop (λ c. refl) returns (λ c κs. search needs) returns-2 returns-3 (λ c. omega arith) (λ c. search needs)
+    (λ c. search needs) (λ c. search needs) (λ c. search needs) (λ c. search needs) loop-again returns-4)

@@ -24,17 +24,8 @@ loop-holds c = (omega arith, refl)
 long : (c : tie.At-loop Inv-loop μ-loop) → length (c .loop .counts) ≡ length (c .before .args .counts .now)
 long c = ap length (c .loop .inv .1) ∙ length-over (c .loop .v) none (c .before .args .counts .now) (omega arith)
 
-mul-counts : tie.Need-mul-counts Inv-loop μ-loop
-mul-counts c = omega arith
-
 slice-write-counts : tie.Need-slice-write-counts Inv-loop μ-loop
 slice-write-counts c = omega (arith, long (c .before))
-
-add-v : tie.Need-add-v Inv-loop μ-loop
-add-v c = omega arith
-
-loop-less : tie.Need-loop-less Inv-loop μ-loop
-loop-less c = omega arith
 
 loop-again : tie.Need-loop-again Inv-loop μ-loop
 loop-again c =
@@ -52,15 +43,5 @@ returns c =
 
 pub clear-spec : {M : Type 1} → statement M
 clear-spec =
-    tie.close
-    (tie.spec
-    Inv-loop
-    μ-loop
-    loop-holds
-    mul-counts
-    slice-write-counts
-    add-v
-    loop-less
-    loop-again
-    same-length
+    tie.close (tie.spec Inv-loop μ-loop loop-holds (λ c. omega arith) slice-write-counts (λ c. omega arith) (λ c. omega arith) loop-again same-length
     returns)

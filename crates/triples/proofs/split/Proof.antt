@@ -40,15 +40,6 @@ module _ (b ts cs : List ℕ) where
     unfolding splitter
     room l k e p q = splitter-call b ts cs (split 0 l k) (rw (judged, e) (ap₂ (split 0) p q))
 
-read-requires : tie.Need-read-requires
-read-requires c κs = search needs
-
-enum-known-reading : tie.Need-enum-known-reading
-enum-known-reading c = search needs
-
-enum-known-reading-2 : tie.Need-enum-known-reading-2
-enum-known-reading-2 c = search needs
-
 -- ---- an accepted code
 read : (c : tie.After-reading2)
     → let g = c .reading2 .given .0 in
@@ -98,12 +89,6 @@ returns-3 c =
     let e = told-refused _ (g .0 .0) _ (g .1) (r .before .before .read .ensures) in
     refused _ _ _ _ (e .0) (e .1 .0)
 
-same-length : tie.Need-same-length
-same-length c = search needs
-
-same-length-2 : tie.Need-same-length-2
-same-length-2 c = search needs
-
 returns-4 : tie.Need-returns-4
 returns-4 c =
     let w = c .before .before .before .before in
@@ -119,18 +104,5 @@ returns-4 c =
 
 pub split-spec : {M : Type 1} → statement M
 split-spec =
-    tie.close
-    (tie.spec
-    read-requires
-    enum-known-reading
-    enum-known-reading-2
-    add-variables
-    sub-variables
-    mul-if1
-    returns
-    returns-2
-    write-system-requires
-    returns-3
-    same-length
-    same-length-2
-    returns-4)
+    tie.close (tie.spec (λ c κs. search needs) (λ c. search needs) (λ c. search needs) add-variables sub-variables mul-if1 returns returns-2
+    write-system-requires returns-3 (λ c. search needs) (λ c. search needs) returns-4)

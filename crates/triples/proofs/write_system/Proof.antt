@@ -1,62 +1,69 @@
 -- `triples::write_system` meets its contract: the triples, then the counts of what is written. Assumes nothing.
-use mathlib.Core.Path.{_≡_, ap, _∙_}
-use Prim.Native.Nat.{_*_}
+use mathlib.Core.Path.{_≡_, sym, ap, _∙_}
+use mathlib.Core.List.{List}
+use Prim.Native.Nat.{ℕ, _*_}
 use native.Mathlib.Omega.{arith}
 use borrow.Author.Needs.{needs}
-use lib.ListN.{length}
-use Rattle.lists.proofs.Tabulated.{length-written, written-in}
-use Rattle.model.specs.Code.{triples, variables}
+use lib.ListN.{length, take, drop}
+use lib.Seq.{take-at}
+use Rattle.lists.specs.Tabulated.{over, written}
+use Rattle.lists.proofs.Tabulated.{over-tab}
+use Rattle.model.specs.Code.{Code}
 use Rattle.model.specs.Records.{codeOf}
 use Rattle.model.specs.Sound.{Sound}
-use Rattle.model.specs.Splitting.{systemOf}
+use Rattle.model.specs.Splitting.{systemOf, Named}
+use Rattle.model.specs.Iteration.{occurrences, countsOf}
 use Rattle.model.proofs.Accepted.{accepted}
-use Rattle.triples.proofs.Members.{members-long, member-below, counts-are}
+use Rattle.model.proofs.TripleRule.{members-long, members-named}
 use Rattle.triples.proofs.write_system.Statement.{statement}
 use Rattle.triples.proofs.write_system.Tie as tie
 
-write-triples-requires : tie.Need-write-triples-requires
-write-triples-requires c κs = search needs
+-- ---- of the list l that has the triples of a code
+module _ (k : Code) (l : List ℕ) (t n : ℕ) (is : l ≡ systemOf k .members) (total : t ≡ systemOf k .triples) (variables : n ≡ systemOf k .variables) where
+  named : Sound k → Named l n
+  unfolding systemOf
+  named s = rw (is, variables) (members-named k s)
 
--- ---- the code and its sizes
-sound : (s : tie.Start) → Sound (codeOf (s .args .code .now))
-sound s = accepted _ (s .pre .0)
+  counts-are : (old : List ℕ) → over n (occurrences l t) old ≡ written (countsOf (systemOf k)) old
+  unfolding countsOf
+  counts-are old = rw (is, total, variables) (over-tab (systemOf k .variables) (occurrences (systemOf k .members) (systemOf k .triples)) old)
 
-total-is : (s : tie.Start) → s .args .total ≡ triples (codeOf (s .args .code .now))
-unfolding systemOf
-total-is s = s .pre .1 .0 .0
+-- ---- the triples are written
+module _ (w : tie.After-write-triples) where
+  abbrev s : tie.Start
+  s = w .before .before .before .before .before
 
-variables-are : (s : tie.Start) → s .args .variables ≡ variables (codeOf (s .args .code .now))
-unfolding systemOf
-variables-are s = s .pre .1 .0 .1
+  abbrev k : Code
+  k = codeOf (s .args .code .now)
 
-long : (s : tie.Start) → length (systemOf (codeOf (s .args .code .now)) .members) ≡ 3 * s .args .total
-long s = members-long _ (sound s) ∙ rw (total-is s)
+  sound : Sound k
+  sound = accepted _ (s .pre .0)
+
+  long : length (systemOf k .members) ≡ 3 * s .args .total
+  unfolding systemOf
+  long = omega (arith, members-long k sound, s .pre .1 .0 .0)
+
+  lent : take (3 * s .args .total) (w .write-triples .last .1 .0) ≡ systemOf k .members
+  lent = ap (take (3 * s .args .total)) (w .write-triples .ensures) ∙ take-at (systemOf k .members) (drop (length (systemOf k .members)) (s .args .triples .now)) (3 * s .args .total) long
+
+slice-aggregate-write-counts : tie.Need-slice-aggregate-write-counts
+slice-aggregate-write-counts c = let w = c .before .before .before in sym (ap length (lent w) ∙ long w)
 
 write-counts-requires : tie.Need-write-counts-requires
+unfolding systemOf
 write-counts-requires c κs =
     let w = c .before .before .before .before in
-    let s = w .before .before .before .before .before in
-    let l = systemOf (codeOf (s .args .code .now)) .members in (
-      (omega (arith, total-is s, sound s .triples-most), omega (arith, ap length (w .write-triples .ensures), length-written l (s .args .triples .now) (omega (arith, long s)), s .pre), s .pre .1 .1 .1),
-      λ i h. rw (w .write-triples .ensures, written-in l (s .args .triples .now) i 0 (omega (arith, long s)), variables-are s) (member-below _ (sound s) i (omega (arith, total-is s))),
-    )
-
-same-length : tie.Need-same-length
-same-length c = search needs
-
-same-length-2 : tie.Need-same-length-2
-same-length-2 c = search needs
+    let p = s w .pre .1 in
+    ((omega (arith, p .0 .0, sound w .triples-most), ap length (lent w) ∙ long w), (p .1 .1, named (k w) _ _ _ (lent w) (p .0 .0) (p .0 .1) (sound w)))
 
 returns : tie.Need-returns
 returns c =
-    let k = c .before .before in
-    let w = k .before .before .before .before .before in
-    let s = w .before .before .before .before .before in (
-      w .write-triples .ensures,
-      k .write-counts .ensures ∙ rw (w .write-triples .ensures) (counts-are (codeOf (s .args .code .now)) _ _ _ _ (sound s) (total-is s) (variables-are s)),
-    )
+    let n = c .before .before in
+    let w = n .before .before .before .before .before in
+    let p = s w .pre .1 .0 in
+    (w .write-triples .ensures, n .write-counts .ensures ∙ counts-are (k w) _ _ _ (lent w) (p .0) (p .1) (s w .args .counts .now))
 
 pub write-system-spec : {M : Type 1} → statement M
 write-system-spec =
-    tie.close
-    (tie.spec write-triples-requires write-counts-requires same-length same-length-2 returns)
+    tie.close (tie.spec (λ c κs. search needs) (λ c. search needs) (λ c. search needs) slice-aggregate-write-counts write-counts-requires
+    (λ c. search needs) (λ c. search needs) returns)

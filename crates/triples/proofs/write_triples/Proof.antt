@@ -1,12 +1,13 @@
 -- `triples::write_triples` meets its contract: the checks so far, and their triples. Assumes nothing.
-use mathlib.Core.Path.{_≡_, refl, _∙_}
+use mathlib.Core.Path.{_≡_, refl}
 use Prim.Native.Nat.{_+_, _-_, _*_, _≤_, _<_}
 use native.Mathlib.Omega.{arith}
+use borrow.Author.Needs.{needs}
 use lib.ListN.{length, length-drop}
 use Rattle.lists.proofs.Parts.{part-from}
-use Rattle.model.specs.Code.{tripleCount, triples}
-use Rattle.model.specs.Records.{checkCount, degree, indices, codeOf}
-use Rattle.model.specs.Splitting.{systemOf}
+use Rattle.model.specs.Code.{tripleCount}
+use Rattle.model.specs.Records.{checkCount, indices, checksIn, codeOf}
+use Rattle.model.specs.Splitting.{triplesFrom, systemOf}
 use Rattle.model.proofs.Accepted.{SoundHeader, bytes-sound}
 use Rattle.triples.proofs.Auxiliaries.{At, numbered-start, numbered-at}
 use Rattle.triples.proofs.Writing.{Going, length-now, going-room, going-next, going-end}
@@ -14,7 +15,7 @@ use Rattle.triples.proofs.write_triples.Statement.{statement}
 use Rattle.triples.proofs.write_triples.Tie as tie
 
 abbrev Inv-loop : tie.InvT-loop
-Inv-loop code triples₀ checks rest₀ next₀ done₀ j₀ triples rest next done j = Going code triples₀ triples rest next done j
+Inv-loop code triples₀ checks rest₀ next₀ done₀ j₀ triples rest next done j = Going code triples₀ j triples rest next done
 
 abbrev μ-loop : tie.MeasureT-loop
 μ-loop code triples₀ checks rest₀ next₀ done₀ j₀ triples rest next done j = checks - j
@@ -25,162 +26,77 @@ header s = bytes-sound _ (s .pre .0) .header
 two-bytes-requires : tie.Need-two-bytes-requires Inv-loop μ-loop
 two-bytes-requires c κs = omega (arith, header (c .before .before) .room)
 
-sub-rest : tie.Need-sub-rest Inv-loop μ-loop
-sub-rest c = omega (arith, header (c .before .before .before) .room)
-
-part-rest-start : tie.Need-part-rest-start Inv-loop μ-loop
-part-rest-start c = omega (arith, header (c .before .before .before) .room)
-
-part-rest-end : tie.Need-part-rest-end Inv-loop μ-loop
-part-rest-end c = omega (arith, header (c .before .before .before) .room)
+after-header-requires : tie.Need-after-header-requires Inv-loop μ-loop
+after-header-requires c κs = header (c .before .before .before) .room
 
 two-bytes-requires-2 : tie.Need-two-bytes-requires-2 Inv-loop μ-loop
 two-bytes-requires-2 c κs = omega (arith, header (c .before .before .before .before) .room)
-
 loop-holds : tie.Need-loop-holds Inv-loop μ-loop
-unfolding codeOf
+unfolding checksIn triplesFrom
 loop-holds c =
-    let s = c .before .before .before .before .before in
-    let b = s .args .code .now in
-    rw (part-from 6 b, c .two-bytes2 .ensures .0)
-    (record { numbered = numbered-start b (s .pre .0); entries = omega arith; left = refl; filled = refl })
+    let b = c .before .before .before .before .before .args .code .now in
+    rw (c .before .after-header .ensures, c .two-bytes2 .ensures .0) (record { numbered = numbered-start b; entries = refl; filled = refl })
 
--- the check at hand, and the list
-more : (c : tie.In-loop Inv-loop μ-loop) → c .before .loop .j < checkCount (c .before .before .before .before .before .before .before .args .code .now)
-more c = omega (arith, c .loop-test .taken, c .before .before .before .before .two-bytes .ensures .0)
-
-check-at : (c : tie.In-loop Inv-loop μ-loop)
-    → let s = c .before .before .before .before .before .before .before in
-    At (s .args .code .now) (c .before .loop .rest .now) (c .before .loop .next)
-check-at c =
-    let l = c .before in
-    let s = l .before .before .before .before .before .before in
-    numbered-at _ (s .pre .0) _ _ _ (l .loop .inv .numbered) (more c)
-
-room : (c : tie.In-loop Inv-loop μ-loop)
-    → let l = c .before .loop in
-    l .done + 3 * tripleCount (indices (l .rest .now)) ≤ length (c .before .before .before .before .before .before .before .args .triples .now)
-unfolding systemOf
-room c =
-    let l = c .before in
-    let s = l .before .before .before .before .before .before in
-    going-room _ _ (s .pre .0) (s .pre .1) _ _ _ _ _ (l .loop .inv) (more c)
-
+-- ---- the list, and the check at hand
 long : (c : tie.At-loop Inv-loop μ-loop) → length (c .loop .triples) ≡ length (c .before .before .before .before .before .before .args .triples .now)
 unfolding systemOf
-long c =
-    let s = c .before .before .before .before .before .before in
-    length-now _ _ (s .pre .0) (s .pre .1) _ _ _ _ _ (c .loop .inv)
+long c = let s = c .before .before .before .before .before .before in length-now _ (s .pre .0) _ (s .pre .1) _ _ _ _ _ (c .loop .inv)
 
-degree-requires : tie.Need-degree-requires Inv-loop μ-loop
-degree-requires c κs = omega (arith, check-at c)
+module _ (c : tie.In-loop Inv-loop μ-loop) where
+  abbrev s : tie.Start Inv-loop μ-loop
+  s = c .before .before .before .before .before .before .before
 
-mul-write-check : tie.Need-mul-write-check Inv-loop μ-loop
-mul-write-check c = omega (arith, room (c .before), long (c .before .before))
+  more : c .before .loop .j < checkCount (s .args .code .now)
+  more = omega (arith, c .loop-test .taken, c .before .before .before .before .two-bytes .ensures .0)
 
-sub-write-check : tie.Need-sub-write-check Inv-loop μ-loop
-sub-write-check c = omega (arith, room (c .before), long (c .before .before))
+  check-at : At (s .args .code .now) (c .before .loop .rest .now) (c .before .loop .next)
+  check-at = numbered-at _ _ _ _ (c .before .loop .inv .numbered) more (s .pre .0)
 
-part-write-check-start : tie.Need-part-write-check-start Inv-loop μ-loop
-part-write-check-start c = omega (arith, room (c .before), long (c .before .before))
-
-part-write-check-end : tie.Need-part-write-check-end Inv-loop μ-loop
-part-write-check-end c = omega (arith, room (c .before), long (c .before .before))
+  room : c .before .loop .done + 3 * tripleCount (indices (c .before .loop .rest .now)) ≤ length (s .args .triples .now)
+  unfolding systemOf
+  room = going-room _ (s .pre .0) _ (s .pre .1) _ _ _ _ _ (c .before .loop .inv) more
 
 write-check-requires : tie.Need-write-check-requires Inv-loop μ-loop
 write-check-requires c κs =
-    let a = check-at (c .before .before) in
-    let l = c .before .before .before in
-    (a .room, (a .check, (a .low, rw (part-from (l .loop .done) (l .loop .triples), length-drop (l .loop .done) (l .loop .triples)) (omega (arith, room (c .before .before), long l)))))
+    let a = check-at (c .before) in
+    let l = c .before .before .loop in
+    ((a .whole, a .check, a .low), rw (part-from (l .done) (l .triples), length-drop (l .done) (l .triples)) (omega (arith, room (c .before), long (c .before .before))))
 
-sub-done : tie.Need-sub-done Inv-loop μ-loop
-sub-done c = omega (arith, check-at (c .before .before .before .before .before), c .before .before .before .before .degree .ensures)
-
-mul-done : tie.Need-mul-done Inv-loop μ-loop
-mul-done c = omega (arith, check-at (c .before .before .before .before .before), c .before .before .before .before .degree .ensures)
+triple-count-requires : tie.Need-triple-count-requires Inv-loop μ-loop
+triple-count-requires c κs = omega (arith, check-at (c .before .before .before .before) .whole)
 
 add-done : tie.Need-add-done Inv-loop μ-loop
-add-done c = omega (arith, check-at (c .before .before .before .before .before), room (c .before .before .before .before .before), c .before .before .before .before .degree .ensures)
+add-done c = omega (arith, room (c .before .before .before .before .before), c .triple-count .ensures .1)
 
-sub-next : tie.Need-sub-next Inv-loop μ-loop
-sub-next c = omega (arith, check-at (c .before .before .before .before .before), c .before .before .before .before .degree .ensures)
+turns-requires : tie.Need-turns-requires Inv-loop μ-loop
+turns-requires c κs = omega (arith, check-at (c .before .before .before .before .before) .whole)
 
 add-next : tie.Need-add-next Inv-loop μ-loop
-add-next c = omega (arith, check-at (c .before .before .before .before .before), c .before .before .before .before .degree .ensures)
+add-next c = omega (arith, check-at (c .before .before .before .before .before .before) .low, c .turns .ensures .1)
 
-mul-rest : tie.Need-mul-rest Inv-loop μ-loop
-mul-rest c = omega (arith, check-at (c .before .before .before .before .before), c .before .before .before .before .degree .ensures)
-
-add-rest : tie.Need-add-rest Inv-loop μ-loop
-add-rest c = omega (arith, check-at (c .before .before .before .before .before), c .before .before .before .before .degree .ensures)
-
-sub-rest-2 : tie.Need-sub-rest-2 Inv-loop μ-loop
-sub-rest-2 c = omega (arith, check-at (c .before .before .before .before .before), c .before .before .before .before .degree .ensures)
-
-part-rest-start-2 : tie.Need-part-rest-start-2 Inv-loop μ-loop
-part-rest-start-2 c = omega (arith, check-at (c .before .before .before .before .before), c .before .before .before .before .degree .ensures)
-
-part-rest-end-2 : tie.Need-part-rest-end-2 Inv-loop μ-loop
-part-rest-end-2 c = omega (arith, check-at (c .before .before .before .before .before), c .before .before .before .before .degree .ensures)
-
-add-j : tie.Need-add-j Inv-loop μ-loop
-add-j c = omega (arith, c .before .before .before .before .before .before .loop-test .taken)
-
-loop-less : tie.Need-loop-less Inv-loop μ-loop
-loop-less c = omega (arith, c .before .before .before .before .before .before .loop-test .taken)
+after-check-requires : tie.Need-after-check-requires Inv-loop μ-loop
+after-check-requires c κs = check-at (c .before .before .before .before .before .before) .whole
 
 loop-again : tie.Need-loop-again Inv-loop μ-loop
 unfolding systemOf
 loop-again c =
-    let w = c .before .before .before in
-    let d = w .before .before in
-    let t = d .before in
+    let n = c .before in
+    let d = n .before in
+    let w = d .before .before .before in
+    let t = w .before .before in
     let l = t .before .loop in
-    let s = t .before .before .before .before .before .before .before in
-    (going-next _ _ (s .pre .0) (s .pre .1) _ _ _ _ _ (l .inv) _ _ _ _ (more t) (part-from (3 + 2 * d .degree .result) (l .rest .now) ∙ rw (d .degree .ensures .0))
-    (rw (part-from (l .done) (l .triples)) at (w .write-check .ensures))
-    (omega (arith, check-at t .long, d .degree .ensures .0)) (omega (arith, check-at t .least, check-at t .long, d .degree .ensures .0)))
-
-same-length : tie.Need-same-length Inv-loop μ-loop
-same-length c = long (c .before)
+    going-next _ (s t .pre .0) _ (s t .pre .1) _ _ _ _ _ (l .inv) _ _ _ _ (more t) (rw (part-from (l .done) (l .triples)) at (w .write-check .ensures))
+    (c .after-check .ensures) (omega (arith, n .turns .ensures .0)) (omega (arith, d .triple-count .ensures .0))
 
 returns : tie.Need-returns Inv-loop μ-loop
 unfolding systemOf codeOf
 returns c =
-    let l = c .before in
-    let s = l .before .before .before .before .before .before in
-    going-end _ _ (s .pre .0) (s .pre .1) _ _ _ _ _ (l .loop .inv) (omega (arith, c .loop-test .left, l .before .before .before .two-bytes .ensures .0))
+    let s = c .before .before .before .before .before .before .before in
+    going-end _ (s .pre .0) _ (s .pre .1) _ _ _ _ _ (c .before .loop .inv) (omega (arith, c .loop-test .left, c .before .before .before .before .two-bytes .ensures .0))
 
 pub write-triples-spec : {M : Type 1} → statement M
 write-triples-spec =
-    tie.close
-    (tie.spec
-    Inv-loop
-    μ-loop
-    two-bytes-requires
-    sub-rest
-    part-rest-start
-    part-rest-end
-    two-bytes-requires-2
-    loop-holds
-    degree-requires
-    mul-write-check
-    sub-write-check
-    part-write-check-start
-    part-write-check-end
-    write-check-requires
-    sub-done
-    mul-done
-    add-done
-    sub-next
-    add-next
-    mul-rest
-    add-rest
-    sub-rest-2
-    part-rest-start-2
-    part-rest-end-2
-    add-j
-    loop-less
-    loop-again
-    same-length
-    returns)
+    tie.close (tie.spec Inv-loop μ-loop two-bytes-requires after-header-requires two-bytes-requires-2 loop-holds
+    (λ c. omega (arith, room c, long (c .before))) (λ c. omega (arith, room c, long (c .before))) (λ c. omega (arith, room c, long (c .before)))
+    (λ c. search needs) write-check-requires triple-count-requires (λ c. search needs) add-done turns-requires add-next after-check-requires
+    (λ c. search needs) (λ c. search needs) loop-again (λ c. long (c .before)) returns)
