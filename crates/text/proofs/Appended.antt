@@ -6,7 +6,7 @@ use native.Mathlib.Numerals.{add-one}
 use native.Mathlib.Omega.{arith}
 use lib.ListN.{length, take, drop, set, length-append, length-drop, take-append-drop}
 use lib.Seq.{take-at, drop-at, drop-drop, length-take-le, set-split}
-use Rattle.lines.specs.Text.{Appended}
+use Rattle.text.specs.Appended.{Appended}
 
 pub none : (at : ℕ) (a : List ℕ) → at ≤ length a → Appended at [] a a at
 none at a h = let e : at + 0 ≡ at = omega arith in record { list = rw e (sym (take-append-drop at a)); ends = omega arith; fits = h }

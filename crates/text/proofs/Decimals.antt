@@ -8,7 +8,7 @@ use native.Mathlib.Nat.{div-lt-self, div-lt-iff-lt-mul}
 use borrow.Author.Tests.{ltb-false, lt-ltb, le-ltb}
 use lib.Dec.{ltb}
 use lib.ListN.{length, length-append}
-use Rattle.model.specs.Frames.{digits, decimal}
+use Rattle.model.specs.Text.{digits, decimal}
 
 -- more room changes nothing
 enough : (f g x : ℕ) → x < f → x < g → digits f x ≡ digits g x
@@ -24,18 +24,28 @@ enough (suc f) (suc g) x h k = by (ltb x 10) refl (enough f g (x / 10))
         let less = div-lt-self {n = x} {k = 10} (omega arith) (omega arith) in
         ap (λ (d : List ℕ). d ++ ((48 + x % 10) ∷ [])) (ih (omega arith) (omega arith))
 
-pub decimal-one : (x : ℕ) → x < 10 → decimal x ≡ (48 + x % 10) ∷ []
-unfolding decimal
-decimal-one x h = rw (lt-ltb x 10 h)
+-- the digits before the last
+abbrev pub leading : ℕ → List ℕ
+leading x = cond (ltb x 10) [] (decimal (x / 10))
 
-pub decimal-more : (x : ℕ) → 10 ≤ x → decimal x ≡ decimal (x / 10) ++ ((48 + x % 10) ∷ [])
-unfolding decimal
-decimal-more x h =
-    let less = div-lt-self {n = x} {k = 10} (omega arith) (omega arith) in
-    rw (le-ltb x 10 h, enough x (suc (x / 10)) (x / 10) less (omega arith))
+pub leading-none : (x : ℕ) → x < 10 → leading x ≡ []
+leading-none x h = rw (lt-ltb x 10 h)
 
-pub decimal-longer : (x : ℕ) → 10 ≤ x → length (decimal x) ≡ length (decimal (x / 10)) + 1
-decimal-longer x h = ap length (decimal-more x h) ∙ length-append (decimal (x / 10)) ((48 + x % 10) ∷ [])
+pub leading-more : (x : ℕ) → 10 ≤ x → leading x ≡ decimal (x / 10)
+leading-more x h = rw (le-ltb x 10 h)
+
+pub decimal-is : (x : ℕ) → decimal x ≡ leading x ++ ((48 + x % 10) ∷ [])
+unfolding decimal
+decimal-is x = by (ltb x 10) refl
+  where
+    by : (t : Bool) → ltb x 10 ≡ t → cond t [] (digits x (x / 10)) ++ ((48 + x % 10) ∷ []) ≡ cond t [] (digits (suc (x / 10)) (x / 10)) ++ ((48 + x % 10) ∷ [])
+    by true e = refl
+    by false e =
+        let more = ltb-false x 10 e in
+        rw (enough x (suc (x / 10)) (x / 10) (div-lt-self {n = x} {k = 10} (omega arith) (omega arith)) (omega arith))
+
+pub decimal-length : (x : ℕ) → length (decimal x) ≡ length (leading x) + 1
+decimal-length x = ap length (decimal-is x) ∙ length-append (leading x) ((48 + x % 10) ∷ [])
 
 few : (f d x : ℕ) → x < 10 ^ suc d → length (digits f x) ≤ suc d
 few zero d x h = omega arith

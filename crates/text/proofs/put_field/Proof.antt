@@ -1,13 +1,13 @@
--- `lines::put_field` meets its contract: the digits, then the byte. Assumes nothing.
+-- `text::put_field` meets its contract: the digits, then the byte. Assumes nothing.
 use Prim.Native.Nat.{_≤_}
 use native.Mathlib.Omega.{arith}
 use borrow.Author.Needs.{needs}
 use lib.ListN.{length}
-use Rattle.model.specs.Frames.{decimal}
-use Rattle.lines.proofs.Decimals.{decimal-few}
-use Rattle.lines.proofs.Text.{long, then}
-use Rattle.lines.proofs.put_field.Statement.{statement}
-use Rattle.lines.proofs.put_field.Tie as tie
+use Rattle.model.specs.Text.{decimal}
+use Rattle.text.proofs.Decimals.{decimal-few}
+use Rattle.text.proofs.Appended.{long, then}
+use Rattle.text.proofs.put_field.Statement.{statement}
+use Rattle.text.proofs.put_field.Tie as tie
 
 few : (s : tie.Start) → length (decimal (s .args .x)) ≤ 20
 few s = decimal-few (s .args .x) (omega (arith, s .fits))
@@ -22,9 +22,6 @@ put-requires c κs =
     let e = n .put-number .ensures in
     omega (arith, few s, s .pre, e .ends, long e)
 
-same-length : tie.Need-same-length
-same-length c = search needs
-
 returns : tie.Need-returns
 returns c =
     let p = c .before .before in
@@ -34,4 +31,4 @@ returns c =
     (then e (p .put .ensures), omega (arith, few s, e .ends, p .put .ensures .ends))
 
 pub put-field-spec : {M : Type 1} → statement M
-put-field-spec = tie.close (tie.spec put-number-requires put-requires same-length returns)
+put-field-spec = tie.close (tie.spec put-number-requires put-requires (λ c. search needs) returns)
