@@ -188,7 +188,12 @@ fn refused() {
     short(b"12 before 10", &code, plain, &[1, 2]);
     short(b"13 before 10", &code, plain, &[1, 2, -32768]);
     let other = b"LH\0\x03\0\x01LX\x03\0\0\0\x01\0\x02";
-    short(b"2 before 11, 12, 13 and 10", other, out_of_range, &[1, -32768]);
+    short(
+        b"2 before 11, 12, 13 and 10",
+        other,
+        out_of_range,
+        &[1, -32768],
+    );
 }
 
 // Frame 3, into lists of so many entries.

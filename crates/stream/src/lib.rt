@@ -161,7 +161,7 @@ pub fn read_frame(s: &[u8], bits: usize, costs: &mut [i16]) -> u32
         return cause;
     }
     write_costs(s, bits, costs);
-    if reflector::some_forbidden(&costs[..bits]) {
+    if inputs::some_forbidden(&costs[..bits]) {
         13
     } else {
         0

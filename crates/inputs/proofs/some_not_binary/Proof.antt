@@ -1,12 +1,12 @@
--- `reflector::some_not_binary` meets its contract: what was found, or is still to be found, decides. Assumes nothing.
+-- `inputs::some_not_binary` meets its contract: what was found, or is still to be found, decides. Assumes nothing.
 use mathlib.Core.Path.{refl}
 use Prim.Native.Nat.{_-_}
 use borrow.Author.Needs.{needs}
 use lib.ListN.{length}
 use Rattle.lists.proofs.Entries.{Found, found-next, found-end}
 use Rattle.model.specs.Calls.{notBinary}
-use Rattle.reflector.proofs.some_not_binary.Statement.{statement}
-use Rattle.reflector.proofs.some_not_binary.Tie as tie
+use Rattle.inputs.proofs.some_not_binary.Statement.{statement}
+use Rattle.inputs.proofs.some_not_binary.Tie as tie
 
 abbrev Inv-loop : tie.InvT-loop
 Inv-loop word found₀ i₀ found i = Found notBinary word found i
@@ -16,15 +16,6 @@ abbrev μ-loop : tie.MeasureT-loop
 
 loop-holds : tie.Need-loop-holds Inv-loop μ-loop
 loop-holds c = refl
-
-shared-slice-read-bit : tie.Need-shared-slice-read-bit Inv-loop μ-loop
-shared-slice-read-bit c = search needs
-
-add-i : tie.Need-add-i Inv-loop μ-loop
-add-i c = search needs
-
-loop-less : tie.Need-loop-less Inv-loop μ-loop
-loop-less c = search needs
 
 loop-again : tie.Need-loop-again Inv-loop μ-loop
 loop-again c =
@@ -37,6 +28,4 @@ returns c =
     found-end notBinary (l .before .args .word .now) (l .loop .found) (l .loop .i) (c .loop-test .left) (l .loop .inv)
 
 pub some-not-binary-spec : {M : Type 1} → statement M
-some-not-binary-spec =
-    tie.close
-    (tie.spec Inv-loop μ-loop loop-holds shared-slice-read-bit add-i loop-less loop-again returns)
+some-not-binary-spec = tie.close (tie.spec Inv-loop μ-loop loop-holds (λ c. search needs) (λ c. search needs) (λ c. search needs) loop-again returns)
