@@ -114,7 +114,7 @@ pub fn settings(s: &[u8]) -> Settings
 // ---- a frame record
 
 // A two-byte number as two's complement.
-fn twos_complement(x: usize) -> i16
+pub fn twos_complement(x: usize) -> i16
     requires { ⌜ x ≤ 65535 ⌝ }
     ensures { λ r. ⌜ r ≡ Frames.twosComplement x ⌝ }
 {
