@@ -4,7 +4,6 @@ ghost use mathlib.Core.List.{_++_};
 ghost use Prim.Native.Nat.{ℕ, _+_, _*_, _%_, _≤_, _<_};
 ghost use lib.ListN.{length, getD, take, drop};
 ghost use Rattle.lists.specs.Tabulated.{written};
-ghost use Rattle.model.specs.Causes.{firstOf};
 ghost use Rattle.model.specs.Code.{turns, variables};
 ghost use Rattle.model.specs.Records.{degree, indices, codeOf, judge};
 ghost use Rattle.model.specs.Sound.{SoundCheck};
@@ -12,7 +11,7 @@ ghost use Rattle.model.specs.Splitting.{queue};
 ghost use Rattle.model.specs.Words.{odd, firstOdd};
 ghost use Rattle.model.specs.Points as points;
 ghost use Rattle.model.specs.Points.{pointOf};
-ghost use Rattle.model.specs.Calls.{verdictTold, wordCauses};
+ghost use Rattle.model.specs.Calls.{verdictTold};
 ghost use Rattle.model.specs.Told.{verdictKind};
 ghost use Rattle.model.specs.Promises.{TestCall, ExtensionCall};
 use model::Reading;
@@ -51,19 +50,6 @@ pub fn first_odd(code: &[u8], checks: usize, word: &[u8]) -> usize
     checks
 }
 
-// The cause in the word of a code with so many bits, 0 for none.
-fn judge_word(word: &[u8], bits: usize) -> u32
-    ensures { λ r. ⌜ r ≡ firstOf (wordCauses bits (now (word .entry))) ⌝ }
-{
-    if word.len() != bits {
-        return 12;
-    }
-    if reflector::some_not_binary(word) {
-        return 15;
-    }
-    0
-}
-
 // The codeword test: whether the word is a codeword, the first check with an odd sum, or the first cause.
 pub fn test(code: &[u8], word: &[u8]) -> Verdict
     ensures call { λ r. ⌜ TestCall (now (code .entry)) (now (word .entry)) (verdictTold r) ⌝ }
@@ -76,7 +62,7 @@ pub fn test(code: &[u8], word: &[u8]) -> Verdict
             checks,
             triples: _,
         } => {
-            let cause = judge_word(word, bits);
+            let cause = inputs::judge_word(word, bits);
             if cause != 0 {
                 return Verdict::Refused(cause);
             }
@@ -157,7 +143,7 @@ pub fn extend(code: &[u8], word: &[u8], point: &mut [u8]) -> Verdict
             checks,
             triples,
         } => {
-            let cause = judge_word(word, bits);
+            let cause = inputs::judge_word(word, bits);
             if cause != 0 {
                 return Verdict::Refused(cause);
             }

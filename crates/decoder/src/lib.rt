@@ -26,14 +26,6 @@ use model::Settings;
 
 // ---- the causes
 
-// 11: a setting out of its range.
-fn out_of_range(settings: Settings) -> bool
-    ensures { λ r. ⌜ r ≡ Calls.outOfRange settings ⌝ }
-{
-    ((settings.weight < 1) | (65535 < settings.weight))
-        | ((1023 < settings.ratio) | ((settings.limit < 1) | (1000 < settings.limit)))
-}
-
 // The lengths of the lent lists.
 struct Room {
     triples: usize,
@@ -63,13 +55,13 @@ fn cause(settings: Settings, costs: &[i16], bits: usize, short: bool) -> u32
         13 if some forbidden (now (costs .entry)) ∷ 10 if short ∷ []) ⌝ }
     ensures { λ r. ⌜ (r ≡ 0 → Small (now (costs .entry))) ⌝ }
 {
-    if out_of_range(settings) {
+    if inputs::out_of_range(settings) {
         return 11;
     }
     if costs.len() != bits {
         return 12;
     }
-    if reflector::some_forbidden(costs) {
+    if inputs::some_forbidden(costs) {
         return 13;
     }
     if short { 10 } else { 0 }

@@ -1,83 +1,81 @@
 // The codeword test and the extension: on the code of three bits with the check (0,1,2), on that of five bits with one check, whose
 // auxiliaries are 5 and 6, and on that of five bits with the checks (0,1,2,3) and (0,2,3,4), which have one auxiliary each.
 use crate::codes;
-use crate::examples::Example;
-use crate::examples::each;
-use crate::show::extending;
+use crate::example::Example;
+use crate::example::extending;
+use crate::show::text;
 use crate::show::title;
-
-fn three(label: &[u8], word: &[u8], room: usize) {
-    let code = b"LH\0\x03\0\x01LC\x03\0\0\0\x01\0\x02";
-    extending(label, code, word, room);
-}
-
-fn five(label: &[u8], word: &[u8], room: usize) {
-    let code = b"LH\0\x05\0\x01LC\x05\0\0\0\x01\0\x02\0\x03\0\x04";
-    extending(label, code, word, room);
-}
-
-fn two_checks(label: &[u8], word: &[u8], room: usize) {
-    let code = b"LH\0\x05\0\x02LC\x04\0\0\0\x01\0\x02\0\x03LC\x04\0\0\0\x02\0\x03\0\x04";
-    extending(label, code, word, room);
-}
+use crate::table::each;
 
 fn codewords() {
-    three(b"000", &[0, 0, 0], 3);
-    three(b"011", &[0, 1, 1], 3);
-    three(b"101", &[1, 0, 1], 3);
-    three(b"110", &[1, 1, 0], 3);
-    five(b"00000", &[0, 0, 0, 0, 0], 7);
-    five(b"11000", &[1, 1, 0, 0, 0], 7);
-    five(b"10100", &[1, 0, 1, 0, 0], 7);
-    five(b"01001", &[0, 1, 0, 0, 1], 7);
-    five(b"00011", &[0, 0, 0, 1, 1], 7);
-    five(b"11110", &[1, 1, 1, 1, 0], 7);
-    two_checks(b"two checks, 11001", &[1, 1, 0, 0, 1], 7);
-    two_checks(b"two checks, 01101", &[0, 1, 1, 0, 1], 7);
-    two_checks(b"two checks, 00110", &[0, 0, 1, 1, 0], 7);
+    each(
+        b"000|LH\0\x03\0\x01LC\x03\0\0\0\x01\0\x02|\0\0\0|3\n\
+        011|LH\0\x03\0\x01LC\x03\0\0\0\x01\0\x02|\0\x01\x01|3\n\
+        101|LH\0\x03\0\x01LC\x03\0\0\0\x01\0\x02|\x01\0\x01|3\n\
+        110|LH\0\x03\0\x01LC\x03\0\0\0\x01\0\x02|\x01\x01\0|3\n\
+        00000|LH\0\x05\0\x01LC\x05\0\0\0\x01\0\x02\0\x03\0\x04|\0\0\0\0\0|7\n\
+        11000|LH\0\x05\0\x01LC\x05\0\0\0\x01\0\x02\0\x03\0\x04|\x01\x01\0\0\0|7\n\
+        10100|LH\0\x05\0\x01LC\x05\0\0\0\x01\0\x02\0\x03\0\x04|\x01\0\x01\0\0|7\n\
+        01001|LH\0\x05\0\x01LC\x05\0\0\0\x01\0\x02\0\x03\0\x04|\0\x01\0\0\x01|7\n\
+        00011|LH\0\x05\0\x01LC\x05\0\0\0\x01\0\x02\0\x03\0\x04|\0\0\0\x01\x01|7\n\
+        11110|LH\0\x05\0\x01LC\x05\0\0\0\x01\0\x02\0\x03\0\x04|\x01\x01\x01\x01\0|7\n\
+        two checks, 11001|LH\0\x05\0\x02LC\x04\0\0\0\x01\0\x02\0\x03LC\x04\0\0\0\x02\0\x03\0\x04|\x01\x01\0\0\x01|7\n\
+        two checks, 01101|LH\0\x05\0\x02LC\x04\0\0\0\x01\0\x02\0\x03LC\x04\0\0\0\x02\0\x03\0\x04|\0\x01\x01\0\x01|7\n\
+        two checks, 00110|LH\0\x05\0\x02LC\x04\0\0\0\x01\0\x02\0\x03LC\x04\0\0\0\x02\0\x03\0\x04|\0\0\x01\x01\0|7\n",
+        Example::Extending,
+    );
 }
 
 fn odd() {
-    three(b"100", &[1, 0, 0], 3);
-    three(b"111", &[1, 1, 1], 3);
-    five(b"00001", &[0, 0, 0, 0, 1], 7);
-    five(b"11111", &[1, 1, 1, 1, 1], 7);
-    two_checks(b"two checks, the first odd", &[0, 1, 0, 0, 0], 7);
-    two_checks(b"two checks, the second odd", &[0, 0, 0, 0, 1], 7);
-    two_checks(b"two checks, both odd", &[1, 0, 0, 0, 0], 7);
+    each(
+        b"100|LH\0\x03\0\x01LC\x03\0\0\0\x01\0\x02|\x01\0\0|3\n\
+        111|LH\0\x03\0\x01LC\x03\0\0\0\x01\0\x02|\x01\x01\x01|3\n\
+        00001|LH\0\x05\0\x01LC\x05\0\0\0\x01\0\x02\0\x03\0\x04|\0\0\0\0\x01|7\n\
+        11111|LH\0\x05\0\x01LC\x05\0\0\0\x01\0\x02\0\x03\0\x04|\x01\x01\x01\x01\x01|7\n\
+        two checks, the first odd|LH\0\x05\0\x02LC\x04\0\0\0\x01\0\x02\0\x03LC\x04\0\0\0\x02\0\x03\0\x04|\0\x01\0\0\0|7\n\
+        two checks, the second odd|LH\0\x05\0\x02LC\x04\0\0\0\x01\0\x02\0\x03LC\x04\0\0\0\x02\0\x03\0\x04|\0\0\0\0\x01|7\n\
+        two checks, both odd|LH\0\x05\0\x02LC\x04\0\0\0\x01\0\x02\0\x03LC\x04\0\0\0\x02\0\x03\0\x04|\x01\0\0\0\0|7\n",
+        Example::Extending,
+    );
 }
 
 fn words() {
-    three(b"a word too short", &[0, 1], 3);
-    three(b"a word too long", &[0, 1, 1, 0], 4);
-    three(b"an entry 2", &[0, 2, 0], 3);
-    three(b"an entry 255", &[255, 1, 0], 3);
-    three(b"12 before 15", &[0, 2], 3);
-    three(b"12 before 10", &[0, 1], 2);
-    three(b"15 before 10", &[0, 2, 0], 2);
-    three(b"15 before 17", &[1, 0, 2], 3);
+    each(
+        b"a word too short|LH\0\x03\0\x01LC\x03\0\0\0\x01\0\x02|\0\x01|3\n\
+        a word too long|LH\0\x03\0\x01LC\x03\0\0\0\x01\0\x02|\0\x01\x01\0|4\n\
+        an entry 2|LH\0\x03\0\x01LC\x03\0\0\0\x01\0\x02|\0\x02\0|3\n\
+        an entry 255|LH\0\x03\0\x01LC\x03\0\0\0\x01\0\x02|\xff\x01\0|3\n\
+        12 before 15|LH\0\x03\0\x01LC\x03\0\0\0\x01\0\x02|\0\x02|3\n\
+        12 before 10|LH\0\x03\0\x01LC\x03\0\0\0\x01\0\x02|\0\x01|2\n\
+        15 before 10|LH\0\x03\0\x01LC\x03\0\0\0\x01\0\x02|\0\x02\0|2\n\
+        15 before 17|LH\0\x03\0\x01LC\x03\0\0\0\x01\0\x02|\x01\0\x02|3\n",
+        Example::Extending,
+    );
 }
 
 fn lengths() {
-    three(b"a longer point list", &[0, 1, 1], 5);
-    three(b"a short point list", &[0, 1, 1], 2);
-    three(b"10 before 17", &[1, 0, 0], 2);
-    five(b"five bits, a longer point list", &[1, 0, 1, 0, 0], 9);
-    five(b"five bits, a short point list", &[1, 0, 1, 0, 0], 6);
-    five(b"five bits, 10 before 17", &[0, 0, 0, 0, 1], 6);
+    each(
+        b"a longer point list|LH\0\x03\0\x01LC\x03\0\0\0\x01\0\x02|\0\x01\x01|5\n\
+        a short point list|LH\0\x03\0\x01LC\x03\0\0\0\x01\0\x02|\0\x01\x01|2\n\
+        10 before 17|LH\0\x03\0\x01LC\x03\0\0\0\x01\0\x02|\x01\0\0|2\n\
+        five bits, a longer point list|LH\0\x05\0\x01LC\x05\0\0\0\x01\0\x02\0\x03\0\x04|\x01\0\x01\0\0|9\n\
+        five bits, a short point list|LH\0\x05\0\x01LC\x05\0\0\0\x01\0\x02\0\x03\0\x04|\x01\0\x01\0\0|6\n\
+        five bits, 10 before 17|LH\0\x05\0\x01LC\x05\0\0\0\x01\0\x02\0\x03\0\x04|\0\0\0\0\x01|6\n",
+        Example::Extending,
+    );
 }
 
 fn causes_of_the_code() {
     each(
-        b"1 before 12, 15 and 10|LH\0\x03\0\x01|\
-        2 before 12, 15 and 10|LH\0\x03\0\x01LX\x03\0\0\0\x01\0\x02|\
-        3 before 12, 15 and 10|LH\0\x02\0\x01LC\x03\0\0\0\x01\0\x02|\
-        4 before 12, 15 and 10|LH\0\x03\0\x01LC\x02\0\0\0\x01|\
-        5 before 12, 15 and 10|LH\0\x03\0\x01LC\x03\0\0\0\x01\0\x03|\
-        6 before 12, 15 and 10|LH\0\x03\0\x01LC\x03\0\0\0\x01\0\x01|\
-        8 before 12, 15 and 10|LH\0\x04\0\x01LC\x03\0\0\0\x01\0\x02|\
-        9 before 12, 15 and 10|LH\0\x03\0\x01LC\x03\0\0\0\x01\0\x02\0|\
-        12 before 15 and 10|LH\0\x03\0\x01LC\x03\0\0\0\x01\0\x02|",
+        b"1 before 12, 15 and 10|LH\0\x03\0\x01|\x02|1\n\
+        2 before 12, 15 and 10|LH\0\x03\0\x01LX\x03\0\0\0\x01\0\x02|\x02|1\n\
+        3 before 12, 15 and 10|LH\0\x02\0\x01LC\x03\0\0\0\x01\0\x02|\x02|1\n\
+        4 before 12, 15 and 10|LH\0\x03\0\x01LC\x02\0\0\0\x01|\x02|1\n\
+        5 before 12, 15 and 10|LH\0\x03\0\x01LC\x03\0\0\0\x01\0\x03|\x02|1\n\
+        6 before 12, 15 and 10|LH\0\x03\0\x01LC\x03\0\0\0\x01\0\x01|\x02|1\n\
+        8 before 12, 15 and 10|LH\0\x04\0\x01LC\x03\0\0\0\x01\0\x02|\x02|1\n\
+        9 before 12, 15 and 10|LH\0\x03\0\x01LC\x03\0\0\0\x01\0\x02\0|\x02|1\n\
+        12 before 15 and 10|LH\0\x03\0\x01LC\x03\0\0\0\x01\0\x02|\x02|1\n",
         Example::Extending,
     );
 }
@@ -85,7 +83,9 @@ fn causes_of_the_code() {
 fn many_triples() {
     let mut code = io::large_buffer();
     let n = codes::large(&mut code, 32, b"LC\x03\0\0\0\x01\0\x02");
-    extending(b"7 before 12, 15 and 10", &code[0..n], &[2], 1);
+    text(b"7 before 12, 15 and 10:");
+    extending(&code[0..n], b"\x02", b"1");
+    text(b"\n");
 }
 
 pub fn run() {

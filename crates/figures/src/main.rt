@@ -3,12 +3,13 @@
 mod codes;
 mod codewords;
 mod decoding;
-mod examples;
+mod example;
 mod front;
 mod reader;
 mod reflection;
 mod show;
 mod splitting;
+mod table;
 
 fn main() {
     reader::run();

@@ -13,6 +13,7 @@ pub mod Points
 pub mod Reflection
 pub mod Channel
 pub mod Calls
+pub mod Text
 -- statements about them
 pub mod Sound
 pub mod RecordClaims

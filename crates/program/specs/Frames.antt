@@ -1,7 +1,7 @@
 -- Document 01, 'The frame program': what it writes for a whole input. Definitions only.
 use mathlib.Core.Bool.{not, cond}
 use mathlib.Core.List.{List, [], _∷_, _++_, map}
-use Prim.Native.Nat.{ℕ, zero, suc, _+_, _-_, _*_, _/_, _%_}
+use Prim.Native.Nat.{ℕ, zero, suc, _+_, _-_, _*_}
 use lib.Dec.{ltb, eqb}
 use lib.IntN.{ℤ, pos, negsuc}
 use lib.ListN.{length, drop}
@@ -15,6 +15,7 @@ use Rattle.model.specs.Records.{twoBytes, numbers, bitCount, checkCount, indice
 use Rattle.model.specs.Splitting.{systemOf}
 use Rattle.model.specs.Run.{run}
 use Rattle.model.specs.Calls.{forbidden, Lists, Answer, decodedBy}
+use Rattle.model.specs.Text.{decimal}
 
 -- ---- code records: "It holds 1,024 triples and 512 bits: a sound header with more bits, or the sound check that brings more triples,
 -- gets R 10 right there."
@@ -71,14 +72,6 @@ unfoldable pub judgeFrame : ℕ → List ℕ → ℕ
 judgeFrame n s = firstOf (judgeWhole n s ∷ 13 if some forbidden (costsOf n s) ∷ [])
 
 -- ---- lines, in ASCII
--- the decimal digits of x, the first not 0 unless it stands alone; at most so many, of which there are never more than x + 1
-abbrev pub digits : ℕ → ℕ → List ℕ
-digits zero x = []
-digits (suc most) x = cond (ltb x 10) [] (digits most (x / 10)) ++ ((48 + x % 10) ∷ [])
-
-unfoldable pub decimal : ℕ → List ℕ
-decimal x = digits (suc x) x
-
 abbrev pub glyph : ℕ → ℕ
 glyph b = cond (eqb b 0) 48 49
 

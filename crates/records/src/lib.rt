@@ -1,28 +1,25 @@
 // The reader of code records (document 01, 'Code records').
 ghost use mathlib.Core.Path.{_≡_};
-ghost use Prim.Native.Nat.{_+_, _-_, _≤_, _<_};
+ghost use Prim.Native.Nat.{_+_, _-_, _*_, _≤_, _<_};
 ghost use lib.ListN.{length, getD, drop};
 ghost use Rattle.model.specs.Causes.{outside};
 ghost use Rattle.model.specs.Limits.{mostBits, mostChecks};
 ghost use Rattle.model.specs.Code.{turns, tripleCount};
 ghost use Rattle.model.specs.Records.{twoBytes, degree, indices, afterCheck, checksIn, covered, judgeHeader, judgeIndices, judgeCheck, judgeChecks};
+ghost use Rattle.model.specs.Records.{two, bytesOf, recordOf, recordSize};
 ghost use Rattle.model.specs.Calls.{readingTold};
 ghost use Rattle.model.specs.Told.{readingKind};
 ghost use Rattle.model.specs.Promises.{ReaderCall};
 ghost use Rattle.records.specs.Judged.{Whole, Judged};
 ghost use Rattle.records.specs.Marks.{allMarked, Marks};
+ghost use Rattle.records.specs.Written.{headerOf};
+ghost use Rattle.text.specs.Appended.{Appended};
+use model::LEAST_DEGREE;
+use model::MOST_BITS;
+use model::MOST_CHECKS;
+use model::MOST_DEGREE;
+use model::MOST_TRIPLES;
 use model::Reading;
-
-// The limits of document 01.
-pub const MOST_BITS: usize = 4096;
-
-pub const MOST_CHECKS: usize = 2048;
-
-pub const LEAST_DEGREE: usize = 3;
-
-pub const MOST_DEGREE: usize = 32;
-
-pub const MOST_TRIPLES: usize = 8192;
 
 pub fn wide(x: u8) -> usize
     ensures { λ r. ⌜ (r ≡ x) × (r ≤ 255) ⌝ }
@@ -275,4 +272,53 @@ pub fn read(code: &[u8]) -> Reading
         checks,
         triples,
     }
+}
+
+// ---- the writer
+
+fn index(x: u16) -> usize
+    ensures { λ r. ⌜ (r ≡ x) × (r ≤ 65535) ⌝ }
+{
+    x as usize
+}
+
+// A two-byte number, from `at` on; where the next byte goes.
+pub fn write_two_bytes(x: usize, out: &mut [u8], at: usize) -> usize
+    requires { ⌜ (x ≤ 65535) × (at + 2 ≤ length (now out)) ⌝ }
+    ensures { λ r. ⌜ Appended at (two x) (now (out .entry)) (now (out .exit)) r ⌝ }
+{
+    let low = text::put((x / 256) as u8, out, at);
+    text::put((x % 256) as u8, out, low)
+}
+
+// The header of a code; where its first check goes.
+pub fn write_header(bits: usize, checks: usize, out: &mut [u8]) -> usize
+    requires { ⌜ (bits ≤ 65535) × (checks ≤ 65535) × (6 ≤ length (now out)) ⌝ }
+    ensures { λ r. ⌜ Appended 0 (headerOf bits checks) (now (out .entry)) (now (out .exit)) r ⌝ }
+{
+    let n = write_two_bytes(0x4c48, out, 0);
+    let m = write_two_bytes(bits, out, n);
+    write_two_bytes(checks, out, m)
+}
+
+// Indices, two bytes each, from `at` on; where the next byte goes.
+fn write_indices(indices: &[u16], out: &mut [u8], at: usize) -> usize
+    requires { ⌜ at + 2 * length (now indices) ≤ length (now out) ⌝ }
+    ensures { λ r. ⌜ Appended at (bytesOf (now (indices .entry))) (now (out .entry)) (now (out .exit)) r ⌝ }
+{
+    let mut next = at;
+    for i in 0..indices.len() {
+        next = write_two_bytes(index(indices[i]), out, next);
+    }
+    next
+}
+
+// The record of a check with these indices, from `at` on; where the next byte goes.
+pub fn write_check(indices: &[u16], out: &mut [u8], at: usize) -> usize
+    requires { ⌜ (length (now indices) ≤ 255) × (at + recordSize (now indices) ≤ length (now out)) ⌝ }
+    ensures { λ r. ⌜ Appended at (recordOf (now (indices .entry))) (now (out .entry)) (now (out .exit)) r ⌝ }
+{
+    let degree = write_two_bytes(0x4c43, out, at);
+    let first = text::put(indices.len() as u8, out, degree);
+    write_indices(indices, out, first)
 }

@@ -140,8 +140,8 @@ module _ (T : ℕ) (ts : List ℕ) (c : List ℤ) where
         let e : n + m ≡ T - t = omega arith in
         let same : (j : ℕ) → j < m → changesAt side s′ (t + n + j) ≡ changesAt side s (t + (n + j))
         = λ j _. let g : t + (n + j) ≡ t + n + j = omega arith in
-            rw g (sumℕ-same 4 (λ r. changeOf side (row s′ (t + n + j) r) (new s′ (4 * (t + n + j) + r))) (λ r. changeOf side (row s (t + n + j) r) (new s (4 * (t + n + j) + r)))
-            (λ r _. rw (kept (4 * (t + n + j) + r) (omega arith)))) in
+        rw g (sumℕ-same 4 (λ r. changeOf side (row s′ (t + n + j) r) (new s′ (4 * (t + n + j) + r))) (λ r. changeOf side (row s (t + n + j) r) (new s (4 * (t + n + j) + r)))
+        (λ r _. rw (kept (4 * (t + n + j) + r) (omega arith)))) in
         ap (λ (x : ℕ). sumℕ n (λ j. changesAt side s (t + j)) + x) (sumℕ-same m (λ j. changesAt side s′ (t + n + j)) (λ j. changesAt side s (t + (n + j))) same)
         ∙ sym (sumℕ-split n m (λ j. changesAt side s (t + j)))
         ∙ ap (λ (k : ℕ). sumℕ k (λ j. changesAt side s (t + j))) e
@@ -218,9 +218,12 @@ module _ (T : ℕ) (ts : List ℕ) (c : List ℤ) where
   module _ (few : T ≤ mostTriples) (unit-most : (v : ℕ) → natAbs (at c v) ≤ unit) where
     most : (side : ℤ) → ((z : ℤ) (t r : ℕ) → r < 4 → Small z → changeOf side z (renewed z (sumAt ts c t r)) ≤ 4294967296) → (s : List ℤ) → Left T 0 s → changesFrom T ts c side 0 s ≤ 2 ^ 47
     most side one s left =
-        omega (arith, sumℕ-bound (T - 0) (4 * 4294967296) (λ j. changesAt side s (0 + j)) (λ j _.
-        sumℕ-bound 4 4294967296 (λ r. changeOf side (row s (0 + j) r) (new s (4 * (0 + j) + r))) (λ r _.
-        one (row s (0 + j) r) (place T (4 * (0 + j) + r) / 4) (place T (4 * (0 + j) + r) % 4) (omega arith) (left .small (4 * (0 + j) + r) (omega arith)))))
+        omega (
+          arith,
+          sumℕ-bound (T - 0) (4 * 4294967296) (λ j. changesAt side s (0 + j)) (λ j _.
+              sumℕ-bound 4 4294967296 (λ r. changeOf side (row s (0 + j) r) (new s (4 * (0 + j) + r))) (λ r _.
+              one (row s (0 + j) r) (place T (4 * (0 + j) + r) / 4) (place T (4 * (0 + j) + r) % 4) (omega arith) (left .small (4 * (0 + j) + r) (omega arith)))),
+        )
 
     pub totals-small : {u a b : ℕ} {s s′ : List ℤ} → Left T 0 s → Renewed T ts c 0 u s s′ 0 a 0 b → (a ≤ 2 ^ 47) × (b ≤ 2 ^ 47)
     totals-small {s} left r =

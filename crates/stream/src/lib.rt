@@ -114,7 +114,7 @@ pub fn settings(s: &[u8]) -> Settings
 // ---- a frame record
 
 // A two-byte number as two's complement.
-fn twos_complement(x: usize) -> i16
+pub fn twos_complement(x: usize) -> i16
     requires { ⌜ x ≤ 65535 ⌝ }
     ensures { λ r. ⌜ r ≡ Frames.twosComplement x ⌝ }
 {
@@ -161,7 +161,7 @@ pub fn read_frame(s: &[u8], bits: usize, costs: &mut [i16]) -> u32
         return cause;
     }
     write_costs(s, bits, costs);
-    if reflector::some_forbidden(&costs[..bits]) {
+    if inputs::some_forbidden(&costs[..bits]) {
         13
     } else {
         0

@@ -2,7 +2,7 @@
 use mathlib.Core.Path.{_∙_}
 use native.Mathlib.Omega.{arith}
 use lib.ListN.{length-take}
-use Rattle.lines.proofs.Text.{lent, counted}
+use Rattle.text.proofs.Appended.{lent, counted}
 use Rattle.program.specs.FrameClaims.{Room}
 use Rattle.answers.proofs.Answers.{answered}
 use borrow.Author.Needs.{needs}
@@ -22,7 +22,9 @@ slice-aggregate-line : tie.Need-slice-aggregate-line
 slice-aggregate-line c = simp length-take (omega (arith, c .before .before .before .before .before .before .before .before .before .before .before .pre))
 
 line-requires : tie.Need-line-requires
-line-requires c κs = simp length-take (omega (arith, c .before .before .before .before .before .before .before .before .before .before .before .before .pre))
+line-requires c κs =
+    let d = c .before .before .before .before in
+    (d .decode .ensures .1, simp length-take (omega (arith, d .before .before .before .before .before .before .before .before .pre)))
 
 returns : tie.Need-returns
 returns c =

@@ -2,7 +2,7 @@
 use mathlib.Core.Path.{_≡_, sym, ap, _∙_}
 use native.Mathlib.Omega.{arith}
 use lib.ListN.{length, take, length-take}
-use Rattle.lines.proofs.Text.{lent, counted}
+use Rattle.text.proofs.Appended.{lent, counted}
 use Rattle.model.specs.Records.{codeOf}
 use Rattle.program.specs.Frames.{costsOf, judgeFrame, frameLine}
 use Rattle.program.proofs.Frames as Frames

@@ -1,81 +1,41 @@
--- `lines::line` meets its contract: the values of each case. Assumes nothing.
+-- `lines::line` meets its contract: each case has its letter, and a refusal's number is none of an outcome. Assumes nothing.
+use mathlib.Core.Path.{_≡_, subst}
+use mathlib.Core.List.{List}
+use Prim.Native.Nat.{ℕ}
+use native.Mathlib.Omega.{arith}
 use borrow.Author.Needs.{needs}
+use borrow.Author.Tests.{ne-eqb}
+use Rattle.model.specs.declared.Decoding.{Decoding}
+use Rattle.model.specs.Calls.{decodingTold}
+use Rattle.program.specs.Frames.{refusal, spaced, line}
+use Rattle.model.specs.Told.{Refuses, decodingKind}
 use Rattle.lines.proofs.line.Statement.{statement}
 use Rattle.lines.proofs.line.Tie as tie
 
-enum-known-decoding : tie.Need-enum-known-decoding
-enum-known-decoding c = search needs
-
-answer-line-requires : tie.Need-answer-line-requires
-answer-line-requires c κs = search needs
-
-enum-known-decoding-2 : tie.Need-enum-known-decoding-2
-enum-known-decoding-2 c = search needs
-
-answer-line-requires-2 : tie.Need-answer-line-requires-2
-answer-line-requires-2 c κs = search needs
-
-enum-known-decoding-3 : tie.Need-enum-known-decoding-3
-enum-known-decoding-3 c = search needs
-
-answer-line-requires-3 : tie.Need-answer-line-requires-3
-answer-line-requires-3 c κs = search needs
-
-enum-known-decoding-4 : tie.Need-enum-known-decoding-4
-enum-known-decoding-4 c = search needs
-
-answer-line-requires-4 : tie.Need-answer-line-requires-4
-answer-line-requires-4 c κs = search needs
-
-same-length : tie.Need-same-length
-same-length c = search needs
-
 returns : tie.Need-returns
-returns c =
-    let p = c .before .before in
-    rw (p .before .before .before .decoding .given .1) (p .answer-line .ensures)
-
-same-length-2 : tie.Need-same-length-2
-same-length-2 c = search needs
+unfolding line spaced
+returns c = let p = c .before .before in rw (p .before .before .before .decoding .given .1) (p .word-line .ensures)
 
 returns-2 : tie.Need-returns-2
-returns-2 c =
-    let p = c .before .before in
-    rw (p .before .before .before .decoding2 .given .1) (p .answer-line2 .ensures)
-
-same-length-3 : tie.Need-same-length-3
-same-length-3 c = search needs
+unfolding line spaced
+returns-2 c = let p = c .before .before in rw (p .before .before .before .decoding2 .given .1) (p .place-line .ensures)
 
 returns-3 : tie.Need-returns-3
-returns-3 c =
-    let p = c .before .before in
-    rw (p .before .before .before .decoding3 .given .1) (p .answer-line3 .ensures)
+unfolding line spaced
+returns-3 c = let p = c .before .before in rw (p .before .before .before .decoding3 .given .1) (p .place-line2 .ensures)
 
-same-length-4 : tie.Need-same-length-4
-same-length-4 c = search needs
+refused : (c : ℕ) (w : List ℕ) → Refuses c → line (decodingTold (Decoding.Refused c)) w ≡ refusal c
+unfolding line
+refused c w h = rw (ne-eqb c 0 (λ e. omega arith), ne-eqb c 16 (λ e. omega arith), ne-eqb c 17 (λ e. omega arith))
 
 returns-4 : tie.Need-returns-4
 returns-4 c =
     let p = c .before .before in
-    rw (p .before .before .before .decoding4 .given .1) (p .answer-line4 .ensures)
+    let e = p .before .before .before .decoding4 .given .1 in
+    let s = p .before .before .before .before .before .before .before in
+    rw (e, refused _ (s .args .word .now) (subst decodingKind e (s .pre .0))) (p .refusal .ensures)
 
 pub line-spec : {M : Type 1} → statement M
 line-spec =
-    tie.close
-    (tie.spec
-    enum-known-decoding
-    answer-line-requires
-    enum-known-decoding-2
-    answer-line-requires-2
-    enum-known-decoding-3
-    answer-line-requires-3
-    enum-known-decoding-4
-    answer-line-requires-4
-    same-length
-    returns
-    same-length-2
-    returns-2
-    same-length-3
-    returns-3
-    same-length-4
-    returns-4)
+    tie.close (tie.spec (λ c. search needs) (λ c κs. search needs) (λ c. search needs) (λ c κs. search needs) (λ c. search needs) (λ c κs. search needs)
+    (λ c. search needs) (λ c κs. search needs) (λ c. search needs) returns (λ c. search needs) returns-2 (λ c. search needs) returns-3 (λ c. search needs) returns-4)

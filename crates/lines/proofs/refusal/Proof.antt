@@ -1,18 +1,9 @@
 -- `lines::refusal` meets its contract: the letter, then the number. Assumes nothing.
 use borrow.Author.Needs.{needs}
 use Rattle.program.specs.Frames.{refusal}
-use Rattle.lines.proofs.Text.{then}
+use Rattle.text.proofs.Appended.{then}
 use Rattle.lines.proofs.refusal.Statement.{statement}
 use Rattle.lines.proofs.refusal.Tie as tie
-
-put-letter-requires : tie.Need-put-letter-requires
-put-letter-requires c κs = search needs
-
-put-field-requires : tie.Need-put-field-requires
-put-field-requires c κs = search needs
-
-same-length : tie.Need-same-length
-same-length c = search needs
 
 returns : tie.Need-returns
 unfolding refusal
@@ -22,4 +13,4 @@ returns c =
     then (l .put-letter .ensures .0) (f .put-field .ensures .0)
 
 pub refusal-spec : {M : Type 1} → statement M
-refusal-spec = tie.close (tie.spec put-letter-requires put-field-requires same-length returns)
+refusal-spec = tie.close (tie.spec (λ c κs. search needs) (λ c κs. search needs) (λ c. search needs) returns)

@@ -5,16 +5,10 @@ use native.Mathlib.Omega.{arith}
 use borrow.Author.Needs.{needs}
 use lib.ListN.{length, length-map}
 use Rattle.program.specs.Frames.{glyph, opening}
-use Rattle.lines.specs.Text.{Appended}
-use Rattle.lines.proofs.Text.{long, then}
+use Rattle.text.specs.Appended.{Appended}
+use Rattle.text.proofs.Appended.{long, then}
 use Rattle.lines.proofs.word_line.Statement.{statement}
 use Rattle.lines.proofs.word_line.Tie as tie
-
-begin-requires : tie.Need-begin-requires
-begin-requires c κs = search needs
-
-put-bits-requires : tie.Need-put-bits-requires
-put-bits-requires c κs = search needs
 
 -- the line without its end
 module _ (c : tie.After-put-bits) where
@@ -38,9 +32,6 @@ put-requires c κs =
     let b = c .before .before .before in
     omega (arith, room b, long (so-far b))
 
-same-length : tie.Need-same-length
-same-length c = search needs
-
 returns : tie.Need-returns
 returns c =
     let p = c .before .before in
@@ -49,5 +40,4 @@ returns c =
     rw (← append-assoc (opening 87 (a .ending .k) (a .ending .settled)) (map glyph (a .word .now)) (10 ∷ [])) (then (so-far b) (p .put .ensures))
 
 pub word-line-spec : {M : Type 1} → statement M
-word-line-spec =
-    tie.close (tie.spec begin-requires put-bits-requires put-requires same-length returns)
+word-line-spec = tie.close (tie.spec (λ c κs. search needs) (λ c κs. search needs) put-requires (λ c. search needs) returns)

@@ -3,14 +3,11 @@ use mathlib.Core.Path.{_≡_, refl, ap, _∙_}
 use Prim.Native.Nat.{_-_, _≤_}
 use native.Mathlib.Omega.{arith}
 use borrow.Author.Needs.{needs}
-use lib.IntN.{pos}
-use lib.ListN.{length, getD}
+use lib.ListN.{length}
 use mir.Syntax.{w16}
 use Rattle.integers.proofs.Machine.{kept}
 use Rattle.lists.specs.Tabulated.{over}
-use Rattle.lists.proofs.Entries.{some-at}
 use Rattle.lists.proofs.Tabulated.{length-over, over-stored, over-tab}
-use Rattle.model.specs.Calls.{forbidden}
 use Rattle.model.specs.Iteration.{at}
 use Rattle.model.specs.Reflection.{negatedIf, reflect}
 use Rattle.model.specs.Words.{bitAt}
@@ -30,33 +27,14 @@ long l = rw (l .loop .inv .1) (length-over (l .loop .i) _ (l .before .before .ar
 loop-holds : tie.Need-loop-holds Inv-loop μ-loop
 loop-holds c = (omega arith, refl)
 
-shared-slice-read-negated-if : tie.Need-shared-slice-read-negated-if Inv-loop μ-loop
-shared-slice-read-negated-if c = search needs
-
-mul-negated-if : tie.Need-mul-negated-if Inv-loop μ-loop
-mul-negated-if c = search needs
-
-shared-slice-copy-out-negated-if : tie.Need-shared-slice-copy-out-negated-if Inv-loop μ-loop
-shared-slice-copy-out-negated-if c = search needs
-
 negated-if-requires : tie.Need-negated-if-requires Inv-loop μ-loop
 negated-if-requires c κs =
     let l = c .before .before .before in
     let s = l .before .before in
-    rw (kept w16 (getD (s .args .costs .now) (l .loop .i) (pos 0)) (c .negated-if-arg .given))
-    (some-at forbidden (s .args .costs .now) (l .loop .i) (pos 0) (s .pre .1 .0) (c .before .before .loop-test .taken))
-
-mul-t12 : tie.Need-mul-t12 Inv-loop μ-loop
-mul-t12 c = search needs
+    rw (kept w16 (at (s .args .costs .now) (l .loop .i)) (c .negated-if-arg .given)) (s .pre .1 .0 (l .loop .i))
 
 slice-set-from-result : tie.Need-slice-set-from-result Inv-loop μ-loop
 slice-set-from-result c = omega (arith, long (c .before .before .before .before))
-
-add-i : tie.Need-add-i Inv-loop μ-loop
-add-i c = search needs
-
-loop-less : tie.Need-loop-less Inv-loop μ-loop
-loop-less c = search needs
 
 loop-again : tie.Need-loop-again Inv-loop μ-loop
 loop-again c =
@@ -65,7 +43,8 @@ loop-again c =
       omega arith,
       rw (l .loop .inv .1)
           (over-stored w16 (l .loop .i) _ (s .args .result .now) (c .negated-if .result) (omega (arith, s .pre)) (record { sfits = c .negated-if .ok })
-          (c .negated-if .ensures ∙ ap (negatedIf (bitAt (s .args .word .now) (l .loop .i))) (kept w16 (at (s .args .costs .now) (l .loop .i)) (c .before .negated-if-arg .given)))),
+          (c .negated-if .ensures
+          ∙ ap (negatedIf (bitAt (s .args .word .now) (l .loop .i))) (kept w16 (at (s .args .costs .now) (l .loop .i)) (c .before .negated-if-arg .given)))),
     )
 
 same-length : tie.Need-same-length Inv-loop μ-loop
@@ -81,19 +60,5 @@ returns c =
 
 pub fill-spec : {M : Type 1} → statement M
 fill-spec =
-    tie.close
-    (tie.spec
-    Inv-loop
-    μ-loop
-    loop-holds
-    shared-slice-read-negated-if
-    mul-negated-if
-    shared-slice-copy-out-negated-if
-    negated-if-requires
-    mul-t12
-    slice-set-from-result
-    add-i
-    loop-less
-    loop-again
-    same-length
-    returns)
+    tie.close (tie.spec Inv-loop μ-loop loop-holds (λ c. search needs) (λ c. search needs) (λ c. search needs) negated-if-requires (λ c. search needs)
+    slice-set-from-result (λ c. search needs) (λ c. search needs) loop-again same-length returns)

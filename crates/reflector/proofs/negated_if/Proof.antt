@@ -5,13 +5,13 @@ use lib.IntN.{ℤ, negℤ}
 use mir.Syntax.{w16}
 use mir.Val.{toZ, ofZ}
 use Rattle.integers.proofs.Machine.{Worth, local, negative, fits, stored}
+use Rattle.model.specs.Limits.{mostCost}
 use Rattle.model.specs.Reflection.{negatedIf}
-use Rattle.reflector.proofs.Costs.{allowed}
 use Rattle.reflector.proofs.negated_if.Statement.{statement}
 use Rattle.reflector.proofs.negated_if.Tie as tie
 
-cost-is : (s : tie.Start) → Worth (toZ w16 (ofZ w16 (s .args .cost))) (s .args .cost) 32767
-cost-is s = local w16 32767 (s .fits .cost .sfits) refl (allowed (s .args .cost) (s .fits .cost .sfits) (s .pre))
+cost-is : (s : tie.Start) → Worth (toZ w16 (ofZ w16 (s .args .cost))) (s .args .cost) mostCost
+cost-is s = local w16 mostCost (s .fits .cost .sfits) refl (s .pre)
 
 sub-result : tie.Need-sub-result
 sub-result c = fits (negative (cost-is (c .before))) w16 tt

@@ -25,15 +25,9 @@ returns : tie.Need-returns
 unfolding reflector
 returns c = reflector-call _ _ _ _ (rw (ne-eqb _ _ (c .if1 .taken)))
 
-some-forbidden-requires : tie.Need-some-forbidden-requires
-some-forbidden-requires c κs = search needs
-
 returns-2 : tie.Need-returns-2
 unfolding reflector
 returns-2 c = reflector-call _ _ _ _ (rw (equal (c .before .before), sym (c .before .some-forbidden .ensures .0) ∙ c .if2 .taken))
-
-some-not-binary-requires : tie.Need-some-not-binary-requires
-some-not-binary-requires c κs = search needs
 
 returns-3 : tie.Need-returns-3
 unfolding reflector
@@ -47,28 +41,24 @@ returns-4 c =
     reflector-call _ _ _ _ (rw (equal (e .before .before .before .before), allowed (e .before .before), binary e, lt-ltb _ _ (c .if4 .taken)))
 
 fill-requires : tie.Need-fill-requires
-fill-requires c κs = search needs
-
-same-length : tie.Need-same-length
-same-length c = search needs
+fill-requires c κs =
+    let f = c .before .before .before .before in
+    (search needs, (f .before .some-forbidden .ensures .1 (f .if2 .left), search needs))
 
 returns-5 : tie.Need-returns-5
 unfolding reflector
 returns-5 c =
     let e = c .before .before .before .before in
     reflector-call _ _ _ _
-    (rw (equal (e .before .before .before .before), allowed (e .before .before), binary e, le-ltb _ _ (c .before .before .before .if4 .left), c .before .fill .ensures))
+    (rw (
+      equal (e .before .before .before .before),
+      allowed (e .before .before),
+      binary e,
+      le-ltb _ _ (c .before .before .before .if4 .left),
+      c .before .fill .ensures,
+    ))
 
 pub reflect-spec : {M : Type 1} → statement M
 reflect-spec =
-    tie.close
-    (tie.spec
-    returns
-    some-forbidden-requires
-    returns-2
-    some-not-binary-requires
-    returns-3
-    returns-4
-    fill-requires
-    same-length
+    tie.close (tie.spec returns (λ c κs. search needs) returns-2 (λ c κs. search needs) returns-3 returns-4 fill-requires (λ c. search needs)
     returns-5)

@@ -42,7 +42,7 @@ loop-again c =
     let a = start l .args in
     let h = room (c .before .before .before) in
     let r = four-renewed (a .count) (a .triples .now) (a .values .now) (l .loop .t) (l .loop .rows) (c .before .renew-four .last .1 .1 .0)
-        (c .before .renew-four .result) 0 0 _ _ (l .loop .inv .0) (omega (arith, h)) (l .loop .inv .1) (c .before .renew-four .ensures .0) (c .before .renew-four .ensures .1) refl refl in
+    (c .before .renew-four .result) 0 0 _ _ (l .loop .inv .0) (omega (arith, h)) (l .loop .inv .1) (c .before .renew-four .ensures .0) (c .before .renew-four .ensures .1) refl refl in
     ((omega arith, omega (arith, l .loop .inv .0, h)), r .left, r .rows ∙ l .loop .inv .2)
 
 same-length : tie.Need-same-length Inv-loop μ-loop

@@ -1,5 +1,5 @@
 -- `session::refuse` meets its contract. Assumes nothing.
-use Rattle.lines.proofs.Text.{lent, counted}
+use Rattle.text.proofs.Appended.{lent, counted}
 use borrow.Author.Needs.{needs}
 use Rattle.session.proofs.refuse.Statement.{statement}
 use Rattle.session.proofs.refuse.Tie as tie

@@ -1,0 +1,132 @@
+// Tables of examples. A line is one example; its fields stand between bars, and the first is its label. In a field of code records LH and LC
+// are the marks 0x4C48 and 0x4C43, LX is none. A field of numbers has one space between them.
+ghost use mathlib.Core.Path.{_≡_};
+ghost use Prim.Native.Nat.{_≤_, _<_};
+ghost use lib.ListN.{length};
+use crate::example;
+use crate::example::Example;
+
+// The place of the next `byte` from `at` on, or the end.
+fn find(s: &[u8], at: usize, byte: u8) -> usize
+    requires { ⌜ at ≤ length (now s) ⌝ }
+    ensures { λ r. ⌜ (at ≤ r) × (r ≤ length (now (s .entry))) ⌝ }
+{
+    let mut i = at;
+    while i < s.len() {
+        if s[i] == byte {
+            return i;
+        }
+        i += 1;
+    }
+    i
+}
+
+// Where the field behind the one that ends at `end` begins.
+fn after(s: &[u8], end: usize) -> usize
+    requires { ⌜ end ≤ length (now s) ⌝ }
+    ensures { λ r. ⌜ (end ≤ r) × (r ≤ length (now (s .entry))) ⌝ }
+{
+    if end < s.len() { end + 1 } else { end }
+}
+
+// The example of one line: its label and three more fields, of which the last may be missing.
+fn one(line: &[u8], example: Example) {
+    let label = find(line, 0, b'|');
+    let x = after(line, label);
+    let x_end = find(line, x, b'|');
+    let y = after(line, x_end);
+    let y_end = find(line, y, b'|');
+    let z = after(line, y_end);
+    example::run(
+        &line[0..label],
+        &line[x..x_end],
+        &line[y..y_end],
+        &line[z..line.len()],
+        example,
+    );
+}
+
+// Each example of a table.
+pub fn each(s: &[u8], example: Example) {
+    let mut at = 0usize;
+    while at < s.len() {
+        let end = find(s, at, b'\n');
+        one(&s[at..end], example);
+        at = end + 1;
+    }
+}
+
+// ---- numbers
+
+// The digit that a byte is, or 16.
+fn digit(byte: u8) -> usize {
+    if byte < 48 {
+        return 16;
+    }
+    if byte <= 57 {
+        return records::wide(byte - 48);
+    }
+    if byte < 97 {
+        return 16;
+    }
+    if byte <= 102 {
+        return records::wide(byte - 87);
+    }
+    16
+}
+
+// A number, and where the next begins.
+struct Scanned {
+    value: usize,
+    next: usize,
+}
+
+// The number from `at` on, modulo 2^32.
+fn natural(s: &[u8], at: usize, base: usize) -> Scanned
+    requires { ⌜ (at ≤ length (now s)) × (base ≤ 16) ⌝ }
+    ensures { λ r. ⌜ (r .next ≤ length (now (s .entry))) × (r .value < 4294967296) ⌝ }
+{
+    let mut value = 0usize;
+    let mut i = at;
+    while i < s.len() {
+        let d = digit(s[i]);
+        if base <= d {
+            return Scanned { value, next: i + 1 };
+        }
+        value = (base * value + d) % 4294967296;
+        i += 1;
+    }
+    Scanned { value, next: i }
+}
+
+// The same behind a minus sign, as a two-byte number in two's complement.
+fn whole(s: &[u8], at: usize, base: usize) -> Scanned
+    requires { ⌜ (at < length (now s)) × (base ≤ 16) ⌝ }
+    ensures { λ r. ⌜ r .next ≤ length (now (s .entry)) ⌝ }
+{
+    if s[at] == b'-' {
+        let x = natural(s, at + 1, base);
+        return Scanned {
+            value: (65536 - x.value % 65536) % 65536,
+            next: x.next,
+        };
+    }
+    natural(s, at, base)
+}
+
+// The numbers of a field, and how many there are.
+pub fn numbers(s: &[u8], base: usize, out: &mut [usize; 8]) -> usize
+    requires { ⌜ base ≤ 16 ⌝ }
+    ensures { λ r. ⌜ r ≤ 8 ⌝ }
+{
+    let mut at = 0usize;
+    for n in 0..8 {
+        if s.len() <= at {
+            return n;
+        }
+        let x = whole(s, at, base);
+        out[n] = x.value;
+        at = x.next;
+    }
+    8
+}
