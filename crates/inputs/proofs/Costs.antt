@@ -17,7 +17,7 @@ use Rattle.lists.proofs.Entries.{some-at}
 use Rattle.model.specs.Limits.{mostCost}
 use Rattle.model.specs.Iteration.{at}
 use Rattle.model.specs.Calls.{forbidden}
-use Rattle.model.specs.Entry.{Small}
+use Rattle.model.specs.DecoderClaims.{Small}
 
 pub forbidden-bits : (z : ℤ) → mag z < 2 ^ 15 → eqb (ofZ w16 z) 32768 ≡ forbidden z
 forbidden-bits (pos n) h = ne-eqb n 32768 (λ e. omega arith)

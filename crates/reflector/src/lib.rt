@@ -6,7 +6,7 @@ ghost use lib.ListN.{length};
 ghost use Rattle.lists.specs.Tabulated.{written};
 ghost use Rattle.model.specs.Limits.{mostCost};
 ghost use Rattle.model.specs.Reflection as reflection;
-ghost use Rattle.model.specs.Entry.{Small};
+ghost use Rattle.model.specs.DecoderClaims.{Small};
 ghost use Rattle.model.specs.Promises.{ReflectorCall};
 
 fn negated_if(bit: u8, cost: i16) -> i16
