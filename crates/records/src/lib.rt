@@ -276,12 +276,6 @@ pub fn read(code: &[u8]) -> Reading
 
 // ---- the writer
 
-fn index(x: u16) -> usize
-    ensures { λ r. ⌜ (r ≡ x) × (r ≤ 65535) ⌝ }
-{
-    x as usize
-}
-
 // A two-byte number, from `at` on; where the next byte goes.
 pub fn write_two_bytes(x: usize, out: &mut [u8], at: usize) -> usize
     requires { ⌜ (x ≤ 65535) × (at + 2 ≤ length (now out)) ⌝ }
@@ -308,7 +302,7 @@ fn write_indices(indices: &[u16], out: &mut [u8], at: usize) -> usize
 {
     let mut next = at;
     for i in 0..indices.len() {
-        next = write_two_bytes(index(indices[i]), out, next);
+        next = write_two_bytes(slices::index(indices[i]), out, next);
     }
     next
 }

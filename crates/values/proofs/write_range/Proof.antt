@@ -94,7 +94,7 @@ divide-requires c κs =
     let w = c .before .before in
     let l = turn (w .before) in
     let v = l .loop .v in
-    rw (c .index .ensures) (
+    rw (c .index .ensures .0) (
       (
         rw (kept w64 (w .weighed .result) (w .weighed .ok)) (w .weighed .ensures .1),
         given l .some v (variable (w .before)),
@@ -122,7 +122,7 @@ loop-again c =
       omega arith,
       rw (l .loop .inv .2)
           (range-next w16 (s .from) (l .loop .v) (f l) (s .values .now) (c .divide .result) (l .loop .inv .0) (record { sfits = c .divide .ok })
-          (c .divide .ensures ∙ ap₂ (λ (x : ℤ) (n : ℕ). quotient (negℤ x) (divisor (4 * n) (s .ratio))) (x-is (c .before .before .before)) (c .before .index .ensures))),
+          (c .divide .ensures ∙ ap₂ (λ (x : ℤ) (n : ℕ). quotient (negℤ x) (divisor (4 * n) (s .ratio))) (x-is (c .before .before .before)) (c .before .index .ensures .0))),
     )
 
 returns : tie.Need-returns Inv-loop μ-loop
