@@ -24,55 +24,52 @@ use Rattle.model.specs.Splitting.{member}
 use Rattle.model.specs.Iteration.{at, sumAt, row, slack, multiplier, renewed, renewedAt}
 use Rattle.model.specs.Run.{squareOfChange, changes, settledBy}
 use Rattle.model.specs.Bounds.{RowsWithin}
-use Rattle.model.proofs.Rows.{at-tab}
 use Rattle.model.proofs.Bounds.{rowSum-bound, renewed-multiplier, renewed-slack, multiplier-change}
-use Rattle.rows.specs.Sides.{changeOf}
-use Rattle.rows.proofs.Four.{side-multiplier, side-slack}
-use Rattle.layout.specs.Transposed.{cell, lane, stored, place, straight}
+use Rattle.rows.specs.Sides.{Rows, changeOf}
+use Rattle.rows.proofs.Four.{rows-are, side-multiplier, side-slack}
+use Rattle.layout.specs.Transposed.{cell, Fours, lane, stored, place, straight, Aligned}
 use Rattle.layout.proofs.Arranged.{arranged-at, sum-arranged}
-use Rattle.layout.proofs.Places.{place-first, place-four, cell-tab, cell-is, transposed}
-use Rattle.renewal.specs.InPlace.{Small, tripleChanges, fourChanges, renewedFour, renewedIn, renewedAll, Aligned, Left, renewedFrom, changesFrom, Renewed}
+use Rattle.layout.proofs.Places.{place-first, place-four, fours-are, cell-is, transposed}
+use Rattle.renewal.specs.InPlace.{Small, tripleChanges, fourChanges, renewedFour, renewedIn, renewedAll, Left, renewedFrom, changesFrom, Renewed}
 
 -- ---- how large
 pub small-abs : (z : ℤ) → Small z → natAbs z ≤ mostRow
 small-abs z h = omega (arith, about z, h .0, h .1)
 
--- the rows of a triple and the cells of four triples, before and after
-pub old-rows : (s : List ℤ) (t : ℕ) → ((i : ℕ) → 4 * t ≤ i → Small (at s i)) → (r : ℕ) → natAbs (at (tab 4 (λ r. row s t r)) r) ≤ mostRow
-old-rows s t small r = at-tab (λ z. natAbs z ≤ mostRow) 4 (λ r. row s t r) r (λ _. small-abs (row s t r) (small (4 * t + r) (omega arith))) (omega arith)
+-- the rows of a triple and of four, before
+pub old-rows : (s : List ℤ) (t : ℕ) → ((i : ℕ) → 4 * t ≤ i → Small (at s i)) → Rows (tab 4 (λ r. row s t r))
+old-rows s t small = rows-are (λ r. row s t r) (λ r _. small-abs (row s t r) (small (4 * t + r) (omega arith)))
 
-pub old-cells : (s : List ℤ) (t : ℕ) → ((i : ℕ) → 4 * t ≤ i → Small (at s i)) → (k r : ℕ) → natAbs (cell (tab 4 (lane s t)) k r) ≤ mostRow
-old-cells s t small k r =
-    cell-tab (λ z. natAbs z ≤ mostRow) (λ k r. row s (t + r) k) k r (λ _ _. small-abs (row s (t + r) k) (small (4 * (t + r) + k) (omega arith))) (omega arith)
+pub old-fours : (s : List ℤ) (t : ℕ) → ((i : ℕ) → 4 * t ≤ i → Small (at s i)) → Fours (tab 4 (lane s t))
+old-fours s t small = fours-are (λ k r. row s (t + r) k) (λ k r _ _. small-abs (row s (t + r) k) (small (4 * (t + r) + k) (omega arith)))
 
 module _ (ts : List ℕ) (c : List ℤ) (unit-most : (v : ℕ) → natAbs (at c v) ≤ unit) where
   sum-small : (t r : ℕ) → r < 4 → natAbs (sumAt ts c t r) ≤ 3 * unit
   sum-small t r l = rowSum-bound r _ _ _ l (unit-most (member ts t 0)) (unit-most (member ts t 1)) (unit-most (member ts t 2))
 
-  pub new-abs : (z : ℤ) (t r : ℕ) → r < 4 → Small z → natAbs (renewed z (sumAt ts c t r)) ≤ mostRow
+  new-abs : (z : ℤ) (t r : ℕ) → r < 4 → Small z → natAbs (renewed z (sumAt ts c t r)) ≤ mostRow
   new-abs z t r l h = let sum = sumAt ts c t r in let k = sum-small t r l in omega (arith, about (renewed z sum), renewed-multiplier z sum k, renewed-slack z sum k, h .0)
 
   -- the square of a change: by 65,536 at most, on both sides
-  pub multiplier-most : (z : ℤ) (t r : ℕ) → r < 4 → Small z → changeOf (pos 1) z (renewed z (sumAt ts c t r)) ≤ 4294967296
+  multiplier-most : (z : ℤ) (t r : ℕ) → r < 4 → Small z → changeOf (pos 1) z (renewed z (sumAt ts c t r)) ≤ 4294967296
   multiplier-most z t r l h =
       let sum = sumAt ts c t r in
       let d = multiplier-change z sum (sum-small t r l) in
       rw (side-multiplier z, side-multiplier (renewed z sum)) (mul-le-mul d d)
 
-  pub slack-most : (z : ℤ) (t r : ℕ) → r < 4 → Small z → changeOf (negsuc 0) z (renewed z (sumAt ts c t r)) ≤ 4294967296
+  slack-most : (z : ℤ) (t r : ℕ) → r < 4 → Small z → changeOf (negsuc 0) z (renewed z (sumAt ts c t r)) ≤ 4294967296
   slack-most z t r l h =
       let sum = sumAt ts c t r in
       let d = abs-difference (slack (renewed z sum)) (slack z) 65536 (omega (arith, renewed-slack z sum (sum-small t r l))) (omega (arith, h .1)) in
       rw (side-slack z, side-slack (renewed z sum)) (mul-le-mul d d)
 
-  pub new-rows : (s : List ℤ) (t : ℕ) → ((i : ℕ) → 4 * t ≤ i → Small (at s i)) → (r : ℕ) → natAbs (at (tab 4 (λ r. renewed (row s t r) (sumAt ts c t r))) r) ≤ mostRow
-  new-rows s t small r =
-      at-tab (λ z. natAbs z ≤ mostRow) 4 (λ r. renewed (row s t r) (sumAt ts c t r)) r (λ l. new-abs (row s t r) t r l (small (4 * t + r) (omega arith))) (omega arith)
+  -- and after
+  pub new-rows : (s : List ℤ) (t : ℕ) → ((i : ℕ) → 4 * t ≤ i → Small (at s i)) → Rows (tab 4 (λ r. renewed (row s t r) (sumAt ts c t r)))
+  new-rows s t small = rows-are (λ r. renewed (row s t r) (sumAt ts c t r)) (λ r l. new-abs (row s t r) t r l (small (4 * t + r) (omega arith)))
 
-  pub new-cells : (s : List ℤ) (t : ℕ) → ((i : ℕ) → 4 * t ≤ i → Small (at s i)) → (k r : ℕ) → natAbs (cell (renewedFour ts s c t) k r) ≤ mostRow
-  new-cells s t small k r =
-      cell-tab (λ z. natAbs z ≤ mostRow) (λ k r. renewed (row s (t + r) k) (sumAt ts c (t + k) r)) k r
-      (λ _ l. new-abs (row s (t + r) k) (t + k) r l (small (4 * (t + r) + k) (omega arith))) (omega arith)
+  pub new-fours : (s : List ℤ) (t : ℕ) → ((i : ℕ) → 4 * t ≤ i → Small (at s i)) → Fours (renewedFour ts s c t)
+  new-fours s t small =
+      fours-are (λ k r. renewed (row s (t + r) k) (sumAt ts c (t + k) r)) (λ k r _ l. new-abs (row s (t + r) k) (t + k) r l (small (4 * (t + r) + k) (omega arith)))
 
 -- ---- totals that are not the whole ones where one of them exceeds x
 settled-is : (x a b A B : ℕ) → a ≤ A → b ≤ B → (a ≤ x → b ≤ x → (a ≡ A) × (b ≡ B)) → 1 if (leb a x && leb b x) ≡ 1 if (leb A x && leb B x)

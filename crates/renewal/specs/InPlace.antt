@@ -47,10 +47,6 @@ renewedIn T ts s c i = renewed (at s i) (sumAt ts c (place T i / 4) (place T i %
 abbrev pub renewedAll : ℕ → List ℕ → List ℤ → List ℤ → List ℤ
 renewedAll T ts s c = tab (4 * T) (renewedAt ts (straight T s) c)
 
--- t is where a four begins, or T
-abbrev pub Aligned : ℕ → ℕ → Type 0
-Aligned T t = (t ≤ T) × ((T - t) % 4 ≡ 0)
-
 -- the triples before t are done; the rows of the others are as they were
 pub record Left (T t : ℕ) (s : List ℤ) : Type 0 where
   pub long : length s ≡ 4 * T

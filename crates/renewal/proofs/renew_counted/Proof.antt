@@ -3,8 +3,9 @@ use mathlib.Core.Path.{_∙_}
 use Prim.Native.Nat.{_+_, _-_, _≤_}
 use native.Mathlib.Omega.{arith}
 use borrow.Author.Needs.{needs}
-use Rattle.renewal.specs.InPlace.{Aligned, Renewed}
-use Rattle.renewal.proofs.Renewal.{old-cells, new-cells, four-renewed, renewed-none, both, at-first, totals-small, met, unmet}
+use Rattle.layout.specs.Transposed.{Aligned}
+use Rattle.renewal.specs.InPlace.{Renewed}
+use Rattle.renewal.proofs.Renewal.{old-fours, new-fours, four-renewed, renewed-none, both, at-first, totals-small, met, unmet}
 use Rattle.renewal.proofs.renew_counted.Statement.{statement}
 use Rattle.renewal.proofs.renew_counted.Tie as tie
 
@@ -60,9 +61,9 @@ with-four-requires c κs =
     let a = s .args in
     let small = totals-small (a .count) (a .triples .now) (a .values .now) (s .pre .0 .0) (s .pre .1 .0 .1) (at-first (s .pre .0 .2) (s .pre .1 .1)) (whole l) in (
       (omega (arith, small), omega (arith, small)),
-      λ k r. rw (n .renew-four .ensures .0) (
-        old-cells (l .loop .rows) (l .loop .t) (whole l .left .small) k r,
-        new-cells (a .triples .now) (a .values .now) (s .pre .1 .0 .1) (l .loop .rows) (l .loop .t) (whole l .left .small) k r,
+      rw (n .renew-four .ensures .0) (
+        old-fours (l .loop .rows) (l .loop .t) (whole l .left .small),
+        new-fours (a .triples .now) (a .values .now) (s .pre .1 .0 .1) (l .loop .rows) (l .loop .t) (whole l .left .small),
       ),
     )
 

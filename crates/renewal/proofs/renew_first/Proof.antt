@@ -3,10 +3,10 @@ use mathlib.Core.List.{List}
 use mathlib.Core.Path.{_≡_, subst, ap, _∙_}
 use Prim.Native.Nat.{ℕ, _-_, _%_, _≤_}
 use native.Mathlib.Omega.{arith}
-use lib.IntN.{ℤ, natAbs}
+use lib.IntN.{ℤ}
 use Rattle.lists.specs.Tabulated.{tab}
-use Rattle.model.specs.Limits.{mostRow}
 use Rattle.model.specs.Iteration.{at, row, sumAt, renewed}
+use Rattle.rows.specs.Sides.{Rows}
 use Rattle.renewal.specs.InPlace.{Left, Renewed}
 use Rattle.renewal.proofs.Renewal.{old-rows, new-rows, triple-renewed, renewed-none, both, at-first, totals-small}
 use Rattle.renewal.proofs.renew_first.Statement.{statement}
@@ -32,8 +32,8 @@ left l = l .loop .inv .1 .left
 load-requires : tie.Need-load-requires Inv-loop μ-loop
 load-requires c κs = let l = c .before .before in (omega (arith, start l .pre .0, c .before .loop-test .taken), omega (arith, left l .long, c .before .loop-test .taken))
 
-old-small : (c : tie.After-load Inv-loop μ-loop) (r : ℕ) → natAbs (at (c .load .result) r) ≤ mostRow
-old-small c r = let l = c .before .before .before in rw (c .load .ensures) (old-rows (l .loop .rows) (l .loop .t) (left l .small) r)
+old-small : (c : tie.After-load Inv-loop μ-loop) → Rows (c .load .result)
+old-small c = let l = c .before .before .before in rw (c .load .ensures) (old-rows (l .loop .rows) (l .loop .t) (left l .small))
 
 renewed-triple-requires : tie.Need-renewed-triple-requires Inv-loop μ-loop
 renewed-triple-requires c κs =
@@ -50,11 +50,11 @@ new-is c =
     let a = start l .args in
     c .renewed-triple .ensures ∙ ap (λ (k : List ℤ). tab 4 (λ r. renewed (at k r) (sumAt (a .triples .now) (a .values .now) (l .loop .t) r))) (c .before .load .ensures)
 
-new-small : (c : tie.After-renewed-triple Inv-loop μ-loop) (r : ℕ) → natAbs (at (c .renewed-triple .result) r) ≤ mostRow
-new-small c r =
+new-small : (c : tie.After-renewed-triple Inv-loop μ-loop) → Rows (c .renewed-triple .result)
+new-small c =
     let l = at-loop c in
     let s = start l in
-    rw (new-is c) (new-rows (s .args .triples .now) (s .args .values .now) (s .pre .1 .0 .1) (l .loop .rows) (l .loop .t) (left l .small) r)
+    rw (new-is c) (new-rows (s .args .triples .now) (s .args .values .now) (s .pre .1 .0 .1) (l .loop .rows) (l .loop .t) (left l .small))
 
 store-requires : tie.Need-store-requires Inv-loop μ-loop
 store-requires c κs =
@@ -71,7 +71,7 @@ with-triple-requires c κs =
     let l = at-loop n in
     let s = start l in
     let small = totals-small (s .args .count) (s .args .triples .now) (s .args .values .now) (s .pre .0 .0) (s .pre .1 .0 .1) (at-first (s .pre .0 .2) (s .pre .1 .1)) (l .loop .inv .1) in
-    ((omega (arith, small), omega (arith, small)), λ r. (old-small (n .before) r, new-small n r))
+    ((omega (arith, small), omega (arith, small)), (old-small (n .before), new-small n))
 
 add-t : tie.Need-add-t Inv-loop μ-loop
 add-t c = omega (arith, made (c .before) .before .before .before .loop-test .taken)

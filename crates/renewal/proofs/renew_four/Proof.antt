@@ -9,7 +9,7 @@ use Rattle.lists.specs.Tabulated.{tab}
 use Rattle.model.specs.Iteration.{at, sumAt, renewed}
 use Rattle.layout.specs.Transposed.{cell, stored}
 use Rattle.renewal.specs.InPlace.{renewedFour}
-use Rattle.renewal.proofs.Renewal.{small-abs, old-cells, new-cells}
+use Rattle.renewal.proofs.Renewal.{small-abs, old-fours, new-fours}
 use Rattle.renewal.proofs.renew_four.Statement.{statement}
 use Rattle.renewal.proofs.renew_four.Tie as tie
 
@@ -23,7 +23,7 @@ start c = c .before .before .before
 renewed-four-requires : tie.Need-renewed-four-requires
 renewed-four-requires c κs =
     let s = start c in
-    ((omega (arith, s .pre .0), omega (arith, s .pre .0)), (s .pre .1 .0, λ k r. rw (c .load-four .ensures) (old-cells (s .args .rows .now) (s .args .t) (s .pre .1 .1) k r)))
+    ((omega (arith, s .pre .0), omega (arith, s .pre .0)), (s .pre .1 .0, rw (c .load-four .ensures) (old-fours (s .args .rows .now) (s .args .t) (s .pre .1 .1))))
 
 new-is : (c : tie.After-renewed-four) → let a = start (c .before) .args in c .renewed-four .result ≡ renewedFour (a .triples .now) (a .rows .now) (a .values .now) (a .t)
 new-is c =
@@ -36,7 +36,7 @@ store-four-requires c κs =
     let a = s .args in (
       omega (arith, s .pre .0),
       omega (arith, s .pre .0),
-      λ k r. rw (new-is (c .before)) (new-cells (a .triples .now) (a .values .now) (s .pre .1 .0 .1) (a .rows .now) (a .t) (s .pre .1 .1) k r),
+      rw (new-is (c .before)) (new-fours (a .triples .now) (a .values .now) (s .pre .1 .0 .1) (a .rows .now) (a .t) (s .pre .1 .1)),
     )
 
 returns : tie.Need-returns

@@ -2,7 +2,8 @@
 use mathlib.Core.Path.{_≡_, refl, sym, ap, _∙_}
 use Prim.Native.Nat.{ℕ, _+_, _-_, _≤_}
 use native.Mathlib.Omega.{arith}
-use Rattle.renewal.specs.InPlace.{Aligned, Left, renewedFrom}
+use Rattle.layout.specs.Transposed.{Aligned}
+use Rattle.renewal.specs.InPlace.{Left, renewedFrom}
 use Rattle.renewal.proofs.Renewal.{four-renewed, all-done}
 use Rattle.renewal.proofs.renew_rest.Statement.{statement}
 use Rattle.renewal.proofs.renew_rest.Tie as tie

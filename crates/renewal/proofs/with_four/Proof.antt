@@ -20,23 +20,23 @@ abbrev third : tie.After-with-triple4 → tie.After-with-triple3
 third c = c .before .before .before
 
 with-triple-requires : tie.Need-with-triple-requires
-with-triple-requires c κs = let s = c .before .before in (omega (arith, s .pre .0), s .pre .1 _)
+with-triple-requires c κs = let s = c .before .before in (omega (arith, s .pre .0), (s .pre .1 .0 _, s .pre .1 .1 _))
 
 with-triple-requires-2 : tie.Need-with-triple-requires-2
-with-triple-requires-2 c κs = let a = c .before .before in (omega (arith, start a .pre .0, a .with-triple .ensures .1), start a .pre .1 _)
+with-triple-requires-2 c κs = let a = c .before .before in (omega (arith, start a .pre .0, a .with-triple .ensures .1), (start a .pre .1 .0 _, start a .pre .1 .1 _))
 
 with-triple-requires-3 : tie.Need-with-triple-requires-3
 with-triple-requires-3 c κs =
     let b = c .before .before in
     let s = start (first b) in
-    (omega (arith, s .pre .0, first b .with-triple .ensures .1, b .with-triple2 .ensures .1), s .pre .1 _)
+    (omega (arith, s .pre .0, first b .with-triple .ensures .1, b .with-triple2 .ensures .1), (s .pre .1 .0 _, s .pre .1 .1 _))
 
 with-triple-requires-4 : tie.Need-with-triple-requires-4
 with-triple-requires-4 c κs =
     let d = c .before .before in
     let b = second d in
     let s = start (first b) in
-    (omega (arith, s .pre .0, first b .with-triple .ensures .1, b .with-triple2 .ensures .1, d .with-triple3 .ensures .1), s .pre .1 _)
+    (omega (arith, s .pre .0, first b .with-triple .ensures .1, b .with-triple2 .ensures .1, d .with-triple3 .ensures .1), (s .pre .1 .0 _, s .pre .1 .1 _))
 
 joined : (m a b c r x y z w : ℕ) → a ≡ m + x → b ≡ a + y → c ≡ b + z → r ≡ c + w → r ≡ m + (0 + x + y + z + w)
 joined m a b c r x y z w p q s t = omega arith
