@@ -99,8 +99,8 @@ module _ (T : ℕ) (ts : List ℕ) (c : List ℤ) where
   abbrev entry : ℕ → List ℤ → ℕ → ℤ
   entry t s i = cond (ltb i (4 * t)) (at s i) (new s i)
 
-  abbrev changesAt : ℤ → List ℤ → ℕ → ℕ
-  changesAt side s t = sumℕ 4 (λ r. changeOf side (row s t r) (new s (4 * t + r)))
+  abbrev change : ℤ → List ℤ → ℕ → ℕ
+  change side s i = changeOf side (at s i) (new s i)
 
   done : (t : ℕ) (s : List ℤ) (i : ℕ) → i < 4 * t → entry t s i ≡ at s i
   done t s i h = rw (lt-ltb i (4 * t) h)
@@ -131,19 +131,17 @@ module _ (T : ℕ) (ts : List ℕ) (c : List ℤ) where
         ∙ ap (λ (z : ℤ). renewed z (sumAt ts c (place T i / 4) (place T i % 4))) (kept i (omega arith))
         ∙ sym (to-do t s i (omega arith))
 
-    total : (side : ℤ) → sumℕ n (λ j. changesAt side s (t + j)) + changesFrom T ts c side (t + n) s′ ≡ changesFrom T ts c side t s
+    total : (side : ℤ) → sumℕ (4 * n) (λ j. change side s (4 * t + j)) + changesFrom T ts c side (t + n) s′ ≡ changesFrom T ts c side t s
     total side =
-        let m = T - (t + n) in
-        let e : n + m ≡ T - t = omega arith in
-        let same : (j : ℕ) → j < m → changesAt side s′ (t + n + j) ≡ changesAt side s (t + (n + j))
-        = λ j _. let g : t + (n + j) ≡ t + n + j = omega arith in
-            rw g (sumℕ-same 4 (λ r. changeOf side (row s′ (t + n + j) r) (new s′ (4 * (t + n + j) + r))) (λ r. changeOf side (row s (t + n + j) r) (new s (4 * (t + n + j) + r)))
-            (λ r _. rw (kept (4 * (t + n + j) + r) (omega arith)))) in
-        ap (λ (x : ℕ). sumℕ n (λ j. changesAt side s (t + j)) + x) (sumℕ-same m (λ j. changesAt side s′ (t + n + j)) (λ j. changesAt side s (t + (n + j))) same)
-        ∙ sym (sumℕ-split n m (λ j. changesAt side s (t + j)))
-        ∙ ap (λ (k : ℕ). sumℕ k (λ j. changesAt side s (t + j))) e
+        let m = 4 * T - 4 * (t + n) in
+        let e : 4 * n + m ≡ 4 * T - 4 * t = omega arith in
+        let same : (j : ℕ) → j < m → change side s′ (4 * (t + n) + j) ≡ change side s (4 * t + (4 * n + j))
+        = λ j _. let g : 4 * t + (4 * n + j) ≡ 4 * (t + n) + j = omega arith in rw (g, kept (4 * (t + n) + j) (omega arith)) in
+        ap (λ (x : ℕ). sumℕ (4 * n) (λ j. change side s (4 * t + j)) + x) (sumℕ-same m _ _ same)
+        ∙ sym (sumℕ-split (4 * n) m (λ j. change side s (4 * t + j)))
+        ∙ ap (λ (k : ℕ). sumℕ k (λ j. change side s (4 * t + j))) e
 
-    step : (m z a b : ℕ) → a ≡ m + sumℕ n (λ j. changesAt (pos 1) s (t + j)) → b ≡ z + sumℕ n (λ j. changesAt (negsuc 0) s (t + j)) → Renewed T ts c t (t + n) s s′ m a z b
+    step : (m z a b : ℕ) → a ≡ m + sumℕ (4 * n) (λ j. change (pos 1) s (4 * t + j)) → b ≡ z + sumℕ (4 * n) (λ j. change (negsuc 0) s (4 * t + j)) → Renewed T ts c t (t + n) s s′ m a z b
     step m z a b p q = record {
       left = record {
         long = ap length list-is ∙ length-over (4 * (t + n)) (entry t s) s (omega (arith, left .long)) ∙ left .long;
@@ -163,12 +161,10 @@ module _ (T : ℕ) (ts : List ℕ) (c : List ℤ) where
 
   module _ (t : ℕ) (s s′ old new′ : List ℤ) (m z a b : ℕ) (h : t < T % 4) (left : Left T t s)
       (old-is : old ≡ tab 4 (λ r. row s t r)) (new-is : new′ ≡ tab 4 (λ r. renewed (row s t r) (sumAt ts c t r))) where
-    triple-total : (side : ℤ) → tripleChanges side old new′ ≡ sumℕ 1 (λ j. changesAt side s (t + j))
+    triple-total : (side : ℤ) → tripleChanges side old new′ ≡ sumℕ 4 (λ r. change side s (4 * t + r))
     triple-total side =
-        let e : t + 0 ≡ t = omega arith in
         ap₂ (tripleChanges side) old-is new-is
-        ∙ rw e (sumℕ-same 4 (λ r. changeOf side (row s t r) (renewed (row s t r) (sumAt ts c t r))) (λ r. changeOf side (row s t r) (new s (4 * t + r)))
-        (λ r l. ap (changeOf side (row s t r)) (new-first s t r h l)) ∙ omega arith)
+        ∙ sumℕ-same 4 (λ r. changeOf side (row s t r) (renewed (row s t r) (sumAt ts c t r))) _ (λ r l. ap (changeOf side (row s t r)) (new-first s t r h l))
 
     pub triple-renewed : s′ ≡ sets s (4 * t) (tab 4 (at new′)) → a ≡ m + tripleChanges (pos 1) old new′ → b ≡ z + tripleChanges (negsuc 0) old new′ → Renewed T ts c t (t + 1) s s′ m a z b
     triple-renewed put p q =
@@ -184,14 +180,14 @@ module _ (T : ℕ) (ts : List ℕ) (c : List ℤ) where
 
   module _ (t : ℕ) (s s′ : List ℤ) (q : List (List (List ℤ))) (m z a b : ℕ) (al : Aligned T t) (h : t < T) (left : Left T t s)
       (q-is : q ≡ tab 4 (lane s t) ∷ renewedFour ts s c t ∷ []) where
-    four-total : (side : ℤ) → fourChanges side (getD q 0 []) (getD q 1 []) ≡ sumℕ 4 (λ j. changesAt side s (t + j))
+    four-total : (side : ℤ) → fourChanges side (getD q 0 []) (getD q 1 []) ≡ sumℕ 16 (λ j. change side s (4 * t + j))
     four-total side =
         let new′ : ℕ → ℕ → ℤ = λ k r. renewed (row s (t + r) k) (sumAt ts c (t + k) r) in
         ap (λ (q : List (List (List ℤ))). fourChanges side (getD q 0 []) (getD q 1 [])) q-is
         ∙ sumℕ-swap 4 4 (λ k r. changeOf side (row s (t + r) k) (new′ k r))
-        ∙ sumℕ-same 4 (λ r. sumℕ 4 (λ k. changeOf side (row s (t + r) k) (new′ k r))) (λ r. changesAt side s (t + r)) (λ r l.
-        sumℕ-same 4 (λ k. changeOf side (row s (t + r) k) (new′ k r)) (λ k. changeOf side (row s (t + r) k) (new s (4 * (t + r) + k))) (λ k g.
-        ap (changeOf side (row s (t + r) k)) (new-four s t k r al g l)))
+        ∙ sumℕ-same 4 (λ r. sumℕ 4 (λ k. changeOf side (row s (t + r) k) (new′ k r))) _ (λ r l. sumℕ-same 4 (λ k. changeOf side (row s (t + r) k) (new′ k r)) _ (λ k g.
+        let e : 4 * (t + r) + k ≡ 4 * t + (4 * r + k) = omega arith in ap (changeOf side (row s (t + r) k)) (new-four s t k r al g l) ∙ ap (change side s) e))
+        ∙ sumℕ-fours 4 (λ j. change side s (4 * t + j))
 
     pub four-renewed : s′ ≡ stored s t (renewedFour ts s c t) → a ≡ m + fourChanges (pos 1) (getD q 0 []) (getD q 1 []) → b ≡ z + fourChanges (negsuc 0) (getD q 0 []) (getD q 1 [])
         → Renewed T ts c t (t + 4) s s′ m a z b
@@ -215,9 +211,8 @@ module _ (T : ℕ) (ts : List ℕ) (c : List ℤ) where
   module _ (few : T ≤ mostTriples) (unit-most : (v : ℕ) → natAbs (at c v) ≤ unit) where
     most : (side : ℤ) → ((z : ℤ) (t r : ℕ) → r < 4 → Small z → changeOf side z (renewed z (sumAt ts c t r)) ≤ 4294967296) → (s : List ℤ) → Left T 0 s → changesFrom T ts c side 0 s ≤ 2 ^ 47
     most side one s left =
-        omega (arith, sumℕ-bound (T - 0) (4 * 4294967296) (λ j. changesAt side s (0 + j)) (λ j _.
-        sumℕ-bound 4 4294967296 (λ r. changeOf side (row s (0 + j) r) (new s (4 * (0 + j) + r))) (λ r _.
-        one (row s (0 + j) r) (place T (4 * (0 + j) + r) / 4) (place T (4 * (0 + j) + r) % 4) (omega arith) (left .small (4 * (0 + j) + r) (omega arith)))))
+        omega (arith, sumℕ-bound (4 * T - 4 * 0) 4294967296 (λ i. change side s (4 * 0 + i)) (λ i _.
+        one (at s (4 * 0 + i)) (place T (4 * 0 + i) / 4) (place T (4 * 0 + i) % 4) (omega arith) (left .small (4 * 0 + i) (omega arith))))
 
     pub totals-small : {u a b : ℕ} {s s′ : List ℤ} → Left T 0 s → Renewed T ts c 0 u s s′ 0 a 0 b → (a ≤ 2 ^ 47) × (b ≤ 2 ^ 47)
     totals-small {s} left r =
@@ -236,12 +231,11 @@ module _ (T : ℕ) (ts : List ℕ) (c : List ℤ) where
     whole : (side : ℤ) (part : ℤ → ℕ) → ((z : ℤ) → multiplier (side *ℤ z) ≡ part z) → changesFrom T ts c side 0 s ≡ changes part T (straight T s) (renewedAll T ts s c)
     unfolding changes
     whole side part is =
-        let h : ℕ → ℕ = λ i. changeOf side (at s i) (new s i) in
+        let h : ℕ → ℕ = change side s in
         let g : ℕ → ℕ = λ i. squareOfChange (part (at (straight T s) i)) (part (at (renewedAll T ts s c) i)) in
-        let all : T - 0 ≡ T = omega arith in
-        ap (λ (n : ℕ). sumℕ n (λ j. sumℕ 4 (λ r. h (4 * (0 + j) + r)))) all
-        ∙ sumℕ-same T (λ j. sumℕ 4 (λ r. h (4 * (0 + j) + r))) (λ t. sumℕ 4 (λ r. h (4 * t + r))) (λ t _. let e : 0 + t ≡ t = omega arith in rw e)
-        ∙ sumℕ-fours T h
+        let all : 4 * T - 4 * 0 ≡ 4 * T = omega arith in
+        ap (λ (n : ℕ). sumℕ n (λ j. h (4 * 0 + j))) all
+        ∙ sumℕ-same (4 * T) (λ j. h (4 * 0 + j)) h (λ j _. let e : 4 * 0 + j ≡ j = omega arith in ap h e)
         ∙ sym (sum-arranged (transposed T) h)
         ∙ sumℕ-same (4 * T) (λ i. h (place T i)) g (λ i l.
         rw (is (at s (place T i)), is (new s (place T i)), arranged-at (4 * T) (place T) s i l, getD-tab (4 * T) (renewedAt ts (straight T s) c) i (pos 0) l, new-place i l))
@@ -251,7 +245,7 @@ module _ (T : ℕ) (ts : List ℕ) (c : List ℤ) where
     pub settled : (x u a b : ℕ) (s′ : List ℤ) → Renewed T ts c 0 u s s′ 0 a 0 b → (a ≤ x → b ≤ x → u ≡ T) → 1 if (leb a x && leb b x) ≡ settledBy x T (straight T s) (renewedAll T ts s c)
     unfolding settledBy
     settled x u a b s′ r w =
-        let none : u ≡ T → (side : ℤ) → changesFrom T ts c side u s′ ≡ 0 = λ e side. let z : T - u ≡ 0 = omega arith in ap (λ (n : ℕ). sumℕ n (λ j. changesAt side s′ (u + j))) z in
+        let none : u ≡ T → (side : ℤ) → changesFrom T ts c side u s′ ≡ 0 = λ e side. let z : 4 * T - 4 * u ≡ 0 = omega arith in ap (λ (n : ℕ). sumℕ n (λ j. change side s′ (4 * u + j))) z in
         let p = grown a _ _ _ (r .of-multipliers) (whole (pos 1) multiplier side-multiplier) in
         let q = grown b _ _ _ (r .of-slacks) (whole (negsuc 0) slack side-slack) in
         settled-is x a b _ _ (p .0) (q .0) (λ h k. (p .1 (none (w h k) (pos 1)), q .1 (none (w h k) (negsuc 0))))

@@ -59,7 +59,7 @@ module _ (T : ℕ) (ts : List ℕ) (c : List ℤ) where
 
   -- what this will add to the total of one side
   abbrev pub changesFrom : ℤ → ℕ → List ℤ → ℕ
-  changesFrom side t s = sumℕ (T - t) (λ j. sumℕ 4 (λ r. changeOf side (row s (t + j) r) (renewedIn T ts s c (4 * (t + j) + r))))
+  changesFrom side t s = sumℕ (4 * T - 4 * t) (λ j. changeOf side (at s (4 * t + j)) (renewedIn T ts s c (4 * t + j)))
 
   -- Rows and totals with t triples done, then with u: the list and the totals will be the same in the end.
   pub record Renewed (t u : ℕ) (s s′ : List ℤ) (multipliers multipliers′ slacks slacks′ : ℕ) : Type 0 where
