@@ -28,12 +28,11 @@ asked s k m z p q = ((omega (arith, s .pre .0), omega (arith, s .pre .0)), (s .p
 
 pub with-four-spec : {M : Type 1} → statement M
 with-four-spec =
-    tie.close (tie.spec (λ c. search needs) (λ c. search needs) (λ c κs. asked (c .before .before) 0 _ _ (omega arith) (omega arith)) (λ c. search needs) (λ c. search needs)
+    tie.close (tie.spec (λ c. search needs) (λ c. search needs) (λ c κs. asked (c .before .before) 0 _ _ (omega arith) (omega arith)) (λ c. search needs)
+    (λ c. search needs)
     (λ c κs. let a = c .before .before in asked (a .before .before .before) 1 _ _ (omega (arith, a .with-triple .ensures .1)) (omega (arith, a .with-triple .ensures .1)))
     (λ c. search needs) (λ c. search needs)
-    (λ c κs. let b = c .before .before in let a = b .before .before .before in asked (a .before .before .before) 2 _ _
-    (omega (arith, a .with-triple .ensures .1, b .with-triple2 .ensures .1)) (omega (arith, a .with-triple .ensures .1, b .with-triple2 .ensures .1)))
+    (λ c κs. let b = c .before .before in let a = b .before .before .before in asked (a .before .before .before) 2 _ _     (omega (arith, a .with-triple .ensures .1, b .with-triple2 .ensures .1)) (omega (arith, a .with-triple .ensures .1, b .with-triple2 .ensures .1)))
     (λ c. search needs) (λ c. search needs)
-    (λ c κs. let d = c .before .before in let b = d .before .before .before in let a = b .before .before .before in asked (a .before .before .before) 3 _ _
-    (omega (arith, a .with-triple .ensures .1, b .with-triple2 .ensures .1, d .with-triple3 .ensures .1))
-    (omega (arith, a .with-triple .ensures .1, b .with-triple2 .ensures .1, d .with-triple3 .ensures .1))) returns)
+    (λ c κs. let d = c .before .before in let b = d .before .before .before in let a = b .before .before .before in asked (a .before .before .before) 3 _ _     (omega (arith, a .with-triple .ensures .1, b .with-triple2 .ensures .1, d .with-triple3 .ensures .1))     (omega (arith, a .with-triple .ensures .1, b .with-triple2 .ensures .1, d .with-triple3 .ensures .1)))
+    returns)
