@@ -1,5 +1,6 @@
 -- The rows of T triples, as one triple or four triples after the other are renewed with the values c. Assumes nothing.
 use mathlib.Core.Bool.{Bool, cond, true, false, _&&_}
+use mathlib.Core.Bool as bools
 use mathlib.Core.List.{List, [], _∷_}
 use mathlib.Core.Path.{_≡_, refl, sym, ap, ap₂, _∙_}
 use Prim.Native.Nat.{ℕ, _+_, _-_, _*_, _/_, _%_, _^_, _≤_, _<_}
@@ -75,13 +76,9 @@ module _ (ts : List ℕ) (c : List ℤ) (unit-most : (v : ℕ) → natAbs (at c 
 settled-is : (x a b A B : ℕ) → a ≤ A → b ≤ B → (a ≤ x → b ≤ x → (a ≡ A) × (b ≡ B)) → 1 if (leb a x && leb b x) ≡ 1 if (leb A x && leb B x)
 settled-is x a b A B h k w = by (leb a x) (leb b x) refl refl
   where
-    none : (t : Bool) → (t && false) ≡ false
-    none true = refl
-    none false = refl
-
     by : (p q : Bool) → leb a x ≡ p → leb b x ≡ q → 1 if (leb a x && leb b x) ≡ 1 if (leb A x && leb B x)
     by true true e f = let same = w (leb-true a x e) (leb-true b x f) in ap₂ (λ (u v : ℕ). 1 if (leb u x && leb v x)) (same .0) (same .1)
-    by true false e f = rw (e, f, lt-leb B x (omega (arith, leb-false b x f)), none (leb A x))
+    by true false e f = rw (e, f, lt-leb B x (omega (arith, leb-false b x f)), bools.and-false (leb A x))
     by false q e f = rw (e, lt-leb A x (omega (arith, leb-false a x e)))
 
 grown : (a f w A : ℕ) → a + f ≡ 0 + w → w ≡ A → (a ≤ A) × (f ≡ 0 → a ≡ A)
@@ -211,8 +208,11 @@ module _ (T : ℕ) (ts : List ℕ) (c : List ℤ) where
   module _ (few : T ≤ mostTriples) (unit-most : (v : ℕ) → natAbs (at c v) ≤ unit) where
     most : (side : ℤ) → ((z : ℤ) (t r : ℕ) → r < 4 → Small z → changeOf side z (renewed z (sumAt ts c t r)) ≤ 4294967296) → (s : List ℤ) → Left T 0 s → changesFrom T ts c side 0 s ≤ 2 ^ 47
     most side one s left =
-        omega (arith, sumℕ-bound (4 * T - 4 * 0) 4294967296 (λ i. change side s (4 * 0 + i)) (λ i _.
-        one (at s (4 * 0 + i)) (place T (4 * 0 + i) / 4) (place T (4 * 0 + i) % 4) (omega arith) (left .small (4 * 0 + i) (omega arith))))
+        omega (
+          arith,
+          sumℕ-bound (4 * T - 4 * 0) 4294967296 (λ i. change side s (4 * 0 + i)) (λ i _.
+              one (at s (4 * 0 + i)) (place T (4 * 0 + i) / 4) (place T (4 * 0 + i) % 4) (omega arith) (left .small (4 * 0 + i) (omega arith))),
+        )
 
     pub totals-small : {u a b : ℕ} {s s′ : List ℤ} → Left T 0 s → Renewed T ts c 0 u s s′ 0 a 0 b → (a ≤ 2 ^ 47) × (b ≤ 2 ^ 47)
     totals-small {s} left r =

@@ -30,7 +30,7 @@ loop-again c =
     let h = room (c .before .before .before) in
     let n = c .before .renew-four in
     let r = four-renewed (a .count) (a .triples .now) (a .values .now) (l .loop .t) (l .loop .rows) (n .last .1 .1 .0) (n .result) 0 0 _ _ (l .loop .inv .0) (omega (arith, h)) (l .loop .inv .1)
-        (n .ensures .0) (n .ensures .1) refl refl in
+    (n .ensures .0) (n .ensures .1) refl refl in
     ((omega arith, omega (arith, l .loop .inv .0, h)), r .left, r .rows ∙ l .loop .inv .2)
 
 returns : tie.Need-returns Inv-loop μ-loop

@@ -28,10 +28,10 @@ returns c =
     let a = s .args in
     let of : ℕ → ℤ = λ r. rowSum r (a .a) (a .b) (a .c) in
     let e = four-are of _ _ _ _
-        (read-back w32 (c .before .before .before .row-sum .ok) (c .before .before .before .row-sum .ensures ∙ same s 0))
-        (read-back w32 (c .before .before .row-sum2 .ok) (c .before .before .row-sum2 .ensures ∙ same s 1))
-        (read-back w32 (c .before .row-sum3 .ok) (c .before .row-sum3 .ensures ∙ same s 2))
-        (read-back w32 (c .row-sum4 .ok) (c .row-sum4 .ensures ∙ same s 3)) in
+    (read-back w32 (c .before .before .before .row-sum .ok) (c .before .before .before .row-sum .ensures ∙ same s 0))
+    (read-back w32 (c .before .before .row-sum2 .ok) (c .before .before .row-sum2 .ensures ∙ same s 1))
+    (read-back w32 (c .before .row-sum3 .ok) (c .before .row-sum3 .ensures ∙ same s 2))
+    (read-back w32 (c .row-sum4 .ok) (c .row-sum4 .ensures ∙ same s 3)) in
     (e, λ r. subst (λ (l : List ℤ). natAbs (at l r) ≤ 3 * unit) (sym e) (at-tab (λ z. natAbs z ≤ 3 * unit) 4 of r (λ l. rowSum-bound r (a .a) (a .b) (a .c) l (s .pre .0) (s .pre .1) (s .pre .2)) (omega arith)))
 
 pub row-sums-spec : {M : Type 1} → statement M
