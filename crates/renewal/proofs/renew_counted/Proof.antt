@@ -44,7 +44,7 @@ with-four-requires c κs =
     let s = start l in
     let a = s .args in
     let small = totals-small (a .count) (a .triples .now) (a .values .now) (s .pre .0 .0) (s .pre .1 .0 .1) (at-first (s .pre .0 .2) (s .pre .1 .1)) (whole l) in (
-      (omega (arith, small), omega (arith, small)),
+      omega (arith, small),
       rw (n .renew-four .ensures .0) (old-fours (l .loop .rows) (l .loop .t) (whole l .left .small), new-fours (a .triples .now) (a .values .now) (s .pre .1 .0 .1) (l .loop .rows) (l .loop .t) (whole l .left .small)),
     )
 

@@ -51,7 +51,7 @@ with-triple-requires c κs =
     let l = at-loop (made c) in
     let s = start l in
     let small = totals-small (s .args .count) (s .args .triples .now) (s .args .values .now) (s .pre .0 .0) (s .pre .1 .0 .1) (at-first (s .pre .0 .2) (s .pre .1 .1)) (l .loop .inv .1) in
-    ((omega (arith, small), omega (arith, small)), (old-small (made c .before), new-small (made c)))
+    (omega (arith, small), (old-small (made c .before), new-small (made c)))
 
 loop-again : tie.Need-loop-again Inv-loop μ-loop
 loop-again c =

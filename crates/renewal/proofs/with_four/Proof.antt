@@ -6,6 +6,7 @@ use native.Mathlib.Omega.{arith}
 use borrow.Author.Needs.{needs}
 use lib.ListN.{getD}
 use Rattle.rows.specs.Sides.{Rows, mostChanges}
+use Rattle.renewal.specs.declared.Totals.{Totals}
 use Rattle.renewal.proofs.with_four.Statement.{statement}
 use Rattle.renewal.proofs.with_four.Tie as tie
 
@@ -21,18 +22,16 @@ returns c =
       joined _ _ _ _ _ _ _ _ _ (a .1) (b .with-triple2 .ensures .0 .1) (d .with-triple3 .ensures .0 .1) (c .with-triple4 .ensures .0 .1),
     )
 
--- so far the totals are small, and so are the rows
-asked : (s : tie.Start) (k m z : ℕ) → m ≤ s .args .totals .multipliers + 3 * mostChanges → z ≤ s .args .totals .slacks + 3 * mostChanges
-    → ((m ≤ 2 ^ 63) × (z ≤ 2 ^ 63)) × (Rows (getD (s .args .t2) k []) × Rows (getD (s .args .t3) k []))
-asked s k m z p q = ((omega (arith, s .pre .0), omega (arith, s .pre .0)), (s .pre .1 .0 k, s .pre .1 .1 k))
+-- what a triple more asks, where so many are counted
+asked : (s : tie.Start) (k : ℕ) (r : Totals) → (r .multipliers ≤ s .args .totals .multipliers + 3 * mostChanges) × (r .slacks ≤ s .args .totals .slacks + 3 * mostChanges)
+    → ((r .multipliers ≤ 2 ^ 63) × (r .slacks ≤ 2 ^ 63)) × (Rows (getD (s .args .t2) k []) × Rows (getD (s .args .t3) k []))
+asked s k r h = (omega (arith, s .pre .0, h), (s .pre .1 .0 k, s .pre .1 .1 k))
 
 pub with-four-spec : {M : Type 1} → statement M
 with-four-spec =
-    tie.close (tie.spec (λ c. search needs) (λ c. search needs) (λ c κs. asked (c .before .before) 0 _ _ (omega arith) (omega arith)) (λ c. search needs)
-    (λ c. search needs)
-    (λ c κs. let a = c .before .before in asked (a .before .before .before) 1 _ _ (omega (arith, a .with-triple .ensures .1)) (omega (arith, a .with-triple .ensures .1)))
-    (λ c. search needs) (λ c. search needs)
-    (λ c κs. let b = c .before .before in let a = b .before .before .before in asked (a .before .before .before) 2 _ _ (omega (arith, a .with-triple .ensures .1, b .with-triple2 .ensures .1)) (omega (arith, a .with-triple .ensures .1, b .with-triple2 .ensures .1)))
-    (λ c. search needs) (λ c. search needs)
-    (λ c κs. let d = c .before .before in let b = d .before .before .before in let a = b .before .before .before in asked (a .before .before .before) 3 _ _ (omega (arith, a .with-triple .ensures .1, b .with-triple2 .ensures .1, d .with-triple3 .ensures .1)) (omega (arith, a .with-triple .ensures .1, b .with-triple2 .ensures .1, d .with-triple3 .ensures .1)))
-    returns)
+    tie.close (tie.spec (λ c. search needs) (λ c. search needs) (λ c κs. let s = c .before .before in asked s 0 (s .args .totals) (omega arith)) (λ c. search needs) (λ c. search needs)
+    (λ c κs. let a = c .before .before in asked (a .before .before .before) 1 (a .with-triple .result) (omega (arith, a .with-triple .ensures .1))) (λ c. search needs) (λ c. search needs)
+    (λ c κs. let b = c .before .before in let a = b .before .before .before in
+    asked (a .before .before .before) 2 (b .with-triple2 .result) (omega (arith, a .with-triple .ensures .1, b .with-triple2 .ensures .1))) (λ c. search needs) (λ c. search needs)
+    (λ c κs. let d = c .before .before in let b = d .before .before .before in let a = b .before .before .before in
+    asked (a .before .before .before) 3 (d .with-triple3 .result) (omega (arith, a .with-triple .ensures .1, b .with-triple2 .ensures .1, d .with-triple3 .ensures .1))) returns)
