@@ -19,23 +19,23 @@ use Rattle.rows.proofs.shares.Tie as tie
 abbrev size : tie.Start → ℕ → ℤ
 size s r = pos (slack (at (s .args .s) r) + multiplier (at (s .args .s) r))
 
-given : (s : tie.Start) (r : ℕ) (z : ℤ) → mag z < 2 ^ hbits w32 → z ≡ size s r → Worth (raw z) (size s r) 131072000
-given s r z f e = local w32 131072000 f e (omega (arith, about (at (s .args .s) r), s .pre r))
+given : (s : tie.Start) (r : ℕ) (z : ℤ) → mag z < 2 ^ hbits w32 → z ≡ size s r → Worth (raw z) (size s r) mostRow
+given s r z f e = local w32 mostRow f e (omega (arith, about (at (s .args .s) r), s .pre r))
 
 module _ (c : tie.After-size-at4) where
   abbrev s : tie.Start
   s = c .before .before .before .before
 
-  first : Worth (raw (c .before .before .before .size-at .result)) (size s 0) 131072000
+  first : Worth (raw (c .before .before .before .size-at .result)) (size s 0) mostRow
   first = given s 0 _ (c .before .before .before .size-at .ok) (c .before .before .before .size-at .ensures)
 
-  second : Worth (raw (c .before .before .size-at2 .result)) (size s 1) 131072000
+  second : Worth (raw (c .before .before .size-at2 .result)) (size s 1) mostRow
   second = given s 1 _ (c .before .before .size-at2 .ok) (c .before .before .size-at2 .ensures)
 
-  third : Worth (raw (c .before .size-at3 .result)) (size s 2) 131072000
+  third : Worth (raw (c .before .size-at3 .result)) (size s 2) mostRow
   third = given s 2 _ (c .before .size-at3 .ok) (c .before .size-at3 .ensures)
 
-  fourth : Worth (raw (c .size-at4 .result)) (size s 3) 131072000
+  fourth : Worth (raw (c .size-at4 .result)) (size s 3) mostRow
   fourth = given s 3 _ (c .size-at4 .ok) (c .size-at4 .ensures)
 
   summed : (p : ℕ) → sign 0 p *ℤ raw (c .before .before .before .size-at .result) +ℤ sign 1 p *ℤ raw (c .before .before .size-at2 .result)
