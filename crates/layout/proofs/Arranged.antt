@@ -36,9 +36,6 @@ module _ {n : ℕ} {f g : ℕ → ℕ} (p : Permutation n f g) where
       ∙ ap (λ (m : ℕ). tab m (at l)) (sym e)
       ∙ tab-getD l (pos 0)
 
-  pub all-back : (P : ℤ → Type 0) → P (pos 0) → (l : List ℤ) → length l ≡ n → ((i : ℕ) → P (at (arranged n f l) i)) → (i : ℕ) → P (at l i)
-  all-back P z l e h i = subst (λ (k : List ℤ). P (at k i)) (arranged-back l e) (arranged-all n g (arranged n f l) P z h i)
-
   -- ---- a sum over all places: h of place j counts where f of i is j, which is at one i
   pub sum-arranged : (h : ℕ → ℕ) → sumℕ n (λ i. h (f i)) ≡ sumℕ n h
   sum-arranged h =

@@ -5,25 +5,28 @@ use Prim.Native.Nat.{ℕ, suc, _+_, _-_, _*_, _/_, _%_, _≤_, _<_}
 use native.Mathlib.Omega.{arith}
 use native.Mathlib.Decide.{decLt}
 use borrow.Author.Tests.{lt-ltb, le-ltb}
-use lib.IntN.{ℤ, pos}
+use lib.IntN.{ℤ, pos, natAbs}
 use lib.ListN.{length, getD, List·getD-eq-default}
 use lib.Seq.{sets}
 use Rattle.lists.specs.Tabulated.{tab, over}
 use Rattle.lists.proofs.Tabulated.{length-tab, getD-tab, tab-same, over-sets}
+use Rattle.model.specs.Limits.{mostRow}
 use Rattle.model.specs.Iteration.{at, row, slack, multiplier}
 use Rattle.model.specs.Bounds.{RowsWithin}
 use Rattle.model.proofs.Rows.{at-tab}
+use Rattle.rows.specs.Sides.{Rows}
+use Rattle.rows.proofs.Four.{rows-are}
 use Rattle.layout.specs.Arranged.{Permutation}
-use Rattle.layout.specs.Transposed.{cell, stored, place, straight}
+use Rattle.layout.specs.Transposed.{cell, Fours, stored, place, straight}
 use Rattle.layout.proofs.Arranged.{arranged-at, arranged-all, arranged-back}
 
--- a cell of four fours is the function's, or 0
-pub cell-tab : (P : ℤ → Type 0) (f : ℕ → ℕ → ℤ) (k j : ℕ) → (k < 4 → j < 4 → P (f k j)) → P (pos 0) → P (cell (tab 4 (λ k. tab 4 (f k))) k j)
-cell-tab P f k j h z = by (decLt k 4)
+-- ---- four fours by their cells
+pub fours-are : (f : ℕ → ℕ → ℤ) → ((k j : ℕ) → k < 4 → j < 4 → natAbs (f k j) ≤ mostRow) → Fours (tab 4 (λ k. tab 4 (f k)))
+fours-are f h k = by (decLt k 4)
   where
-    by : Dec (k < 4) → P (cell (tab 4 (λ k. tab 4 (f k))) k j)
-    by (yes l) = rw (getD-tab 4 (λ k. tab 4 (f k)) k [] l) (at-tab P 4 (f k) j (h l) z)
-    by (no l) = let e : getD (tab 4 (λ k. tab 4 (f k))) k [] ≡ [] = List·getD-eq-default (tab 4 (λ k. tab 4 (f k))) [] {n = k} (omega (arith, length-tab 4 (λ k. tab 4 (f k)))) in rw e z
+    by : Dec (k < 4) → Rows (getD (tab 4 (λ k. tab 4 (f k))) k [])
+    by (yes l) = rw (getD-tab 4 (λ k. tab 4 (f k)) k [] l) (rows-are (f k) (λ j. h k j l))
+    by (no l) = rw (List·getD-eq-default (tab 4 (λ k. tab 4 (f k))) [] {n = k} (omega (arith, length-tab 4 (λ k. tab 4 (f k))))) (λ _. omega arith)
 
 pub cell-is : (f : ℕ → ℕ → ℤ) (k j : ℕ) → k < 4 → j < 4 → cell (tab 4 (λ k. tab 4 (f k))) k j ≡ f k j
 cell-is f k j l m = ap (λ (q : List ℤ). at q j) (getD-tab 4 (λ k. tab 4 (f k)) k [] l) ∙ getD-tab 4 (f k) j (pos 0) m

@@ -9,7 +9,7 @@ ghost use Rattle.lists.specs.Tabulated.{tab};
 ghost use Rattle.model.specs.Splitting.{member};
 ghost use Rattle.model.specs.Iteration.{at, row};
 ghost use Rattle.model.specs.Limits.{mostTriples, mostRow};
-ghost use Rattle.layout.specs.Transposed.{cell, lane, stored, straight};
+ghost use Rattle.layout.specs.Transposed.{cell, Fours, lane, stored, straight};
 
 // ---- one triple
 
@@ -52,7 +52,7 @@ pub fn store(rows: &mut [i32], t: usize, s: [i32; 4])
 
 // Cell j of each four.
 fn column(q: [[i32; 4]; 4], j: usize) -> [i32; 4]
-    requires { ⌜ (j < 4) × ((k i : ℕ) → natAbs (cell q k i) ≤ mostRow) ⌝ }
+    requires { ⌜ (j < 4) × Fours q ⌝ }
     ensures { λ l. ⌜ l ≡ tab 4 (λ k. cell q k j) ⌝ }
 {
     [q[0][j], q[1][j], q[2][j], q[3][j]]
@@ -60,7 +60,7 @@ fn column(q: [[i32; 4]; 4], j: usize) -> [i32; 4]
 
 // Rows transposed, or transposed back.
 fn transpose(q: [[i32; 4]; 4]) -> [[i32; 4]; 4]
-    requires { ⌜ ((k j : ℕ) → natAbs (cell q k j) ≤ mostRow) ⌝ }
+    requires { ⌜ Fours q ⌝ }
     ensures { λ l. ⌜ l ≡ tab 4 (λ j. tab 4 (λ k. cell q k j)) ⌝ }
 {
     [column(q, 0), column(q, 1), column(q, 2), column(q, 3)]
@@ -79,7 +79,7 @@ fn load_all(rows: &[i32], t: usize) -> [[i32; 4]; 4]
 }
 
 fn store_all(rows: &mut [i32], t: usize, q: [[i32; 4]; 4])
-    requires { ⌜ (t + 4 ≤ mostTriples) × (4 * t + 15 < length (now rows)) × ((k j : ℕ) → natAbs (cell q k j) ≤ mostRow) ⌝ }
+    requires { ⌜ (t + 4 ≤ mostTriples) × (4 * t + 15 < length (now rows)) × Fours q ⌝ }
     ensures { λ _. ⌜ now (rows .exit) ≡ sets (now (rows .entry)) (4 * t) (tab 16 (λ j. cell q (j / 4) (j % 4))) ⌝ }
 {
     store(rows, t, q[0]);
@@ -97,7 +97,7 @@ pub fn load_four(rows: &[i32], t: usize) -> [[i32; 4]; 4]
 }
 
 pub fn store_four(rows: &mut [i32], t: usize, q: [[i32; 4]; 4])
-    requires { ⌜ (t + 4 ≤ mostTriples) × (4 * t + 15 < length (now rows)) × ((k j : ℕ) → natAbs (cell q k j) ≤ mostRow) ⌝ }
+    requires { ⌜ (t + 4 ≤ mostTriples) × (4 * t + 15 < length (now rows)) × Fours q ⌝ }
     ensures { λ _. ⌜ now (rows .exit) ≡ stored (now (rows .entry)) t q ⌝ }
 {
     store_all(rows, t, transpose(q))

@@ -1,5 +1,6 @@
 -- The rows of T triples, as one triple or four triples after the other are renewed with the values c. Assumes nothing.
 use mathlib.Core.Bool.{Bool, cond, true, false, _&&_}
+use mathlib.Core.Bool as bools
 use mathlib.Core.List.{List, [], _∷_}
 use mathlib.Core.Path.{_≡_, refl, sym, ap, ap₂, _∙_}
 use Prim.Native.Nat.{ℕ, _+_, _-_, _*_, _/_, _%_, _^_, _≤_, _<_}
@@ -24,67 +25,60 @@ use Rattle.model.specs.Splitting.{member}
 use Rattle.model.specs.Iteration.{at, sumAt, row, slack, multiplier, renewed, renewedAt}
 use Rattle.model.specs.Run.{squareOfChange, changes, settledBy}
 use Rattle.model.specs.Bounds.{RowsWithin}
-use Rattle.model.proofs.Rows.{at-tab}
 use Rattle.model.proofs.Bounds.{rowSum-bound, renewed-multiplier, renewed-slack, multiplier-change}
-use Rattle.rows.specs.Sides.{changeOf}
-use Rattle.rows.proofs.Four.{side-multiplier, side-slack}
-use Rattle.layout.specs.Transposed.{cell, lane, stored, place, straight}
+use Rattle.rows.specs.Sides.{Rows, changeOf}
+use Rattle.rows.proofs.Four.{rows-are, side-multiplier, side-slack}
+use Rattle.layout.specs.Transposed.{cell, Fours, lane, stored, place, straight, Aligned}
 use Rattle.layout.proofs.Arranged.{arranged-at, sum-arranged}
-use Rattle.layout.proofs.Places.{place-first, place-four, cell-tab, cell-is, transposed}
-use Rattle.renewal.specs.InPlace.{Small, tripleChanges, fourChanges, renewedFour, renewedIn, renewedAll, Aligned, Left, renewedFrom, changesFrom, Renewed}
+use Rattle.layout.proofs.Places.{place-first, place-four, fours-are, cell-is, transposed}
+use Rattle.renewal.specs.InPlace.{Small, tripleChanges, fourChanges, renewedFour, renewedIn, renewedAll, Left, renewedFrom, changesFrom, Renewed}
 
 -- ---- how large
 pub small-abs : (z : ℤ) → Small z → natAbs z ≤ mostRow
 small-abs z h = omega (arith, about z, h .0, h .1)
 
--- the rows of a triple and the cells of four triples, before and after
-pub old-rows : (s : List ℤ) (t : ℕ) → ((i : ℕ) → 4 * t ≤ i → Small (at s i)) → (r : ℕ) → natAbs (at (tab 4 (λ r. row s t r)) r) ≤ mostRow
-old-rows s t small r = at-tab (λ z. natAbs z ≤ mostRow) 4 (λ r. row s t r) r (λ _. small-abs (row s t r) (small (4 * t + r) (omega arith))) (omega arith)
+-- the rows of a triple and of four, before
+pub old-rows : (s : List ℤ) (t : ℕ) → ((i : ℕ) → 4 * t ≤ i → Small (at s i)) → Rows (tab 4 (λ r. row s t r))
+old-rows s t small = rows-are (λ r. row s t r) (λ r _. small-abs (row s t r) (small (4 * t + r) (omega arith)))
 
-pub old-cells : (s : List ℤ) (t : ℕ) → ((i : ℕ) → 4 * t ≤ i → Small (at s i)) → (k r : ℕ) → natAbs (cell (tab 4 (lane s t)) k r) ≤ mostRow
-old-cells s t small k r =
-    cell-tab (λ z. natAbs z ≤ mostRow) (λ k r. row s (t + r) k) k r (λ _ _. small-abs (row s (t + r) k) (small (4 * (t + r) + k) (omega arith))) (omega arith)
+pub old-fours : (s : List ℤ) (t : ℕ) → ((i : ℕ) → 4 * t ≤ i → Small (at s i)) → Fours (tab 4 (lane s t))
+old-fours s t small = fours-are (λ k r. row s (t + r) k) (λ k r _ _. small-abs (row s (t + r) k) (small (4 * (t + r) + k) (omega arith)))
 
 module _ (ts : List ℕ) (c : List ℤ) (unit-most : (v : ℕ) → natAbs (at c v) ≤ unit) where
   sum-small : (t r : ℕ) → r < 4 → natAbs (sumAt ts c t r) ≤ 3 * unit
   sum-small t r l = rowSum-bound r _ _ _ l (unit-most (member ts t 0)) (unit-most (member ts t 1)) (unit-most (member ts t 2))
 
-  pub new-abs : (z : ℤ) (t r : ℕ) → r < 4 → Small z → natAbs (renewed z (sumAt ts c t r)) ≤ mostRow
+  new-abs : (z : ℤ) (t r : ℕ) → r < 4 → Small z → natAbs (renewed z (sumAt ts c t r)) ≤ mostRow
   new-abs z t r l h = let sum = sumAt ts c t r in let k = sum-small t r l in omega (arith, about (renewed z sum), renewed-multiplier z sum k, renewed-slack z sum k, h .0)
 
   -- the square of a change: by 65,536 at most, on both sides
-  pub multiplier-most : (z : ℤ) (t r : ℕ) → r < 4 → Small z → changeOf (pos 1) z (renewed z (sumAt ts c t r)) ≤ 4294967296
+  multiplier-most : (z : ℤ) (t r : ℕ) → r < 4 → Small z → changeOf (pos 1) z (renewed z (sumAt ts c t r)) ≤ 4294967296
   multiplier-most z t r l h =
       let sum = sumAt ts c t r in
       let d = multiplier-change z sum (sum-small t r l) in
       rw (side-multiplier z, side-multiplier (renewed z sum)) (mul-le-mul d d)
 
-  pub slack-most : (z : ℤ) (t r : ℕ) → r < 4 → Small z → changeOf (negsuc 0) z (renewed z (sumAt ts c t r)) ≤ 4294967296
+  slack-most : (z : ℤ) (t r : ℕ) → r < 4 → Small z → changeOf (negsuc 0) z (renewed z (sumAt ts c t r)) ≤ 4294967296
   slack-most z t r l h =
       let sum = sumAt ts c t r in
       let d = abs-difference (slack (renewed z sum)) (slack z) 65536 (omega (arith, renewed-slack z sum (sum-small t r l))) (omega (arith, h .1)) in
       rw (side-slack z, side-slack (renewed z sum)) (mul-le-mul d d)
 
-  pub new-rows : (s : List ℤ) (t : ℕ) → ((i : ℕ) → 4 * t ≤ i → Small (at s i)) → (r : ℕ) → natAbs (at (tab 4 (λ r. renewed (row s t r) (sumAt ts c t r))) r) ≤ mostRow
-  new-rows s t small r =
-      at-tab (λ z. natAbs z ≤ mostRow) 4 (λ r. renewed (row s t r) (sumAt ts c t r)) r (λ l. new-abs (row s t r) t r l (small (4 * t + r) (omega arith))) (omega arith)
+  -- and after
+  pub new-rows : (s : List ℤ) (t : ℕ) → ((i : ℕ) → 4 * t ≤ i → Small (at s i)) → Rows (tab 4 (λ r. renewed (row s t r) (sumAt ts c t r)))
+  new-rows s t small = rows-are (λ r. renewed (row s t r) (sumAt ts c t r)) (λ r l. new-abs (row s t r) t r l (small (4 * t + r) (omega arith)))
 
-  pub new-cells : (s : List ℤ) (t : ℕ) → ((i : ℕ) → 4 * t ≤ i → Small (at s i)) → (k r : ℕ) → natAbs (cell (renewedFour ts s c t) k r) ≤ mostRow
-  new-cells s t small k r =
-      cell-tab (λ z. natAbs z ≤ mostRow) (λ k r. renewed (row s (t + r) k) (sumAt ts c (t + k) r)) k r
-      (λ _ l. new-abs (row s (t + r) k) (t + k) r l (small (4 * (t + r) + k) (omega arith))) (omega arith)
+  pub new-fours : (s : List ℤ) (t : ℕ) → ((i : ℕ) → 4 * t ≤ i → Small (at s i)) → Fours (renewedFour ts s c t)
+  new-fours s t small =
+      fours-are (λ k r. renewed (row s (t + r) k) (sumAt ts c (t + k) r)) (λ k r _ l. new-abs (row s (t + r) k) (t + k) r l (small (4 * (t + r) + k) (omega arith)))
 
 -- ---- totals that are not the whole ones where one of them exceeds x
 settled-is : (x a b A B : ℕ) → a ≤ A → b ≤ B → (a ≤ x → b ≤ x → (a ≡ A) × (b ≡ B)) → 1 if (leb a x && leb b x) ≡ 1 if (leb A x && leb B x)
 settled-is x a b A B h k w = by (leb a x) (leb b x) refl refl
   where
-    none : (t : Bool) → (t && false) ≡ false
-    none true = refl
-    none false = refl
-
     by : (p q : Bool) → leb a x ≡ p → leb b x ≡ q → 1 if (leb a x && leb b x) ≡ 1 if (leb A x && leb B x)
     by true true e f = let same = w (leb-true a x e) (leb-true b x f) in ap₂ (λ (u v : ℕ). 1 if (leb u x && leb v x)) (same .0) (same .1)
-    by true false e f = rw (e, f, lt-leb B x (omega (arith, leb-false b x f)), none (leb A x))
+    by true false e f = rw (e, f, lt-leb B x (omega (arith, leb-false b x f)), bools.and-false (leb A x))
     by false q e f = rw (e, lt-leb A x (omega (arith, leb-false a x e)))
 
 grown : (a f w A : ℕ) → a + f ≡ 0 + w → w ≡ A → (a ≤ A) × (f ≡ 0 → a ≡ A)
@@ -102,8 +96,8 @@ module _ (T : ℕ) (ts : List ℕ) (c : List ℤ) where
   abbrev entry : ℕ → List ℤ → ℕ → ℤ
   entry t s i = cond (ltb i (4 * t)) (at s i) (new s i)
 
-  abbrev changesAt : ℤ → List ℤ → ℕ → ℕ
-  changesAt side s t = sumℕ 4 (λ r. changeOf side (row s t r) (new s (4 * t + r)))
+  abbrev change : ℤ → List ℤ → ℕ → ℕ
+  change side s i = changeOf side (at s i) (new s i)
 
   done : (t : ℕ) (s : List ℤ) (i : ℕ) → i < 4 * t → entry t s i ≡ at s i
   done t s i h = rw (lt-ltb i (4 * t) h)
@@ -134,19 +128,17 @@ module _ (T : ℕ) (ts : List ℕ) (c : List ℤ) where
         ∙ ap (λ (z : ℤ). renewed z (sumAt ts c (place T i / 4) (place T i % 4))) (kept i (omega arith))
         ∙ sym (to-do t s i (omega arith))
 
-    total : (side : ℤ) → sumℕ n (λ j. changesAt side s (t + j)) + changesFrom T ts c side (t + n) s′ ≡ changesFrom T ts c side t s
+    total : (side : ℤ) → sumℕ (4 * n) (λ j. change side s (4 * t + j)) + changesFrom T ts c side (t + n) s′ ≡ changesFrom T ts c side t s
     total side =
-        let m = T - (t + n) in
-        let e : n + m ≡ T - t = omega arith in
-        let same : (j : ℕ) → j < m → changesAt side s′ (t + n + j) ≡ changesAt side s (t + (n + j))
-        = λ j _. let g : t + (n + j) ≡ t + n + j = omega arith in
-        rw g (sumℕ-same 4 (λ r. changeOf side (row s′ (t + n + j) r) (new s′ (4 * (t + n + j) + r))) (λ r. changeOf side (row s (t + n + j) r) (new s (4 * (t + n + j) + r)))
-        (λ r _. rw (kept (4 * (t + n + j) + r) (omega arith)))) in
-        ap (λ (x : ℕ). sumℕ n (λ j. changesAt side s (t + j)) + x) (sumℕ-same m (λ j. changesAt side s′ (t + n + j)) (λ j. changesAt side s (t + (n + j))) same)
-        ∙ sym (sumℕ-split n m (λ j. changesAt side s (t + j)))
-        ∙ ap (λ (k : ℕ). sumℕ k (λ j. changesAt side s (t + j))) e
+        let m = 4 * T - 4 * (t + n) in
+        let e : 4 * n + m ≡ 4 * T - 4 * t = omega arith in
+        let same : (j : ℕ) → j < m → change side s′ (4 * (t + n) + j) ≡ change side s (4 * t + (4 * n + j))
+        = λ j _. let g : 4 * t + (4 * n + j) ≡ 4 * (t + n) + j = omega arith in rw (g, kept (4 * (t + n) + j) (omega arith)) in
+        ap (λ (x : ℕ). sumℕ (4 * n) (λ j. change side s (4 * t + j)) + x) (sumℕ-same m _ _ same)
+        ∙ sym (sumℕ-split (4 * n) m (λ j. change side s (4 * t + j)))
+        ∙ ap (λ (k : ℕ). sumℕ k (λ j. change side s (4 * t + j))) e
 
-    step : (m z a b : ℕ) → a ≡ m + sumℕ n (λ j. changesAt (pos 1) s (t + j)) → b ≡ z + sumℕ n (λ j. changesAt (negsuc 0) s (t + j)) → Renewed T ts c t (t + n) s s′ m a z b
+    step : (m z a b : ℕ) → a ≡ m + sumℕ (4 * n) (λ j. change (pos 1) s (4 * t + j)) → b ≡ z + sumℕ (4 * n) (λ j. change (negsuc 0) s (4 * t + j)) → Renewed T ts c t (t + n) s s′ m a z b
     step m z a b p q = record {
       left = record {
         long = ap length list-is ∙ length-over (4 * (t + n)) (entry t s) s (omega (arith, left .long)) ∙ left .long;
@@ -166,12 +158,10 @@ module _ (T : ℕ) (ts : List ℕ) (c : List ℤ) where
 
   module _ (t : ℕ) (s s′ old new′ : List ℤ) (m z a b : ℕ) (h : t < T % 4) (left : Left T t s)
       (old-is : old ≡ tab 4 (λ r. row s t r)) (new-is : new′ ≡ tab 4 (λ r. renewed (row s t r) (sumAt ts c t r))) where
-    triple-total : (side : ℤ) → tripleChanges side old new′ ≡ sumℕ 1 (λ j. changesAt side s (t + j))
+    triple-total : (side : ℤ) → tripleChanges side old new′ ≡ sumℕ 4 (λ r. change side s (4 * t + r))
     triple-total side =
-        let e : t + 0 ≡ t = omega arith in
         ap₂ (tripleChanges side) old-is new-is
-        ∙ rw e (sumℕ-same 4 (λ r. changeOf side (row s t r) (renewed (row s t r) (sumAt ts c t r))) (λ r. changeOf side (row s t r) (new s (4 * t + r)))
-        (λ r l. ap (changeOf side (row s t r)) (new-first s t r h l)) ∙ omega arith)
+        ∙ sumℕ-same 4 (λ r. changeOf side (row s t r) (renewed (row s t r) (sumAt ts c t r))) _ (λ r l. ap (changeOf side (row s t r)) (new-first s t r h l))
 
     pub triple-renewed : s′ ≡ sets s (4 * t) (tab 4 (at new′)) → a ≡ m + tripleChanges (pos 1) old new′ → b ≡ z + tripleChanges (negsuc 0) old new′ → Renewed T ts c t (t + 1) s s′ m a z b
     triple-renewed put p q =
@@ -187,14 +177,14 @@ module _ (T : ℕ) (ts : List ℕ) (c : List ℤ) where
 
   module _ (t : ℕ) (s s′ : List ℤ) (q : List (List (List ℤ))) (m z a b : ℕ) (al : Aligned T t) (h : t < T) (left : Left T t s)
       (q-is : q ≡ tab 4 (lane s t) ∷ renewedFour ts s c t ∷ []) where
-    four-total : (side : ℤ) → fourChanges side (getD q 0 []) (getD q 1 []) ≡ sumℕ 4 (λ j. changesAt side s (t + j))
+    four-total : (side : ℤ) → fourChanges side (getD q 0 []) (getD q 1 []) ≡ sumℕ 16 (λ j. change side s (4 * t + j))
     four-total side =
         let new′ : ℕ → ℕ → ℤ = λ k r. renewed (row s (t + r) k) (sumAt ts c (t + k) r) in
         ap (λ (q : List (List (List ℤ))). fourChanges side (getD q 0 []) (getD q 1 [])) q-is
         ∙ sumℕ-swap 4 4 (λ k r. changeOf side (row s (t + r) k) (new′ k r))
-        ∙ sumℕ-same 4 (λ r. sumℕ 4 (λ k. changeOf side (row s (t + r) k) (new′ k r))) (λ r. changesAt side s (t + r)) (λ r l.
-        sumℕ-same 4 (λ k. changeOf side (row s (t + r) k) (new′ k r)) (λ k. changeOf side (row s (t + r) k) (new s (4 * (t + r) + k))) (λ k g.
-        ap (changeOf side (row s (t + r) k)) (new-four s t k r al g l)))
+        ∙ sumℕ-same 4 (λ r. sumℕ 4 (λ k. changeOf side (row s (t + r) k) (new′ k r))) _ (λ r l. sumℕ-same 4 (λ k. changeOf side (row s (t + r) k) (new′ k r)) _ (λ k g.
+        let e : 4 * (t + r) + k ≡ 4 * t + (4 * r + k) = omega arith in ap (changeOf side (row s (t + r) k)) (new-four s t k r al g l) ∙ ap (change side s) e))
+        ∙ sumℕ-fours 4 (λ j. change side s (4 * t + j))
 
     pub four-renewed : s′ ≡ stored s t (renewedFour ts s c t) → a ≡ m + fourChanges (pos 1) (getD q 0 []) (getD q 1 []) → b ≡ z + fourChanges (negsuc 0) (getD q 0 []) (getD q 1 [])
         → Renewed T ts c t (t + 4) s s′ m a z b
@@ -220,9 +210,8 @@ module _ (T : ℕ) (ts : List ℕ) (c : List ℤ) where
     most side one s left =
         omega (
           arith,
-          sumℕ-bound (T - 0) (4 * 4294967296) (λ j. changesAt side s (0 + j)) (λ j _.
-              sumℕ-bound 4 4294967296 (λ r. changeOf side (row s (0 + j) r) (new s (4 * (0 + j) + r))) (λ r _.
-              one (row s (0 + j) r) (place T (4 * (0 + j) + r) / 4) (place T (4 * (0 + j) + r) % 4) (omega arith) (left .small (4 * (0 + j) + r) (omega arith)))),
+          sumℕ-bound (4 * T - 4 * 0) 4294967296 (λ i. change side s (4 * 0 + i)) (λ i _.
+              one (at s (4 * 0 + i)) (place T (4 * 0 + i) / 4) (place T (4 * 0 + i) % 4) (omega arith) (left .small (4 * 0 + i) (omega arith))),
         )
 
     pub totals-small : {u a b : ℕ} {s s′ : List ℤ} → Left T 0 s → Renewed T ts c 0 u s s′ 0 a 0 b → (a ≤ 2 ^ 47) × (b ≤ 2 ^ 47)
@@ -242,12 +231,11 @@ module _ (T : ℕ) (ts : List ℕ) (c : List ℤ) where
     whole : (side : ℤ) (part : ℤ → ℕ) → ((z : ℤ) → multiplier (side *ℤ z) ≡ part z) → changesFrom T ts c side 0 s ≡ changes part T (straight T s) (renewedAll T ts s c)
     unfolding changes
     whole side part is =
-        let h : ℕ → ℕ = λ i. changeOf side (at s i) (new s i) in
+        let h : ℕ → ℕ = change side s in
         let g : ℕ → ℕ = λ i. squareOfChange (part (at (straight T s) i)) (part (at (renewedAll T ts s c) i)) in
-        let all : T - 0 ≡ T = omega arith in
-        ap (λ (n : ℕ). sumℕ n (λ j. sumℕ 4 (λ r. h (4 * (0 + j) + r)))) all
-        ∙ sumℕ-same T (λ j. sumℕ 4 (λ r. h (4 * (0 + j) + r))) (λ t. sumℕ 4 (λ r. h (4 * t + r))) (λ t _. let e : 0 + t ≡ t = omega arith in rw e)
-        ∙ sumℕ-fours T h
+        let all : 4 * T - 4 * 0 ≡ 4 * T = omega arith in
+        ap (λ (n : ℕ). sumℕ n (λ j. h (4 * 0 + j))) all
+        ∙ sumℕ-same (4 * T) (λ j. h (4 * 0 + j)) h (λ j _. let e : 4 * 0 + j ≡ j = omega arith in ap h e)
         ∙ sym (sum-arranged (transposed T) h)
         ∙ sumℕ-same (4 * T) (λ i. h (place T i)) g (λ i l.
         rw (is (at s (place T i)), is (new s (place T i)), arranged-at (4 * T) (place T) s i l, getD-tab (4 * T) (renewedAt ts (straight T s) c) i (pos 0) l, new-place i l))
@@ -257,7 +245,7 @@ module _ (T : ℕ) (ts : List ℕ) (c : List ℤ) where
     pub settled : (x u a b : ℕ) (s′ : List ℤ) → Renewed T ts c 0 u s s′ 0 a 0 b → (a ≤ x → b ≤ x → u ≡ T) → 1 if (leb a x && leb b x) ≡ settledBy x T (straight T s) (renewedAll T ts s c)
     unfolding settledBy
     settled x u a b s′ r w =
-        let none : u ≡ T → (side : ℤ) → changesFrom T ts c side u s′ ≡ 0 = λ e side. let z : T - u ≡ 0 = omega arith in ap (λ (n : ℕ). sumℕ n (λ j. changesAt side s′ (u + j))) z in
+        let none : u ≡ T → (side : ℤ) → changesFrom T ts c side u s′ ≡ 0 = λ e side. let z : 4 * T - 4 * u ≡ 0 = omega arith in ap (λ (n : ℕ). sumℕ n (λ j. change side s′ (4 * u + j))) z in
         let p = grown a _ _ _ (r .of-multipliers) (whole (pos 1) multiplier side-multiplier) in
         let q = grown b _ _ _ (r .of-slacks) (whole (negsuc 0) slack side-slack) in
         settled-is x a b _ _ (p .0) (q .0) (λ h k. (p .1 (none (w h k) (pos 1)), q .1 (none (w h k) (negsuc 0))))

@@ -47,10 +47,6 @@ renewedIn T ts s c i = renewed (at s i) (sumAt ts c (place T i / 4) (place T i %
 abbrev pub renewedAll : ℕ → List ℕ → List ℤ → List ℤ → List ℤ
 renewedAll T ts s c = tab (4 * T) (renewedAt ts (straight T s) c)
 
--- t is where a four begins, or T
-abbrev pub Aligned : ℕ → ℕ → Type 0
-Aligned T t = (t ≤ T) × ((T - t) % 4 ≡ 0)
-
 -- the triples before t are done; the rows of the others are as they were
 pub record Left (T t : ℕ) (s : List ℤ) : Type 0 where
   pub long : length s ≡ 4 * T
@@ -63,7 +59,7 @@ module _ (T : ℕ) (ts : List ℕ) (c : List ℤ) where
 
   -- what this will add to the total of one side
   abbrev pub changesFrom : ℤ → ℕ → List ℤ → ℕ
-  changesFrom side t s = sumℕ (T - t) (λ j. sumℕ 4 (λ r. changeOf side (row s (t + j) r) (renewedIn T ts s c (4 * (t + j) + r))))
+  changesFrom side t s = sumℕ (4 * T - 4 * t) (λ j. changeOf side (at s (4 * t + j)) (renewedIn T ts s c (4 * t + j)))
 
   -- Rows and totals with t triples done, then with u: the list and the totals will be the same in the end.
   pub record Renewed (t u : ℕ) (s s′ : List ℤ) (multipliers multipliers′ slacks slacks′ : ℕ) : Type 0 where

@@ -8,29 +8,23 @@ ghost use lib.Dec.{leb};
 ghost use lib.IntN.{pos, negsuc, natAbs};
 ghost use lib.ListN.{length};
 ghost use Rattle.lists.specs.Tabulated.{tab};
-ghost use Rattle.model.specs.Limits.{mostTriples, mostDone, mostRow};
+ghost use Rattle.quotient.specs.Quotient.{unit};
+ghost use Rattle.model.specs.Limits.{mostTriples, mostDone};
 ghost use Rattle.model.specs.Causes.{_if_};
 ghost use Rattle.model.specs.Splitting.{member};
 ghost use Rattle.model.specs.Iteration.{at, valueAt, sumAt, renewed};
 ghost use Rattle.model.specs.Run.{settledBy};
 ghost use Rattle.model.specs.Bounds.{RowsWithin};
-ghost use Rattle.rows.specs.Sides.{mostChanges};
-ghost use Rattle.layout.specs.Transposed.{cell, lane, stored, straight};
-ghost use Rattle.renewal.specs.InPlace.{Sized, Valued, Small, tripleChanges, fourChanges, renewedFour, renewedAll, Aligned, Left, renewedFrom, Renewed};
-
-fn wide(x: i16) -> i32
-    ensures { λ r. ⌜ r ≡ x ⌝ }
-{
-    x as i32
-}
+ghost use Rattle.rows.specs.Sides.{Rows, mostChanges};
+ghost use Rattle.layout.specs.Transposed.{cell, Fours, lane, stored, straight, Aligned};
+ghost use Rattle.renewal.specs.InPlace.{Sized, Valued, Small, tripleChanges, fourChanges, renewedFour, renewedAll, Left, renewedFrom, Renewed};
 
 // The value of the variable at position p of triple t.
 fn value_at(triples: &[u16], values: &[i16], t: usize, p: usize) -> i32
-    requires { ⌜ (t ≤ mostTriples) × (p < 3) × (3 * t + p < length (now triples)) × (member (now triples) t p < length (now values)) ⌝ }
-    ensures { λ c. ⌜ c ≡ valueAt (now (values .entry)) (member (now (triples .entry)) t p) ⌝ }
+    requires { ⌜ (t < mostTriples) × (p < 3) × (3 * t + p < length (now triples)) × Valued (now triples) (now values) ⌝ }
+    ensures { λ c. ⌜ (c ≡ valueAt (now (values .entry)) (member (now (triples .entry)) t p)) × (natAbs c ≤ unit) ⌝ }
 {
-    let v = layout::variable(triples, t, p);
-    wide(values[v])
+    values[layout::variable(triples, t, p)] as i32
 }
 
 // ---- one triple, and four
@@ -39,7 +33,7 @@ fn value_at(triples: &[u16], values: &[i16], t: usize, p: usize) -> i32
 fn renewed_triple(triples: &[u16], values: &[i16], t: usize, s: [i32; 4]) -> [i32; 4]
     requires { ⌜ (t < mostTriples) × (3 * t + 2 < length (now triples)) ⌝ }
     requires { ⌜ Valued (now triples) (now values) ⌝ }
-    requires { ⌜ ((r : ℕ) → natAbs (at s r) ≤ mostRow) ⌝ }
+    requires { ⌜ Rows s ⌝ }
     ensures { λ l. ⌜ l ≡ tab 4 (λ r. renewed (at s r) (sumAt (now (triples .entry)) (now (values .entry)) t r)) ⌝ }
 {
     let a = value_at(triples, values, t, 0);
@@ -52,7 +46,7 @@ fn renewed_triple(triples: &[u16], values: &[i16], t: usize, s: [i32; 4]) -> [i3
 fn renewed_four(triples: &[u16], values: &[i16], t: usize, s: [[i32; 4]; 4]) -> [[i32; 4]; 4]
     requires { ⌜ (t + 4 ≤ mostTriples) × (3 * t + 11 < length (now triples)) ⌝ }
     requires { ⌜ Valued (now triples) (now values) ⌝ }
-    requires { ⌜ ((k r : ℕ) → natAbs (cell s k r) ≤ mostRow) ⌝ }
+    requires { ⌜ Fours s ⌝ }
     ensures { λ l. ⌜ l ≡ tab 4 (λ k. tab 4 (λ r. renewed (cell s k r) (sumAt (now (triples .entry)) (now (values .entry)) (t + k) r))) ⌝ }
 {
     [
@@ -89,7 +83,7 @@ struct Totals {
 // With one triple more.
 fn with_triple(totals: Totals, old: [i32; 4], new: [i32; 4]) -> Totals
     requires { ⌜ (totals .multipliers ≤ 2 ^ 63) × (totals .slacks ≤ 2 ^ 63) ⌝ }
-    requires { ⌜ ((r : ℕ) → (natAbs (at old r) ≤ mostRow) × (natAbs (at new r) ≤ mostRow)) ⌝ }
+    requires { ⌜ Rows old × Rows new ⌝ }
     ensures { λ r. ⌜ (r .multipliers ≡ totals .multipliers + tripleChanges (pos 1) old new)
         × (r .slacks ≡ totals .slacks + tripleChanges (negsuc 0) old new) ⌝ }
     ensures { λ r. ⌜ (r .multipliers ≤ totals .multipliers + mostChanges) × (r .slacks ≤ totals .slacks + mostChanges) ⌝ }
@@ -103,7 +97,7 @@ fn with_triple(totals: Totals, old: [i32; 4], new: [i32; 4]) -> Totals
 // With four more.
 fn with_four(totals: Totals, old: [[i32; 4]; 4], new: [[i32; 4]; 4]) -> Totals
     requires { ⌜ (totals .multipliers ≤ 2 ^ 62) × (totals .slacks ≤ 2 ^ 62) ⌝ }
-    requires { ⌜ ((k r : ℕ) → (natAbs (cell old k r) ≤ mostRow) × (natAbs (cell new k r) ≤ mostRow)) ⌝ }
+    requires { ⌜ Fours old × Fours new ⌝ }
     ensures { λ r. ⌜ (r .multipliers ≡ totals .multipliers + fourChanges (pos 1) old new)
         × (r .slacks ≡ totals .slacks + fourChanges (negsuc 0) old new) ⌝ }
 {

@@ -1,7 +1,7 @@
 -- Four of a kind: an array by its entries, a sum, and the squares of changes. Assumes nothing.
 use mathlib.Core.List.{[], _∷_}
 use mathlib.Core.Path.{_≡_, ap, _∙_}
-use Prim.Native.Nat.{ℕ, _+_, _*_, _≤_}
+use Prim.Native.Nat.{ℕ, _+_, _*_, _≤_, _<_}
 use native.Mathlib.Nat.{le-refl, mul-le-mul}
 use native.Mathlib.Omega.{arith}
 use lib.IntN.{ℤ, pos, negsuc, negℤ, natAbs, _-ℤ_, _*ℤ_}
@@ -10,13 +10,17 @@ use Rattle.integers.proofs.Linear.{split, toℕ, about, about-neg, abs-mul, abs
 use Rattle.lists.specs.Tabulated.{tab}
 use Rattle.model.specs.Limits.{mostRow}
 use Rattle.model.specs.Iteration.{slack, multiplier}
-use Rattle.rows.specs.Sides.{changeOf}
+use Rattle.model.proofs.Rows.{at-tab}
+use Rattle.rows.specs.Sides.{Rows, changeOf}
 
 pub four-are : {A : Type 0} (f : ℕ → A) (a b c d : A) → a ≡ f 0 → b ≡ f 1 → c ≡ f 2 → d ≡ f 3 → a ∷ b ∷ c ∷ d ∷ [] ≡ tab 4 f
 four-are f a b c d p q r s = rw (p, q, r, s)
 
 pub sum-four : (f : ℕ → ℕ) (a b c d : ℕ) → a ≡ f 0 → b ≡ f 1 → c ≡ f 2 → d ≡ f 3 → a + b + c + d ≡ sumℕ 4 f
 sum-four f a b c d p q r s = omega (arith, p, q, r, s)
+
+pub rows-are : (f : ℕ → ℤ) → ((r : ℕ) → r < 4 → natAbs (f r) ≤ mostRow) → Rows (tab 4 f)
+rows-are f h r = at-tab (λ z. natAbs z ≤ mostRow) 4 f r (h r) (omega arith)
 
 -- ---- the square of a change of one side of a row
 module _ (side : ℤ) (one : natAbs side ≤ 1) where

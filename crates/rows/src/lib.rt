@@ -9,7 +9,7 @@ ghost use Rattle.quotient.specs.Quotient.{unit};
 ghost use Rattle.model.specs.Limits.{mostRow};
 ghost use Rattle.model.specs.Iteration.{at, sign, rowSum, slack, multiplier, renewed};
 ghost use Rattle.model.specs.Run.{squareOfChange};
-ghost use Rattle.rows.specs.Sides.{changeOf, mostChanges};
+ghost use Rattle.rows.specs.Sides.{Rows, changeOf, mostChanges};
 
 // "The four sums of a triple": the signs of c1 - c2 - c3, -c1 + c2 - c3, -c1 - c2 + c3, c1 + c2 + c3.
 const SIGNS: [[i32; 3]; 4] = [[1, -1, -1], [-1, 1, -1], [-1, -1, 1], [1, 1, 1]];
@@ -36,7 +36,7 @@ fn row_sum(r: usize, a: i32, b: i32, c: i32) -> i32
 
 pub fn row_sums(a: i32, b: i32, c: i32) -> [i32; 4]
     requires { ⌜ (natAbs a ≤ unit) × (natAbs b ≤ unit) × (natAbs c ≤ unit) ⌝ }
-    ensures { λ l. ⌜ l ≡ tab 4 (λ r. rowSum r a b c) ⌝ }
+    ensures { λ l. ⌜ (l ≡ tab 4 (λ r. rowSum r a b c)) × ((r : ℕ) → natAbs (at l r) ≤ 3 * unit) ⌝ }
 {
     [
         row_sum(0, a, b, c),
@@ -82,7 +82,7 @@ fn share(p: usize, a: i32, b: i32, c: i32, d: i32) -> i32
 
 // What the four rows give each of the three variables.
 pub fn shares(s: [i32; 4]) -> [i32; 3]
-    requires { ⌜ ((r : ℕ) → natAbs (at s r) ≤ mostRow) ⌝ }
+    requires { ⌜ Rows s ⌝ }
     ensures { λ l. ⌜ l ≡ tab 3 (λ p. sumℤ 4 (λ r. sign r p *ℤ pos (slack (at s r) + multiplier (at s r)))) ⌝ }
 {
     let a = size_at(s, 0);
@@ -114,7 +114,7 @@ fn renewed_row(s: [i32; 4], sums: [i32; 4], r: usize) -> i32
 }
 
 pub fn renewed_rows(s: [i32; 4], sums: [i32; 4]) -> [i32; 4]
-    requires { ⌜ ((r : ℕ) → (natAbs (at s r) ≤ mostRow) × (natAbs (at sums r) ≤ 3 * unit)) ⌝ }
+    requires { ⌜ Rows s × ((r : ℕ) → natAbs (at sums r) ≤ 3 * unit) ⌝ }
     ensures { λ l. ⌜ l ≡ tab 4 (λ r. renewed (at s r) (at sums r)) ⌝ }
 {
     [
@@ -164,7 +164,7 @@ fn added(a: u64, b: u64, c: u64, d: u64) -> u64
 }
 
 pub fn changes(old: [i32; 4], new: [i32; 4], side: i32) -> u64
-    requires { ⌜ (natAbs side ≤ 1) × ((r : ℕ) → (natAbs (at old r) ≤ mostRow) × (natAbs (at new r) ≤ mostRow)) ⌝ }
+    requires { ⌜ (natAbs side ≤ 1) × Rows old × Rows new ⌝ }
     ensures { λ n. ⌜ (n ≡ sumℕ 4 (λ r. changeOf side (at old r) (at new r))) × (n ≤ mostChanges) ⌝ }
 {
     added(

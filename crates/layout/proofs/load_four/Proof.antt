@@ -1,22 +1,21 @@
 -- `layout::load_four` meets its contract. Assumes nothing.
 use mathlib.Core.List.{List}
 use mathlib.Core.Path.{ap, _∙_}
-use Prim.Native.Nat.{ℕ, _+_, _*_, _≤_}
+use Prim.Native.Nat.{_+_, _*_}
 use native.Mathlib.Omega.{arith}
-use lib.IntN.{ℤ, natAbs}
+use lib.IntN.{ℤ}
 use Rattle.lists.specs.Tabulated.{tab}
-use Rattle.model.specs.Iteration.{at}
+use Rattle.model.specs.Iteration.{row}
 use Rattle.layout.specs.Transposed.{cell}
-use Rattle.layout.proofs.Places.{cell-tab}
+use Rattle.layout.proofs.Places.{fours-are}
 use borrow.Author.Needs.{needs}
 use Rattle.layout.proofs.load_four.Statement.{statement}
 use Rattle.layout.proofs.load_four.Tie as tie
 
 transpose-requires : tie.Need-transpose-requires
-transpose-requires c κs k j =
+transpose-requires c κs =
     let s = c .before in
-    let i : ℕ → ℕ → ℕ = λ k j. 4 * (s .args .t + k) + j in
-    rw (c .load-all .ensures) (cell-tab (λ z. natAbs z ≤ 131072000) (λ k j. at (s .args .rows .now) (i k j)) k j (λ h l. s .pre .2 (i k j) (omega arith)) (omega arith))
+    rw (c .load-all .ensures) (fours-are (λ k j. row (s .args .rows .now) (s .args .t + k) j) (λ k j h l. s .pre .2 (4 * (s .args .t + k) + j) (omega arith)))
 
 returns : tie.Need-returns
 returns c = c .transpose .ensures ∙ ap (λ (q : List (List ℤ)). tab 4 (λ j. tab 4 (λ k. cell q k j))) (c .before .load-all .ensures)

@@ -8,6 +8,7 @@ use lib.ListN.{length-set}
 use mir.Syntax.{w32}
 use mir.Val.{toZ, ofZ}
 use Rattle.integers.proofs.Machine.{held}
+use Rattle.model.specs.Limits.{mostRow}
 use Rattle.model.specs.Iteration.{at}
 use Rattle.layout.proofs.store.Statement.{statement}
 use Rattle.layout.proofs.store.Tie as tie
@@ -21,7 +22,7 @@ slice-set-from-rows-3 c = simp length-set (omega arith)
 returns : tie.Need-returns
 returns c =
     let s = c .before .before .before .before in
-    let a : (r : ℕ) → r < 4 → toZ w32 (ofZ w32 (at (s .args .t3) r)) ≡ at (s .args .t3) r = λ r h. held w32 (at (s .args .t3) r) 524288000 tt (s .pre .1 r) .is in
+    let a : (r : ℕ) → r < 4 → toZ w32 (ofZ w32 (at (s .args .t3) r)) ≡ at (s .args .t3) r = λ r h. held w32 (at (s .args .t3) r) (4 * mostRow) tt (s .pre .1 r) .is in
     rw (add-one (4 * s .args .t), add-two (4 * s .args .t), add-three (4 * s .args .t), a 0 (omega arith), a 1 (omega arith), a 2 (omega arith), a 3 (omega arith))
 
 pub store-spec : {M : Type 1} → statement M

@@ -7,6 +7,7 @@ use lib.IntN.{ℤ, natAbs}
 use lib.ListN.{getD}
 use lib.Seq.{sets}
 use Rattle.lists.specs.Tabulated.{tab}
+use Rattle.model.specs.Limits.{mostRow}
 use Rattle.model.specs.Iteration.{at}
 use Rattle.layout.specs.Transposed.{cell}
 use borrow.Author.Needs.{needs}
@@ -14,7 +15,7 @@ use Rattle.layout.proofs.Places.{sets-fours}
 use Rattle.layout.proofs.store_all.Statement.{statement}
 use Rattle.layout.proofs.store_all.Tie as tie
 
-small : (s : tie.Start) (k r : ℕ) → natAbs (at (getD (s .args .t3) k []) r) ≤ 524288000
+small : (s : tie.Start) (k r : ℕ) → natAbs (at (getD (s .args .t3) k []) r) ≤ (4 * mostRow)
 small s k r = omega (arith, s .pre .2 k r)
 
 abbrev start : tie.After-store → tie.Start

@@ -1,13 +1,13 @@
 -- `layout::store_four` meets its contract. Assumes nothing.
 use mathlib.Core.List.{List}
 use mathlib.Core.Path.{ap, _∙_}
-use Prim.Native.Nat.{_*_, _/_, _%_, _≤_}
+use Prim.Native.Nat.{_*_, _/_, _%_}
 use native.Mathlib.Omega.{arith}
-use lib.IntN.{ℤ, natAbs}
+use lib.IntN.{ℤ}
 use lib.Seq.{sets}
 use Rattle.lists.specs.Tabulated.{tab}
 use Rattle.layout.specs.Transposed.{cell}
-use Rattle.layout.proofs.Places.{cell-tab}
+use Rattle.layout.proofs.Places.{fours-are}
 use borrow.Author.Needs.{needs}
 use Rattle.layout.proofs.store_four.Statement.{statement}
 use Rattle.layout.proofs.store_four.Tie as tie
@@ -17,7 +17,7 @@ store-all-requires c κs =
     let s = c .before .before in (
       omega (arith, s .pre .0),
       omega (arith, s .pre .1),
-      λ k j. rw (c .transpose .ensures) (cell-tab (λ z. natAbs z ≤ 131072000) (λ j k. cell (s .args .q) k j) k j (λ _ _. s .pre .2 j k) (omega arith)),
+      rw (c .transpose .ensures) (fours-are (λ j k. cell (s .args .q) k j) (λ j k _ _. s .pre .2 k j)),
     )
 
 returns : tie.Need-returns

@@ -3,8 +3,9 @@ use mathlib.Core.Path.{_∙_}
 use Prim.Native.Nat.{_+_, _-_, _≤_}
 use native.Mathlib.Omega.{arith}
 use borrow.Author.Needs.{needs}
-use Rattle.renewal.specs.InPlace.{Aligned, Renewed}
-use Rattle.renewal.proofs.Renewal.{old-cells, new-cells, four-renewed, renewed-none, both, at-first, totals-small, met, unmet}
+use Rattle.layout.specs.Transposed.{Aligned}
+use Rattle.renewal.specs.InPlace.{Renewed}
+use Rattle.renewal.proofs.Renewal.{old-fours, new-fours, four-renewed, renewed-none, both, at-first, totals-small, met, unmet}
 use Rattle.renewal.proofs.renew_counted.Statement.{statement}
 use Rattle.renewal.proofs.renew_counted.Tie as tie
 
@@ -14,12 +15,6 @@ Inv-loop triples values rows₀ count tolerance totals₀ t₀ rows totals t =
 
 abbrev μ-loop : tie.MeasureT-loop
 μ-loop triples values rows₀ count tolerance totals₀ t₀ rows totals t = count - t
-
-loop-holds : tie.Need-loop-holds Inv-loop μ-loop
-loop-holds c =
-    let b = c .before in
-    let a = b .before .before .before .args in
-    ((omega arith, omega arith), renewed-none (a .count) (a .triples .now) (a .values .now) _ _ _ (b .renew-first .last .1 .1 .0) (b .renew-first .ensures .left))
 
 -- ---- in the loop
 abbrev first : tie.At-loop Inv-loop μ-loop → tie.After-renew-first Inv-loop μ-loop
@@ -42,49 +37,28 @@ room c =
     let l = at-test c in
     omega (arith, l .loop .inv .0, met (l .loop .t) (start l .args .count) (l .loop .totals .multipliers) (l .loop .totals .slacks) (start l .args .tolerance) (c .if1 .taken))
 
-renew-four-requires : tie.Need-renew-four-requires Inv-loop μ-loop
-renew-four-requires c κs =
-    let l = at-test (c .before) in
-    let h = start l .pre in
-    let r = room (c .before) in
-    ((omega (arith, h .0, r), omega (arith, h .0, r), omega (arith, whole l .left .long, r)), (h .1 .0, whole l .left .small))
-
-abbrev renewed : tie.After-renew-four Inv-loop μ-loop → tie.Then1 Inv-loop μ-loop
-renewed c = c .before .before
-
 with-four-requires : tie.Need-with-four-requires Inv-loop μ-loop
 with-four-requires c κs =
     let n = c .before .before .before in
-    let l = at-test (renewed n) in
+    let l = at-test (n .before .before) in
     let s = start l in
     let a = s .args in
     let small = totals-small (a .count) (a .triples .now) (a .values .now) (s .pre .0 .0) (s .pre .1 .0 .1) (at-first (s .pre .0 .2) (s .pre .1 .1)) (whole l) in (
-      (omega (arith, small), omega (arith, small)),
-      λ k r. rw (n .renew-four .ensures .0) (
-        old-cells (l .loop .rows) (l .loop .t) (whole l .left .small) k r,
-        new-cells (a .triples .now) (a .values .now) (s .pre .1 .0 .1) (l .loop .rows) (l .loop .t) (whole l .left .small) k r,
-      ),
+      omega (arith, small),
+      rw (n .renew-four .ensures .0) (old-fours (l .loop .rows) (l .loop .t) (whole l .left .small), new-fours (a .triples .now) (a .values .now) (s .pre .1 .0 .1) (l .loop .rows) (l .loop .t) (whole l .left .small)),
     )
-
-add-t : tie.Need-add-t Inv-loop μ-loop
-add-t c = let n = renewed (c .before .before .before .before) in omega (arith, start (at-test n) .pre .0, room n)
-
-loop-less : tie.Need-loop-less Inv-loop μ-loop
-loop-less c = omega (arith, room (renewed (c .before .before .before .before)))
 
 loop-again : tie.Need-loop-again Inv-loop μ-loop
 loop-again c =
-    let n = c .before .before .before .before in
-    let l = at-test (renewed n) in
+    let b = c .before .before .before .before in
+    let l = at-test (b .before .before) in
     let a = start l .args in
-    let h = room (renewed n) in (
+    let h = room (b .before .before) in
+    let n = b .renew-four in (
       (omega (arith, h), omega (arith, l .loop .inv .0, h)),
-      both (a .count) (a .triples .now) (a .values .now) (l .loop .inv .1) (four-renewed (a .count) (a .triples .now) (a .values .now) (l .loop .t) (l .loop .rows) (n .renew-four .last .1 .1 .0)
-          (n .renew-four .result) _ _ _ _ (l .loop .inv .0) (omega (arith, h)) (whole l .left) (n .renew-four .ensures .0) (n .renew-four .ensures .1) (c .with-four .ensures .0) (c .with-four .ensures .1)),
+      both (a .count) (a .triples .now) (a .values .now) (l .loop .inv .1) (four-renewed (a .count) (a .triples .now) (a .values .now) (l .loop .t) (l .loop .rows) (n .last .1 .1 .0) (n .result)
+          _ _ _ _ (l .loop .inv .0) (omega (arith, h)) (whole l .left) (n .ensures .0) (n .ensures .1) (c .with-four .ensures .0) (c .with-four .ensures .1)),
     )
-
-same-length : tie.Need-same-length Inv-loop μ-loop
-same-length c = let l = c .before .before .before in whole l .left .long ∙ start l .pre .0 .2
 
 returns : tie.Need-returns Inv-loop μ-loop
 returns c =
@@ -96,5 +70,10 @@ returns c =
 
 pub renew-counted-spec : {M : Type 1} → statement M
 renew-counted-spec =
-    tie.close (tie.spec Inv-loop μ-loop (λ c κs. search needs) loop-holds renew-four-requires (λ c. search needs) (λ c. search needs) with-four-requires add-t
-    loop-less loop-again same-length returns)
+    tie.close (tie.spec Inv-loop μ-loop (λ c κs. search needs)
+    (λ c. ((omega arith, omega arith), renewed-none _ _ _ _ _ _ _ (c .before .renew-first .ensures .left)))
+    (λ c κs. let l = at-test (c .before) in (search (needs, room (c .before), whole l .left .long), (start l .pre .1 .0, whole l .left .small)))
+    (λ c. search needs) (λ c. search needs) with-four-requires
+    (λ c. let n = c .before .before .before .before .before .before in omega (arith, start (at-test n) .pre .0, room n))
+    (λ c. omega (arith, room (c .before .before .before .before .before .before))) loop-again
+    (λ c. let l = c .before .before .before in whole l .left .long ∙ start l .pre .0 .2) returns)

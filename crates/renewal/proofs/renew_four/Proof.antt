@@ -9,35 +9,17 @@ use Rattle.lists.specs.Tabulated.{tab}
 use Rattle.model.specs.Iteration.{at, sumAt, renewed}
 use Rattle.layout.specs.Transposed.{cell, stored}
 use Rattle.renewal.specs.InPlace.{renewedFour}
-use Rattle.renewal.proofs.Renewal.{small-abs, old-cells, new-cells}
+use Rattle.renewal.proofs.Renewal.{small-abs, old-fours, new-fours}
 use Rattle.renewal.proofs.renew_four.Statement.{statement}
 use Rattle.renewal.proofs.renew_four.Tie as tie
 
-load-four-requires : tie.Need-load-four-requires
-load-four-requires c κs =
-    let s = c .before .before in (omega (arith, s .pre .0), omega (arith, s .pre .0), λ i h. small-abs (at (s .args .rows .now) i) (s .pre .1 .1 i h))
-
 abbrev start : tie.After-load-four → tie.Start
 start c = c .before .before .before
-
-renewed-four-requires : tie.Need-renewed-four-requires
-renewed-four-requires c κs =
-    let s = start c in
-    ((omega (arith, s .pre .0), omega (arith, s .pre .0)), (s .pre .1 .0, λ k r. rw (c .load-four .ensures) (old-cells (s .args .rows .now) (s .args .t) (s .pre .1 .1) k r)))
 
 new-is : (c : tie.After-renewed-four) → let a = start (c .before) .args in c .renewed-four .result ≡ renewedFour (a .triples .now) (a .rows .now) (a .values .now) (a .t)
 new-is c =
     let a = start (c .before) .args in
     c .renewed-four .ensures ∙ ap (λ (q : List (List ℤ)). tab 4 (λ k. tab 4 (λ r. renewed (cell q k r) (sumAt (a .triples .now) (a .values .now) (a .t + k) r)))) (c .before .load-four .ensures)
-
-store-four-requires : tie.Need-store-four-requires
-store-four-requires c κs =
-    let s = start (c .before .before) in
-    let a = s .args in (
-      omega (arith, s .pre .0),
-      omega (arith, s .pre .0),
-      λ k r. rw (new-is (c .before)) (new-cells (a .triples .now) (a .values .now) (s .pre .1 .0 .1) (a .rows .now) (a .t) (s .pre .1 .1) k r),
-    )
 
 returns : tie.Need-returns
 returns c =
@@ -47,4 +29,8 @@ returns c =
 
 pub renew-four-spec : {M : Type 1} → statement M
 renew-four-spec =
-    tie.close (tie.spec load-four-requires renewed-four-requires store-four-requires (λ c. search needs) returns)
+    tie.close (tie.spec
+    (λ c κs. let s = c .before .before in (omega (arith, s .pre .0), omega (arith, s .pre .0), λ i h. small-abs (at (s .args .rows .now) i) (s .pre .1 .1 i h)))
+    (λ c κs. let s = start c in (search needs, (s .pre .1 .0, rw (c .load-four .ensures) (old-fours (s .args .rows .now) (s .args .t) (s .pre .1 .1)))))
+    (λ c κs. let s = start (c .before .before) in let a = s .args in (omega (arith, s .pre .0), omega (arith, s .pre .0), rw (new-is (c .before)) (new-fours (a .triples .now) (a .values .now) (s .pre .1 .0 .1) (a .rows .now) (a .t) (s .pre .1 .1))))
+    (λ c. search needs) returns)

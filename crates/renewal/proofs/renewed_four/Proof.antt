@@ -12,18 +12,6 @@ use borrow.Author.Needs.{needs}
 use Rattle.renewal.proofs.renewed_four.Statement.{statement}
 use Rattle.renewal.proofs.renewed_four.Tie as tie
 
-renewed-triple-requires : tie.Need-renewed-triple-requires
-renewed-triple-requires c κs = let s = c .before .before in ((omega (arith, s .pre .0), omega (arith, s .pre .0)), (s .pre .1 .0, s .pre .1 .1 _))
-
-renewed-triple-requires-2 : tie.Need-renewed-triple-requires-2
-renewed-triple-requires-2 c κs = let s = c .before .before .before .before in ((omega (arith, s .pre .0), omega (arith, s .pre .0)), (s .pre .1 .0, s .pre .1 .1 _))
-
-renewed-triple-requires-3 : tie.Need-renewed-triple-requires-3
-renewed-triple-requires-3 c κs = let s = c .before .before .before .before .before .before in ((omega (arith, s .pre .0), omega (arith, s .pre .0)), (s .pre .1 .0, s .pre .1 .1 _))
-
-renewed-triple-requires-4 : tie.Need-renewed-triple-requires-4
-renewed-triple-requires-4 c κs = let s = c .before .before .before .before .before .before .before .before in ((omega (arith, s .pre .0), omega (arith, s .pre .0)), (s .pre .1 .0, s .pre .1 .1 _))
-
 returns : tie.Need-returns
 returns c =
     let s = c .before .before .before .before .before .before .before .before .before in
@@ -38,5 +26,7 @@ returns c =
 
 pub renewed-four-spec : {M : Type 1} → statement M
 renewed-four-spec =
-    tie.close (tie.spec (λ c. search needs) renewed-triple-requires (λ c. search needs) (λ c. search needs) renewed-triple-requires-2 (λ c. search needs)
-    (λ c. search needs) renewed-triple-requires-3 (λ c. search needs) (λ c. search needs) renewed-triple-requires-4 returns)
+    tie.close (tie.spec (λ c. search needs) (λ c κs. let s = c .before .before in (omega (arith, s .pre .0), (s .pre .1 .0, s .pre .1 .1 _))) (λ c. search needs) (λ c. search needs)
+    (λ c κs. let s = c .before .before .before .before in (omega (arith, s .pre .0), (s .pre .1 .0, s .pre .1 .1 _))) (λ c. search needs) (λ c. search needs)
+    (λ c κs. let s = c .before .before .before .before .before .before in (omega (arith, s .pre .0), (s .pre .1 .0, s .pre .1 .1 _))) (λ c. search needs) (λ c. search needs)
+    (λ c κs. let s = c .before .before .before .before .before .before .before .before in (omega (arith, s .pre .0), (s .pre .1 .0, s .pre .1 .1 _))) returns)

@@ -4,12 +4,6 @@ use Rattle.model.specs.Causes.{_if_}
 use Rattle.renewal.proofs.settles.Statement.{statement}
 use Rattle.renewal.proofs.settles.Tie as tie
 
-returns : tie.Need-returns
-returns c = sym (ap (λ t. 1 if t) (c .if1 .taken))
-
-returns-2 : tie.Need-returns-2
-returns-2 c = sym (ap (λ t. 1 if t) (c .if1 .left))
-
 pub settles-spec : {M : Type 1} → statement M
 settles-spec =
-    tie.close (tie.spec returns returns-2)
+    tie.close (tie.spec (λ c. sym (ap (λ t. 1 if t) (c .if1 .taken))) (λ c. sym (ap (λ t. 1 if t) (c .if1 .left))))

@@ -1,21 +1,27 @@
 -- `renewal::value_at` meets its contract. Assumes nothing.
 use mathlib.Core.Path.{ap, _∙_}
+use Prim.Native.Nat.{_+_, _*_, _<_}
 use borrow.Author.Needs.{needs}
-use mir.Facts.{toZ-ofZ}
+use lib.ListN.{length}
 use mir.Syntax.{w16, w32}
-use mir.Val.{SFits}
-use Rattle.integers.proofs.Machine.{read-back}
+use mir.Val.{toZ, ofZ}
+use Rattle.integers.proofs.Machine.{Worth, fits, stored, held, within-raw}
+use Rattle.quotient.specs.Quotient.{unit}
 use Rattle.model.specs.Iteration.{at}
 use Rattle.renewal.proofs.value_at.Statement.{statement}
 use Rattle.renewal.proofs.value_at.Tie as tie
 
+below : (c : tie.After-variable) → c .variable .result < length (c .before .before .args .values .now)
+below c = let s = c .before .before in rw (c .variable .ensures) (s .pre .3 .0 (3 * s .args .t + s .args .p) (s .pre .2))
+
+value : (c : tie.After-result) → let z = at (c .before .before .before .args .values .now) (c .before .variable .result) in Worth (toZ w16 (ofZ w16 z)) z unit
+value c = held w16 _ unit tt (c .before .before .before .pre .3 .1 (c .before .variable .result))
+
 returns : tie.Need-returns
 returns c =
-    let s = c .before .before .before .before in
-    let v = c .before .before .variable .result in
-    let e : SFits w16 (at (s .args .values .now) v) = search needs in
-    read-back w32 (c .wide .ok) (c .wide .ensures ∙ toZ-ofZ {w = w16} e ∙ ap (at (s .args .values .now)) (c .before .before .variable .ensures))
+    let v = stored (value c) w32 tt in
+    (v .is ∙ ap (at (c .before .before .before .args .values .now)) (c .before .variable .ensures), within-raw v)
 
 pub value-at-spec : {M : Type 1} → statement M
 value-at-spec =
-    tie.close (tie.spec (λ c κs. search needs) (λ c. search needs) (λ c. search needs) (λ c κs. search needs) returns)
+    tie.close (tie.spec (λ c κs. search needs) (λ c. search (needs, below c)) (λ c. below c) (λ c. fits (value c) w32 tt) returns)

@@ -9,23 +9,24 @@ use mir.Syntax.{w32, w64}
 use mir.Val.{toZ, ofZ}
 use Rattle.integers.proofs.Machine.{Worth, within-raw, fits, stored, read-back, local, minus}
 use Rattle.integers.proofs.Linear.{about}
+use Rattle.model.specs.Limits.{mostRow}
 use Rattle.model.specs.Iteration.{multiplier}
 use Rattle.rows.proofs.change.Statement.{statement}
 use Rattle.rows.proofs.change.Tie as tie
 
-old : (c : tie.After-wide2) → Worth (toZ w64 (ofZ w64 (c .wide2 .result))) (pos (multiplier (c .before .before .before .before .args .a))) 131072000
+old : (c : tie.After-wide2) → Worth (toZ w64 (ofZ w64 (c .wide2 .result))) (pos (multiplier (c .before .before .before .before .args .a))) mostRow
 old c =
     let s = c .before .before .before .before in
-    local w64 131072000 (c .wide2 .ok) (c .wide2 .ensures ∙ read-back w32 (c .before .positive2 .ok) (c .before .positive2 .ensures ∙ ap (λ (z : ℤ). pos (multiplier z)) (toZ-ofZ (s .fits .a))))
+    local w64 mostRow (c .wide2 .ok) (c .wide2 .ensures ∙ read-back w32 (c .before .positive2 .ok) (c .before .positive2 .ensures ∙ ap (λ (z : ℤ). pos (multiplier z)) (toZ-ofZ (s .fits .a))))
     (omega (arith, about (s .args .a), s .pre .0))
 
-new : (c : tie.After-wide) → Worth (toZ w64 (ofZ w64 (c .wide .result))) (pos (multiplier (c .before .before .args .b))) 131072000
+new : (c : tie.After-wide) → Worth (toZ w64 (ofZ w64 (c .wide .result))) (pos (multiplier (c .before .before .args .b))) mostRow
 new c =
     let s = c .before .before in
-    local w64 131072000 (c .wide .ok) (c .wide .ensures ∙ read-back w32 (c .before .positive .ok) (c .before .positive .ensures ∙ ap (λ (z : ℤ). pos (multiplier z)) (toZ-ofZ (s .fits .b))))
+    local w64 mostRow (c .wide .ok) (c .wide .ensures ∙ read-back w32 (c .before .positive .ok) (c .before .positive .ensures ∙ ap (λ (z : ℤ). pos (multiplier z)) (toZ-ofZ (s .fits .b))))
     (omega (arith, about (s .args .b), s .pre .1))
 
-difference : (c : tie.After-wide2) → Worth (toZ w64 (ofZ w64 (c .before .before .wide .result)) -ℤ toZ w64 (ofZ w64 (c .wide2 .result))) (pos (multiplier (c .before .before .before .before .args .b)) -ℤ pos (multiplier (c .before .before .before .before .args .a))) 262144000
+difference : (c : tie.After-wide2) → Worth (toZ w64 (ofZ w64 (c .before .before .wide .result)) -ℤ toZ w64 (ofZ w64 (c .wide2 .result))) (pos (multiplier (c .before .before .before .before .args .b)) -ℤ pos (multiplier (c .before .before .before .before .args .a))) (2 * mostRow)
 difference c = minus (new (c .before .before)) (old c)
 
 sub-square : tie.Need-sub-square

@@ -4,6 +4,7 @@ use borrow.Author.Needs.{needs}
 use lib.IntN.{ℤ, _*ℤ_}
 use mir.Syntax.{w32}
 use Rattle.integers.proofs.Machine.{Worth, within-raw, fits, stored, held, times}
+use Rattle.model.specs.Limits.{mostRow}
 use Rattle.model.specs.Iteration.{at, multiplier}
 use Rattle.model.specs.Run.{squareOfChange}
 use Rattle.rows.proofs.Signs.{raw}
@@ -14,11 +15,11 @@ module _ (s : tie.Start) where
   side : Worth (raw (s .args .side)) (s .args .side) 1
   side = held w32 (s .args .side) 1 tt (s .pre .1)
 
-  old : Worth (raw (s .args .side) *ℤ raw (at (s .args .t1) (s .args .r))) (s .args .side *ℤ at (s .args .t1) (s .args .r)) 131072000
-  old = times side (held w32 (at (s .args .t1) (s .args .r)) 131072000 tt (s .pre .2))
+  old : Worth (raw (s .args .side) *ℤ raw (at (s .args .t1) (s .args .r))) (s .args .side *ℤ at (s .args .t1) (s .args .r)) mostRow
+  old = times side (held w32 (at (s .args .t1) (s .args .r)) mostRow tt (s .pre .2))
 
-  new : Worth (raw (s .args .side) *ℤ raw (at (s .args .t2) (s .args .r))) (s .args .side *ℤ at (s .args .t2) (s .args .r)) 131072000
-  new = times side (held w32 (at (s .args .t2) (s .args .r)) 131072000 tt (s .pre .3))
+  new : Worth (raw (s .args .side) *ℤ raw (at (s .args .t2) (s .args .r))) (s .args .side *ℤ at (s .args .t2) (s .args .r)) mostRow
+  new = times side (held w32 (at (s .args .t2) (s .args .r)) mostRow tt (s .pre .3))
 
 mul-change-2 : tie.Need-mul-change-2
 mul-change-2 c = fits (old (c .before)) w32 tt

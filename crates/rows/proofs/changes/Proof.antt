@@ -26,18 +26,6 @@ module _ (s : tie.Start) where
   is : (r n : ℕ) → n ≡ of (raw (s .args .side)) r → n ≡ of (s .args .side) r
   is r n e = e ∙ ap (λ (z : ℤ). of z r) (side .is)
 
-change-at-requires : tie.Need-change-at-requires
-change-at-requires c κs = (omega arith, within-raw (side c), c .pre .1 _ .0, c .pre .1 _ .1)
-
-change-at-requires-2 : tie.Need-change-at-requires-2
-change-at-requires-2 c κs = let s = c .before in (omega arith, within-raw (side s), s .pre .1 _ .0, s .pre .1 _ .1)
-
-change-at-requires-3 : tie.Need-change-at-requires-3
-change-at-requires-3 c κs = let s = c .before .before in (omega arith, within-raw (side s), s .pre .1 _ .0, s .pre .1 _ .1)
-
-change-at-requires-4 : tie.Need-change-at-requires-4
-change-at-requires-4 c κs = let s = c .before .before .before in (omega arith, within-raw (side s), s .pre .1 _ .0, s .pre .1 _ .1)
-
 abbrev start : tie.After-change-at4 → tie.Start
 start c = c .before .before .before .before
 
@@ -49,7 +37,7 @@ summed c =
     (is s 0 _ (c .before .before .before .change-at .ensures)) (is s 1 _ (c .before .before .change-at2 .ensures)) (is s 2 _ (c .before .change-at3 .ensures)) (is s 3 _ (c .change-at4 .ensures))
 
 small : (c : tie.After-change-at4) → sumℕ 4 (of (start c) (start c .args .side)) ≤ mostChanges
-small c = let s = start c in sumℕ-bound 4 (mostRow * mostRow) (of s (s .args .side)) (λ r _. change-small (s .args .side) (s .pre .0) _ _ (s .pre .1 r))
+small c = let s = start c in sumℕ-bound 4 (mostRow * mostRow) (of s (s .args .side)) (λ r _. change-small (s .args .side) (s .pre .0) _ _ (s .pre .1 r, s .pre .2 r))
 
 added-requires : tie.Need-added-requires
 added-requires c κs = omega (arith, summed c, small c)
@@ -59,4 +47,7 @@ returns c = (c .added .ensures ∙ summed (c .before), omega (arith, c .added .e
 
 pub changes-spec : {M : Type 1} → statement M
 changes-spec =
-    tie.close (tie.spec change-at-requires change-at-requires-2 change-at-requires-3 change-at-requires-4 added-requires returns)
+    tie.close (tie.spec (λ s κs. (omega arith, within-raw (side s), s .pre .1 _, s .pre .2 _))
+    (λ c κs. let s = c .before in (omega arith, within-raw (side s), s .pre .1 _, s .pre .2 _))
+    (λ c κs. let s = c .before .before in (omega arith, within-raw (side s), s .pre .1 _, s .pre .2 _))
+    (λ c κs. let s = c .before .before .before in (omega arith, within-raw (side s), s .pre .1 _, s .pre .2 _)) added-requires returns)

@@ -6,6 +6,7 @@ use lib.IntN.{ℤ, pos, negsuc, _+ℤ_, _*ℤ_}
 use mir.Syntax.{w32}
 use Rattle.integers.proofs.Linear.{split, toℕ}
 use Rattle.integers.proofs.Machine.{held}
+use Rattle.quotient.specs.Quotient.{unit}
 use Rattle.model.specs.Iteration.{sign}
 use Rattle.rows.proofs.Signs.{is-minus, is-plus}
 use Rattle.rows.proofs.plus.Statement.{statement}
@@ -27,7 +28,7 @@ returns-2 : tie.Need-returns-2
 unfolding sign
 returns-2 c =
     let s = c .before .before in
-    rw (held w32 (s .args .x) 16384 tt (s .pre .2) .is, is-plus (s .args .r) (s .args .p) (s .pre .0) (s .pre .1) (c .if1 .left)) (twice (s .args .x))
+    rw (held w32 (s .args .x) unit tt (s .pre .2) .is, is-plus (s .args .r) (s .args .p) (s .pre .0) (s .pre .1) (c .if1 .left)) (twice (s .args .x))
 
 pub plus-spec : {M : Type 1} → statement M
 plus-spec =

@@ -7,6 +7,9 @@ use mir.Syntax.{w32}
 use mir.Val.{toZ, ofZ}
 use Rattle.integers.proofs.Machine.{Worth, fits, stored, local, held, literal, plus, minus}
 use Rattle.integers.proofs.Linear.{split, toℕ, about}
+use Rattle.model.specs.Limits.{mostRow}
+use Rattle.quotient.specs.Quotient.{unit}
+use Prim.Native.Nat.{_*_}
 use Rattle.model.specs.Iteration.{at, multiplier}
 use Rattle.rows.proofs.renewed_row.Statement.{statement}
 use Rattle.rows.proofs.renewed_row.Tie as tie
@@ -17,15 +20,15 @@ row s = at (s .args .t1) (s .args .r)
 abbrev sum : tie.Start → ℤ
 sum s = at (s .args .t2) (s .args .r)
 
-multiplier-is : (c : tie.After-positive) → Worth (toZ w32 (ofZ w32 (c .positive .result))) (pos (multiplier (row (c .before .before)))) 131072000
+multiplier-is : (c : tie.After-positive) → Worth (toZ w32 (ofZ w32 (c .positive .result))) (pos (multiplier (row (c .before .before)))) mostRow
 multiplier-is c =
     let s = c .before .before in
-    local w32 131072000 (c .positive .ok) (c .positive .ensures ∙ ap (λ (z : ℤ). pos (multiplier z)) (held w32 (row s) 131072000 tt (s .pre .1) .is))
+    local w32 mostRow (c .positive .ok) (c .positive .ensures ∙ ap (λ (z : ℤ). pos (multiplier z)) (held w32 (row s) mostRow tt (s .pre .1) .is))
     (omega (arith, about (row s), s .pre .1))
 
 -- sum - U
-lowered : (s : tie.Start) → Worth (toZ w32 (ofZ w32 (sum s)) -ℤ pos 16384) (sum s -ℤ pos 16384) 65536
-lowered s = minus (held w32 (sum s) 49152 tt (s .pre .2)) (literal (pos 16384))
+lowered : (s : tie.Start) → Worth (toZ w32 (ofZ w32 (sum s)) -ℤ pos unit) (sum s -ℤ pos unit) 65536
+lowered s = minus (held w32 (sum s) (3 * unit) tt (s .pre .2)) (literal (pos unit))
 
 -- p + (sum - U) is p + sum - U
 regrouped : (a b c : ℤ) → a +ℤ (b -ℤ c) ≡ a +ℤ b -ℤ c
@@ -34,7 +37,7 @@ regrouped a b c = rw (split a, split b, split c) (simp toℕ (omega arith))
 returns : tie.Need-returns
 returns c =
     let s = c .before .before .before in
-    stored (plus (multiplier-is (c .before)) (stored (lowered s) w32 tt)) w32 tt .is ∙ regrouped (pos (multiplier (row s))) (sum s) (pos 16384)
+    stored (plus (multiplier-is (c .before)) (stored (lowered s) w32 tt)) w32 tt .is ∙ regrouped (pos (multiplier (row s))) (sum s) (pos unit)
 
 sub-result : tie.Need-sub-result
 sub-result c = fits (lowered (c .before .before .before)) w32 tt

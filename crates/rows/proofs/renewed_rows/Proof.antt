@@ -7,18 +7,6 @@ use Rattle.rows.proofs.Four.{four-are}
 use Rattle.rows.proofs.renewed_rows.Statement.{statement}
 use Rattle.rows.proofs.renewed_rows.Tie as tie
 
-renewed-row-requires : tie.Need-renewed-row-requires
-renewed-row-requires c κs = (omega arith, c .pre _ .0, c .pre _ .1)
-
-renewed-row-requires-2 : tie.Need-renewed-row-requires-2
-renewed-row-requires-2 c κs = (omega arith, c .before .pre _ .0, c .before .pre _ .1)
-
-renewed-row-requires-3 : tie.Need-renewed-row-requires-3
-renewed-row-requires-3 c κs = (omega arith, c .before .before .pre _ .0, c .before .before .pre _ .1)
-
-renewed-row-requires-4 : tie.Need-renewed-row-requires-4
-renewed-row-requires-4 c κs = (omega arith, c .before .before .before .pre _ .0, c .before .before .before .pre _ .1)
-
 returns : tie.Need-returns
 returns c =
     let s = c .before .before .before .before in
@@ -30,4 +18,6 @@ returns c =
 
 pub renewed-rows-spec : {M : Type 1} → statement M
 renewed-rows-spec =
-    tie.close (tie.spec renewed-row-requires renewed-row-requires-2 renewed-row-requires-3 renewed-row-requires-4 returns)
+    tie.close (tie.spec (λ c κs. (omega arith, c .pre .0 _, c .pre .1 _)) (λ c κs. let s = c .before in (omega arith, s .pre .0 _, s .pre .1 _))
+    (λ c κs. let s = c .before .before in (omega arith, s .pre .0 _, s .pre .1 _)) (λ c κs. let s = c .before .before .before in (omega arith, s .pre .0 _, s .pre .1 _))
+    returns)

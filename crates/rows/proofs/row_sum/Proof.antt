@@ -9,6 +9,7 @@ use mir.Syntax.{w32}
 use mir.Val.{toZ, ofZ, hbits}
 use Rattle.integers.proofs.Linear.{split, toℕ, abs-add, abs-mul}
 use Rattle.integers.proofs.Machine.{Worth, fits, stored, local, held, literal, plus, minus, times}
+use Rattle.quotient.specs.Quotient.{unit}
 use Rattle.model.specs.Iteration.{sign, rowSum}
 use Rattle.model.proofs.Rows.{signed-abs}
 use Rattle.rows.proofs.row_sum.Statement.{statement}
@@ -18,18 +19,18 @@ abbrev raw : ℤ → ℤ
 raw z = toZ w32 (ofZ w32 z)
 
 -- what a call of `plus` gave
-half : (r p : ℕ) (x z : ℤ) → natAbs x ≤ 16384 → pos 2 *ℤ z ≡ sign r p *ℤ raw x +ℤ raw x → pos 2 *ℤ z ≡ sign r p *ℤ x +ℤ x
-half r p x z k e = e ∙ ap (λ (y : ℤ). sign r p *ℤ y +ℤ y) (held w32 x 16384 tt k .is)
+half : (r p : ℕ) (x z : ℤ) → natAbs x ≤ unit → pos 2 *ℤ z ≡ sign r p *ℤ raw x +ℤ raw x → pos 2 *ℤ z ≡ sign r p *ℤ x +ℤ x
+half r p x z k e = e ∙ ap (λ (y : ℤ). sign r p *ℤ y +ℤ y) (held w32 x unit tt k .is)
 
-given : (r p : ℕ) (x z : ℤ) → r < 4 → p < 3 → natAbs x ≤ 16384 → mag z < 2 ^ hbits w32 → pos 2 *ℤ z ≡ sign r p *ℤ raw x +ℤ raw x → Worth (raw z) z 16384
+given : (r p : ℕ) (x z : ℤ) → r < 4 → p < 3 → natAbs x ≤ unit → mag z < 2 ^ hbits w32 → pos 2 *ℤ z ≡ sign r p *ℤ raw x +ℤ raw x → Worth (raw z) z unit
 given r p x z h l k f e =
     let d : 2 * natAbs z ≡ natAbs (sign r p *ℤ x +ℤ x) = sym (abs-mul (pos 2) z) ∙ ap natAbs (half r p x z k e) in
-    local w32 16384 f refl (omega (arith, d, abs-add (sign r p *ℤ x) x, signed-abs r p x h l))
+    local w32 unit f refl (omega (arith, d, abs-add (sign r p *ℤ x) x, signed-abs r p x h l))
 
-first : (c : tie.After-plus) → Worth (raw (c .plus .result)) (c .plus .result) 16384
+first : (c : tie.After-plus) → Worth (raw (c .plus .result)) (c .plus .result) unit
 first c = let s = c .before in given (s .args .r) 0 (s .args .a) (c .plus .result) (s .pre .0) (omega arith) (s .pre .1) (c .plus .ok) (c .plus .ensures)
 
-second : (c : tie.After-plus2) → Worth (raw (c .plus2 .result)) (c .plus2 .result) 16384
+second : (c : tie.After-plus2) → Worth (raw (c .plus2 .result)) (c .plus2 .result) unit
 second c = let s = c .before .before in given (s .args .r) 1 (s .args .b) (c .plus2 .result) (s .pre .0) (omega arith) (s .pre .2) (c .plus2 .ok) (c .plus2 .ensures)
 
 add-result : tie.Need-add-result
@@ -48,20 +49,20 @@ module _ (c : tie.After-plus3) where
   abbrev w : ℤ
   w = c .plus3 .result
 
-  third : Worth (raw w) w 16384
+  third : Worth (raw w) w unit
   third = given (s .args .r) 2 (s .args .c) w (s .pre .0) (omega arith) (s .pre .3) (c .plus3 .ok) (c .plus3 .ensures)
 
-  those : Worth (raw (raw u +ℤ raw v) +ℤ raw w) (u +ℤ v +ℤ w) 49152
+  those : Worth (raw (raw u +ℤ raw v) +ℤ raw w) (u +ℤ v +ℤ w) (3 * unit)
   those = plus (stored (plus (first (c .before .before)) (second (c .before))) w32 tt) third
 
   twice : Worth (pos 2 *ℤ raw (raw (raw u +ℤ raw v) +ℤ raw w)) (pos 2 *ℤ (u +ℤ v +ℤ w)) 98304
   twice = times (literal (pos 2)) (stored those w32 tt)
 
   two : Worth (raw (s .args .a) +ℤ raw (s .args .b)) (s .args .a +ℤ s .args .b) 32768
-  two = plus (held w32 (s .args .a) 16384 tt (s .pre .1)) (held w32 (s .args .b) 16384 tt (s .pre .2))
+  two = plus (held w32 (s .args .a) unit tt (s .pre .1)) (held w32 (s .args .b) unit tt (s .pre .2))
 
-  three : Worth (raw (raw (s .args .a) +ℤ raw (s .args .b)) +ℤ raw (s .args .c)) (s .args .a +ℤ s .args .b +ℤ s .args .c) 49152
-  three = plus (stored two w32 tt) (held w32 (s .args .c) 16384 tt (s .pre .3))
+  three : Worth (raw (raw (s .args .a) +ℤ raw (s .args .b)) +ℤ raw (s .args .c)) (s .args .a +ℤ s .args .b +ℤ s .args .c) (3 * unit)
+  three = plus (stored two w32 tt) (held w32 (s .args .c) unit tt (s .pre .3))
 
   less : Worth (raw (pos 2 *ℤ raw (raw (raw u +ℤ raw v) +ℤ raw w)) -ℤ raw (raw (raw (s .args .a) +ℤ raw (s .args .b)) +ℤ raw (s .args .c)))
       (pos 2 *ℤ (u +ℤ v +ℤ w) -ℤ (s .args .a +ℤ s .args .b +ℤ s .args .c)) 147456

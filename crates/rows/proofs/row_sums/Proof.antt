@@ -1,13 +1,18 @@
 -- `rows::row_sums` meets its contract. Assumes nothing.
-use mathlib.Core.Path.{_≡_, ap, ap₂, _∙_}
-use Prim.Native.Nat.{ℕ}
+use mathlib.Core.Path.{_≡_, sym, ap, ap₂, subst, _∙_}
+use mathlib.Core.List.{List}
+use Prim.Native.Nat.{ℕ, _*_, _≤_}
+use native.Mathlib.Omega.{arith}
 use borrow.Author.Needs.{needs}
-use lib.IntN.{ℤ}
+use lib.IntN.{ℤ, natAbs}
 use mir.Facts.{toZ-ofZ}
 use mir.Syntax.{w32}
 use mir.Val.{toZ, ofZ}
 use Rattle.integers.proofs.Machine.{read-back}
-use Rattle.model.specs.Iteration.{rowSum}
+use Rattle.quotient.specs.Quotient.{unit}
+use Rattle.model.specs.Iteration.{at, rowSum}
+use Rattle.model.proofs.Rows.{at-tab}
+use Rattle.model.proofs.Bounds.{rowSum-bound}
 use Rattle.rows.proofs.Four.{four-are}
 use Rattle.rows.proofs.row_sums.Statement.{statement}
 use Rattle.rows.proofs.row_sums.Tie as tie
@@ -20,11 +25,14 @@ same s r =
 returns : tie.Need-returns
 returns c =
     let s = c .before .before .before .before in
-    four-are (λ r. rowSum r (s .args .a) (s .args .b) (s .args .c)) _ _ _ _
+    let a = s .args in
+    let of : ℕ → ℤ = λ r. rowSum r (a .a) (a .b) (a .c) in
+    let e = four-are of _ _ _ _
     (read-back w32 (c .before .before .before .row-sum .ok) (c .before .before .before .row-sum .ensures ∙ same s 0))
     (read-back w32 (c .before .before .row-sum2 .ok) (c .before .before .row-sum2 .ensures ∙ same s 1))
     (read-back w32 (c .before .row-sum3 .ok) (c .before .row-sum3 .ensures ∙ same s 2))
-    (read-back w32 (c .row-sum4 .ok) (c .row-sum4 .ensures ∙ same s 3))
+    (read-back w32 (c .row-sum4 .ok) (c .row-sum4 .ensures ∙ same s 3)) in
+    (e, λ r. subst (λ (l : List ℤ). natAbs (at l r) ≤ 3 * unit) (sym e) (at-tab (λ z. natAbs z ≤ 3 * unit) 4 of r (λ l. rowSum-bound r (a .a) (a .b) (a .c) l (s .pre .0) (s .pre .1) (s .pre .2)) (omega arith)))
 
 pub row-sums-spec : {M : Type 1} → statement M
 row-sums-spec =

@@ -1,14 +1,15 @@
 -- `rows::shares` meets its contract. Assumes nothing.
 use mathlib.Core.Path.{_≡_, sym, ap, _∙_}
-use Prim.Native.Nat.{ℕ, _+_, _^_, _<_}
+use Prim.Native.Nat.{ℕ, _+_, _^_, _≤_, _<_}
 use native.Mathlib.Omega.{arith}
-use lib.IntN.{ℤ, pos, _+ℤ_, _*ℤ_, +ℤ-idl}
+use lib.IntN.{ℤ, pos, natAbs, _+ℤ_, _*ℤ_, +ℤ-idl}
 use lib.Signed.{mag}
 use mir.Syntax.{w32}
 use mir.Val.{hbits}
 use Rattle.integers.specs.Sum.{sumℤ}
 use Rattle.integers.proofs.Linear.{about}
 use Rattle.integers.proofs.Machine.{Worth, within-raw, read-back, local}
+use Rattle.model.specs.Limits.{mostRow}
 use Rattle.model.specs.Iteration.{at, sign, slack, multiplier}
 use Rattle.rows.proofs.Signs.{raw}
 use Rattle.rows.proofs.shares.Statement.{statement}
@@ -18,49 +19,32 @@ use Rattle.rows.proofs.shares.Tie as tie
 abbrev size : tie.Start → ℕ → ℤ
 size s r = pos (slack (at (s .args .s) r) + multiplier (at (s .args .s) r))
 
-given : (s : tie.Start) (r : ℕ) (z : ℤ) → mag z < 2 ^ hbits w32 → z ≡ size s r → Worth (raw z) (size s r) 131072000
-given s r z f e = local w32 131072000 f e (omega (arith, about (at (s .args .s) r), s .pre r))
-
-size-at-requires : tie.Need-size-at-requires
-size-at-requires c κs = (omega arith, c .pre _)
-
-size-at-requires-2 : tie.Need-size-at-requires-2
-size-at-requires-2 c κs = (omega arith, c .before .pre _)
-
-size-at-requires-3 : tie.Need-size-at-requires-3
-size-at-requires-3 c κs = (omega arith, c .before .before .pre _)
-
-size-at-requires-4 : tie.Need-size-at-requires-4
-size-at-requires-4 c κs = (omega arith, c .before .before .before .pre _)
+given : (s : tie.Start) (r : ℕ) (z : ℤ) → mag z < 2 ^ hbits w32 → z ≡ size s r → Worth (raw z) (size s r) mostRow
+given s r z f e = local w32 mostRow f e (omega (arith, about (at (s .args .s) r), s .pre r))
 
 module _ (c : tie.After-size-at4) where
   abbrev s : tie.Start
   s = c .before .before .before .before
 
-  first : Worth (raw (c .before .before .before .size-at .result)) (size s 0) 131072000
+  first : Worth (raw (c .before .before .before .size-at .result)) (size s 0) mostRow
   first = given s 0 _ (c .before .before .before .size-at .ok) (c .before .before .before .size-at .ensures)
 
-  second : Worth (raw (c .before .before .size-at2 .result)) (size s 1) 131072000
+  second : Worth (raw (c .before .before .size-at2 .result)) (size s 1) mostRow
   second = given s 1 _ (c .before .before .size-at2 .ok) (c .before .before .size-at2 .ensures)
 
-  third : Worth (raw (c .before .size-at3 .result)) (size s 2) 131072000
+  third : Worth (raw (c .before .size-at3 .result)) (size s 2) mostRow
   third = given s 2 _ (c .before .size-at3 .ok) (c .before .size-at3 .ensures)
 
-  fourth : Worth (raw (c .size-at4 .result)) (size s 3) 131072000
+  fourth : Worth (raw (c .size-at4 .result)) (size s 3) mostRow
   fourth = given s 3 _ (c .size-at4 .ok) (c .size-at4 .ensures)
 
   summed : (p : ℕ) → sign 0 p *ℤ raw (c .before .before .before .size-at .result) +ℤ sign 1 p *ℤ raw (c .before .before .size-at2 .result)
       +ℤ sign 2 p *ℤ raw (c .before .size-at3 .result) +ℤ sign 3 p *ℤ raw (c .size-at4 .result) ≡ sumℤ 4 (λ r. sign r p *ℤ size s r)
   summed p = rw (first .is, second .is, third .is, fourth .is) (ap (λ (z : ℤ). z +ℤ sign 1 p *ℤ size s 1 +ℤ sign 2 p *ℤ size s 2 +ℤ sign 3 p *ℤ size s 3) (sym (+ℤ-idl (sign 0 p *ℤ size s 0))))
 
-share-requires : tie.Need-share-requires
-share-requires c κs = (omega arith, within-raw (first c), within-raw (second c), within-raw (third c), within-raw (fourth c))
-
-share-requires-2 : tie.Need-share-requires-2
-share-requires-2 c κs = let m = c .before in (omega arith, within-raw (first m), within-raw (second m), within-raw (third m), within-raw (fourth m))
-
-share-requires-3 : tie.Need-share-requires-3
-share-requires-3 c κs = let m = c .before .before in (omega arith, within-raw (first m), within-raw (second m), within-raw (third m), within-raw (fourth m))
+asked : (c : tie.After-size-at4) (p : ℕ) → p < 3 → let a = c .before .before .before .size-at .result in let b = c .before .before .size-at2 .result in
+    (p < 3) × (natAbs (raw a) ≤ mostRow) × (natAbs (raw b) ≤ mostRow) × (natAbs (raw (c .before .size-at3 .result)) ≤ mostRow) × (natAbs (raw (c .size-at4 .result)) ≤ mostRow)
+asked c p h = (h, within-raw (first c), within-raw (second c), within-raw (third c), within-raw (fourth c))
 
 returns : tie.Need-returns
 returns c =
@@ -73,4 +57,6 @@ returns c =
 
 pub shares-spec : {M : Type 1} → statement M
 shares-spec =
-    tie.close (tie.spec size-at-requires size-at-requires-2 size-at-requires-3 size-at-requires-4 share-requires share-requires-2 share-requires-3 returns)
+    tie.close (tie.spec (λ c κs. (omega arith, c .pre _)) (λ c κs. (omega arith, c .before .pre _)) (λ c κs. (omega arith, c .before .before .pre _))
+    (λ c κs. (omega arith, c .before .before .before .pre _)) (λ c κs. asked c 0 (omega arith)) (λ c κs. asked (c .before) 1 (omega arith))
+    (λ c κs. asked (c .before .before) 2 (omega arith)) returns)

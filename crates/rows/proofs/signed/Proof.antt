@@ -6,15 +6,16 @@ use lib.IntN.{ℤ, pos, negsuc, negℤ, _-ℤ_, _*ℤ_}
 use mir.Syntax.{w32}
 use Rattle.integers.proofs.Linear.{split, toℕ}
 use Rattle.integers.proofs.Machine.{Worth, fits, stored, held, negative}
+use Rattle.model.specs.Limits.{mostRow}
 use Rattle.model.specs.Iteration.{sign}
 use Rattle.rows.proofs.Signs.{raw, is-minus, is-plus}
 use Rattle.rows.proofs.signed.Statement.{statement}
 use Rattle.rows.proofs.signed.Tie as tie
 
-x : (s : tie.Start) → Worth (raw (s .args .x)) (s .args .x) 131072000
-x s = held w32 (s .args .x) 131072000 tt (s .pre .2)
+x : (s : tie.Start) → Worth (raw (s .args .x)) (s .args .x) mostRow
+x s = held w32 (s .args .x) mostRow tt (s .pre .2)
 
-negated : (s : tie.Start) → Worth (pos 0 -ℤ raw (s .args .x)) (negℤ (s .args .x)) 131072000
+negated : (s : tie.Start) → Worth (pos 0 -ℤ raw (s .args .x)) (negℤ (s .args .x)) mostRow
 negated s = negative (x s)
 
 minus : (x : ℤ) → negℤ x ≡ negsuc 0 *ℤ x

@@ -8,6 +8,7 @@ use mir.Syntax.{w32}
 use mir.Val.{toZ, ofZ}
 use Rattle.integers.proofs.Machine.{Worth, fits, stored, held, negative}
 use Rattle.integers.proofs.Linear.{about, below-abs, above-abs}
+use Rattle.model.specs.Limits.{mostRow}
 use Rattle.model.specs.Iteration.{slack, multiplier}
 use Rattle.rows.proofs.size.Statement.{statement}
 use Rattle.rows.proofs.size.Tie as tie
@@ -15,10 +16,10 @@ use Rattle.rows.proofs.size.Tie as tie
 whole : (z : ℤ) → natAbs z ≡ slack z + multiplier z
 whole z = omega (arith, about z)
 
-row : (s : tie.Start) → Worth (toZ w32 (ofZ w32 (s .args .s))) (s .args .s) 131072000
-row s = held w32 (s .args .s) 131072000 tt (s .pre)
+row : (s : tie.Start) → Worth (toZ w32 (ofZ w32 (s .args .s))) (s .args .s) mostRow
+row s = held w32 (s .args .s) mostRow tt (s .pre)
 
-negated : (c : tie.Then1) → Worth (pos 0 -ℤ toZ w32 (ofZ w32 (c .before .args .s))) (negℤ (c .before .args .s)) 131072000
+negated : (c : tie.Then1) → Worth (pos 0 -ℤ toZ w32 (ofZ w32 (c .before .args .s))) (negℤ (c .before .args .s)) mostRow
 negated c = negative (row (c .before))
 
 sub-result : tie.Need-sub-result

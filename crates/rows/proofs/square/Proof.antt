@@ -7,12 +7,13 @@ use mir.Syntax.{w64}
 use mir.Val.{toZ, ofZ}
 use Rattle.integers.proofs.Machine.{Worth, fits, stored, held, also, times}
 use Rattle.integers.proofs.Linear.{square-abs}
+use Rattle.model.specs.Limits.{mostRow}
 use Rattle.rows.proofs.square.Statement.{statement}
 use Rattle.rows.proofs.square.Tie as tie
 
-value : (s : tie.Start) → Worth (toZ w64 (ofZ w64 (s .args .x)) *ℤ toZ w64 (ofZ w64 (s .args .x))) (pos (natAbs (s .args .x) * natAbs (s .args .x))) 68719476736000000
+value : (s : tie.Start) → Worth (toZ w64 (ofZ w64 (s .args .x)) *ℤ toZ w64 (ofZ w64 (s .args .x))) (pos (natAbs (s .args .x) * natAbs (s .args .x))) (2 * mostRow * (2 * mostRow))
 value s =
-    let x = held w64 (s .args .x) 262144000 tt (s .pre) in
+    let x = held w64 (s .args .x) (2 * mostRow) tt (s .pre) in
     also (times x x) (square-abs (s .args .x))
 
 mul-result : tie.Need-mul-result
