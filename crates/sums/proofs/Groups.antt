@@ -1,95 +1,120 @@
--- The shares of groups of fours, whose rows stand transposed, and the sums that they come to. Assumes nothing.
-use mathlib.Core.List.{List, [], _∷_}
-use mathlib.Core.Path.{_≡_, sym, ap, ap₂, _∙_}
-use Prim.Native.Nat.{ℕ, _+_, _-_, _*_, _/_, _%_, _≤_, _<_}
+-- The shares of triples, by the rows as they stand while a run goes. Assumes nothing.
+use mathlib.Core.Bool.{Bool, true, false}
+use mathlib.Core.List.{List}
+use mathlib.Core.Logic.{_⊎_, inl, inr, _≢_}
+use mathlib.Core.Path.{_≡_, refl, sym, ap, _∙_}
+use Prim.Native.Nat.{ℕ, zero, suc, _+_, _-_, _*_, _%_, _≤_, _<_}
 use native.Mathlib.Omega.{arith}
-use lib.IntN.{ℤ, pos, natAbs, _+ℤ_}
-use lib.ListN.{length}
-use lib.Seq.{sets}
+use borrow.Author.Tests.{eqb-true, eqb-false, ltb-true, ltb-false}
+use lib.Dec.{eqb, ltb}
+use lib.IntN.{ℤ, pos, natAbs, _*ℤ_}
+use lib.ListN.{length, getD, set, length-set}
+use lib.Seq.{sets, length-sets, getD-set-same, getD-set-other}
+use mir.Syntax.{w32}
+use mir.Val.{toZ, ofZ}
 use Rattle.integers.specs.Sum.{sumℤ}
-use Rattle.integers.proofs.Sums.{sumℤ-same, sumℤ-split}
-use Rattle.lists.specs.Tabulated.{tab, over}
-use Rattle.lists.proofs.Tabulated.{length-tab, getD-tab, tab-same, over-in, over-sets}
-use Rattle.model.specs.Iteration.{at, row, share, sumOf}
+use Rattle.integers.proofs.Sums.{sumℤ-same}
+use Rattle.integers.proofs.Machine.{held}
+use Rattle.lists.specs.Tabulated.{tab}
+use Rattle.lists.proofs.Tabulated.{getD-tab, tab-same}
+use Rattle.model.specs.Limits.{mostDone, mostRow}
+use Rattle.model.specs.Iteration.{at, row, sign, slack, multiplier, share}
 use Rattle.model.specs.Bounds.{RowsWithin}
-use Rattle.model.proofs.Rows.{three}
-use Rattle.layout.specs.Transposed.{cell, lane, straight}
+use Rattle.model.proofs.Rows.{at-tab}
+use Rattle.layout.specs.Transposed.{lane, straight}
 use Rattle.layout.proofs.Places.{straight-first, straight-four}
-use Rattle.sums.proofs.Sums.{share-four, lane-share-small, part, part-same}
+use Rattle.sums.specs.Shares.{Shared, Fours}
+use Rattle.sums.proofs.Sums.{reached, share-small}
 
--- ---- entry i of position p's list: the share of the i-th triple from t on
-abbrev pub staged : List ℤ → ℕ → ℕ → ℕ → ℤ
-staged s t p i = share (lane s (t + 4 * (i / 4)) (i % 4)) 0 p
+-- what `rows::shares` forms of four rows
+abbrev pub formed : List ℤ → List ℤ
+formed q = tab 3 (λ p. sumℤ 4 (λ r. sign r p *ℤ pos (slack (at q r) + multiplier (at q r))))
 
-staged-four : (s : List ℤ) (t p b k : ℕ) → k < 4 → share (lane s (t + 4 * b) k) 0 p ≡ staged s t p (4 * b + k)
-staged-four s t p b k h =
-    let d : (4 * b + k) / 4 ≡ b = omega arith in
-    let m : (4 * b + k) % 4 ≡ k = omega arith in
-    rw (d, m)
+-- the share of four rows that are those of triple t in s
+share-is : (q s : List ℤ) (t p : ℕ) → ((r : ℕ) → r < 4 → at q r ≡ row s t r) → share q 0 p ≡ share s t p
+unfolding share
+share-is q s t p h =
+    let signed : ℕ → ℤ → ℤ = λ r z. sign r p *ℤ pos (slack z + multiplier z) in
+    sumℤ-same 4 (λ r. signed r (at q r)) (λ r. signed r (row s t r)) (λ r l. ap (signed r) (h r l))
 
--- four b is stored
-pub staged-next : (s : List ℤ) (t p b : ℕ) (old x y : List ℤ) → 4 * b + 4 ≤ length old → x ≡ over (4 * b) (staged s t p) old
-    → y ≡ sets x (4 * b) (tab 4 (λ k. share (lane s (t + 4 * b) k) 0 p)) → y ≡ over (4 * (b + 1)) (staged s t p) old
-staged-next s t p b old x y h e g =
-    let m : 4 * b + 4 ≡ 4 * (b + 1) = omega arith in
-    g
-    ∙ ap₂ (λ (l k : List ℤ). sets l (4 * b) k) e (tab-same 4 (λ k. share (lane s (t + 4 * b) k) 0 p) (λ k. staged s t p (4 * b + k)) (staged-four s t p b))
-    ∙ over-sets 4 (4 * b) (staged s t p) old h
-    ∙ ap (λ (n : ℕ). over n (staged s t p) old) m
+-- what was formed, as it is read
+pub read-formed : (q x : List ℤ) (p : ℕ) → ((r : ℕ) → natAbs (at q r) ≤ mostRow) → p < 3 → x ≡ formed q → toZ w32 (ofZ w32 (at x p)) ≡ share q 0 p
+unfolding share
+read-formed q x p h l e =
+    let is : at x p ≡ share q 0 p = ap (λ (k : List ℤ). at k p) e ∙ getD-tab 3 (share q 0) p (pos 0) l in
+    held w32 (at x p) (4 * mostRow) tt (rw is (share-small q 0 p l (λ r. h (4 * 0 + r)))) .is ∙ is
 
--- ---- the rows in the order of document 01
--- among the first triples
-share-first : (T : ℕ) (s : List ℤ) (t p : ℕ) → t < T % 4 → share s t p ≡ share (straight T s) t p
-share-first T s t p h =
-    sym (share-four s t p)
-    ∙ ap (λ (q : List ℤ). share q 0 p) (tab-same 4 (λ r. row s t r) (λ r. row (straight T s) t r) (λ r l. sym (straight-first T s (4 * t + r) (omega arith))))
-    ∙ share-four (straight T s) t p
+module _ (T : ℕ) (s : List ℤ) where
+  -- one of the first triples
+  pub first-formed : (t : ℕ) (q : List ℤ) → t < T % 4 → q ≡ tab 4 (λ r. row s t r) → formed q ≡ tab 3 (share (straight T s) t)
+  unfolding share
+  first-formed t q h e =
+      tab-same 3 (share q 0) (share (straight T s) t) (λ p _. share-is q (straight T s) t p
+      (λ r l. ap (λ (k : List ℤ). at k r) e ∙ getD-tab 4 (λ r. row s t r) r (pos 0) l ∙ sym (straight-first T s (4 * t + r) (omega arith))))
 
-pub sum-first : (ts : List ℕ) (T : ℕ) (s : List ℤ) (v : ℕ) → sumOf ts (T % 4) s v ≡ sumOf ts (T % 4) (straight T s) v
-unfolding sumOf
-sum-first ts T s v =
-    sumℤ-same (T % 4) (λ t. part ts v t (share s t)) (λ t. part ts v t (share (straight T s) t)) (λ t h. part-same ts v t (share s t) (share (straight T s) t) (λ p _. share-first T s t p h))
+  -- triple k of the four from t on
+  pub lane-share : (t k p : ℕ) → Fours T t 4 → k < 4 → share (lane s t k) 0 p ≡ share (straight T s) (t + k) p
+  lane-share t k p f l =
+      share-is (lane s t k) (straight T s) (t + k) p
+      (λ r m. getD-tab 4 (λ r. row s (t + r) k) r (pos 0) m ∙ sym (straight-four T s t k r (f .first) (f .whole) (omega (arith, f .room)) l m))
 
--- in a four, which begins with triple t
-share-lane : (T : ℕ) (s : List ℤ) (t k p : ℕ) → T % 4 ≤ t → (T - t) % 4 ≡ 0 → t < T → k < 4 → share (lane s t k) 0 p ≡ share (straight T s) (t + k) p
-share-lane T s t k p h e g l =
-    ap (λ (q : List ℤ). share q 0 p) (tab-same 4 (λ r. row s (t + r) k) (λ r. row (straight T s) (t + k) r) (λ r m. sym (straight-four T s t k r h e g l m)))
-    ∙ share-four (straight T s) (t + k) p
+module _ (s : List ℤ) (w : RowsWithin mostDone s) where
+  pub four-small : (f : ℕ → ℕ) (q : List ℤ) → q ≡ tab 4 (λ r. at s (f r)) → (r : ℕ) → natAbs (at q r) ≤ mostRow
+  four-small f q e r = rw e (at-tab (λ z. natAbs z ≤ mostRow) 4 (λ r. at s (f r)) r (λ _. reached s w (f r)) (omega arith))
 
--- in the group from triple t on
-staged-is : (T : ℕ) (s : List ℤ) (t p i : ℕ) → T % 4 ≤ t → (T - t) % 4 ≡ 0 → t + i < T → staged s t p i ≡ share (straight T s) (t + i) p
-staged-is T s t p i h e g =
-    let m : t + 4 * (i / 4) + i % 4 ≡ t + i = omega arith in
-    share-lane T s (t + 4 * (i / 4)) (i % 4) p (omega arith) (omega arith) (omega arith) (omega arith) ∙ ap (λ (u : ℕ). share (straight T s) u p) m
+-- ---- the shares of four b of the triples from t on are stored, one position after the other
+-- entry j of a list in which k entries from n on became f's
+module _ {A : Type 0} (P : A → Type 0) (d : A) (j : ℕ) where
+  sets-at : (k n : ℕ) (f : ℕ → A) (l : List A) → n + k ≤ length l → ((i : ℕ) → i < k → j ≡ n + i → P (f i))
+      → (((i : ℕ) → i < k → j ≢ n + i) → P (getD l j d)) → P (getD (sets l n (tab k f)) j d)
+  sets-at zero n f l h new old = old (λ i m. absurd (omega arith))
+  sets-at (suc k) n f l h new old =
+      sets-at k (suc n) (λ i. f (suc i)) (set l n (f 0)) (omega (arith, length-set l n (f 0))) (λ i m e. new (suc i) (omega arith) (omega arith)) (λ out. by (eqb j n) refl out)
+    where
+      by : (t : Bool) → eqb j n ≡ t → ((i : ℕ) → i < k → j ≢ suc n + i) → P (getD (set l n (f 0)) j d)
+      by true e out =
+          let z = eqb-true j n e in
+          rw (z, getD-set-same l n (f 0) d (omega arith)) (new 0 (omega arith) (omega (arith, z)))
+      by false e out =
+          rw (getD-set-other l n j (f 0) d (eqb-false j n e))
+          (old (λ i. elim i [ zero ↦ λ m z. eqb-false j n e (omega (arith, z)) | suc i ↦ λ m z. out i (omega arith) (omega (arith, z)) ]))
 
--- ---- lists of which the first n entries are the shares of a group
-pub record Staged (s : List ℤ) (t n : ℕ) (q : List (List ℤ)) : Type 0 where
-  pub are : (p i : ℕ) → p < 3 → i < n → cell q p i ≡ staged s t p i
+-- those of the first r positions are stored
+abbrev Stored : List ℤ → ℕ → ℕ → ℕ → List ℤ → Type 0
+Stored s t b r q = (p i : ℕ) → p < 3 → i < 4 * (b + 1) → (p < r) ⊎ (i < 4 * b) → at q (64 * p + i) ≡ share s (t + i) p
 
-pub staged-lists : (s : List ℤ) (t b n : ℕ) (x y z x′ y′ z′ : List ℤ) → n ≡ 4 * b
-    → x′ ≡ over (4 * b) (staged s t 0) x → y′ ≡ over (4 * b) (staged s t 1) y → z′ ≡ over (4 * b) (staged s t 2) z → Staged s t n (x′ ∷ y′ ∷ z′ ∷ [])
-staged-lists s t b n x y z x′ y′ z′ e f g h =
-    record {
-      are = λ p i l m. three (λ p. cell (x′ ∷ y′ ∷ z′ ∷ []) p i ≡ staged s t p i) (one 0 x x′ f i (omega (arith, e))) (one 1 y y′ g i (omega (arith, e))) (one 2 z z′ h i (omega (arith, e))) p l;
-    }
+module _ (s : List ℤ) (t b : ℕ) (few : b < 16) (r : ℕ) (one : r < 3) (n : ℕ) (place : n ≡ 64 * r + 4 * b) (f : ℕ → ℤ)
+    (are : (k : ℕ) → k < 4 → f k ≡ share s (t + (4 * b + k)) r) where
+  stored-next : (q : List ℤ) → length q ≡ 192 → Stored s t b r q → Stored s t b (suc r) (sets q n (tab 4 f))
+  stored-next q long g p i hp hi due =
+      sets-at (λ z. z ≡ share s (t + i) p) (pos 0) (64 * p + i) 4 n f q (omega (arith, place, long))
+      (λ k m e.
+      let x : p ≡ r = omega (arith, place, e) in
+      let y : i ≡ 4 * b + k = omega (arith, place, e) in
+      rw (x, y) (are k m))
+      (λ out. g p i hp hi (still due (λ x. omega (arith, place, out (i - 4 * b) (omega arith)))))
+    where
+      split : (c : Bool) → ltb p r ≡ c → p < suc r → (p ≡ r → i < 4 * b) → (p < r) ⊎ (i < 4 * b)
+      split true e h old = inl (ltb-true p r e)
+      split false e h old = inr (old (omega (arith, ltb-false p r e)))
+
+      still : (p < suc r) ⊎ (i < 4 * b) → (p ≡ r → i < 4 * b) → (p < r) ⊎ (i < 4 * b)
+      still (inl h) old = split (ltb p r) refl h old
+      still (inr h) old = inr h
+
+-- all three
+pub shared-next : (s : List ℤ) (t b : ℕ) (f : ℕ → ℕ → ℤ) → b < 16 → ((p k : ℕ) → p < 3 → k < 4 → f p k ≡ share s (t + (4 * b + k)) p)
+    → (q x y z : List ℤ) → length q ≡ 192 → Shared s t (4 * b) q
+    → x ≡ sets q (4 * b) (tab 4 (f 0)) → y ≡ sets x (4 * (16 + b)) (tab 4 (f 1)) → z ≡ sets y (4 * (32 + b)) (tab 4 (f 2)) → Shared s t (4 * (b + 1)) z
+shared-next s t b f few are q x y z long g ex ey ez p i hp hi =
+    let one = put 0 (omega arith) (4 * b) (omega arith) q x long ex none in
+    let two = put 1 (omega arith) (4 * (16 + b)) (omega arith) x y (one .0) ey (one .1) in
+    put 2 (omega arith) (4 * (32 + b)) (omega arith) y z (two .0) ez (two .1) .1 p i hp hi (inl hp)
   where
-    one : (p : ℕ) (old l : List ℤ) → l ≡ over (4 * b) (staged s t p) old → (i : ℕ) → i < 4 * b → at l i ≡ staged s t p i
-    one p old l e i h = ap (λ (k : List ℤ). at k i) e ∙ over-in (4 * b) (staged s t p) old i (pos 0) h
+    put : (r : ℕ) → r < 3 → (n : ℕ) → n ≡ 64 * r + 4 * b → (k l : List ℤ) → length k ≡ 192 → l ≡ sets k n (tab 4 (f r)) → Stored s t b r k
+        → (length l ≡ 192) × Stored s t b (suc r) l
+    put r h n e k l long is old = rw is (length-sets k n (tab 4 (f r)) ∙ long, stored-next s t b few r h n e (f r) (λ i m. are r i h m) k long old)
 
-module _ {s : List ℤ} {t n : ℕ} {q : List (List ℤ)} (g : Staged s t n q) where
-  pub staged-small : RowsWithin 3999 s → (p i : ℕ) → p < 3 → i < n → natAbs (cell q p i) ≤ 524288000
-  staged-small w p i l h = rw (g .are p i l h) (lane-share-small s w (t + 4 * (i / 4)) (i % 4) p l)
-
-  -- the group is given to sums of the triples before it
-  pub group-more : (ts : List ℕ) (T N : ℕ) (l : List ℤ) → T % 4 ≤ t → (T - t) % 4 ≡ 0 → t + n ≤ T → l ≡ tab N (sumOf ts t (straight T s))
-      → tab (length l) (λ u. at l u +ℤ sumℤ n (λ i. part ts u (t + i) (λ p. cell q p i))) ≡ tab N (sumOf ts (t + n) (straight T s))
-  unfolding sumOf
-  group-more ts T N l h e k is =
-      let S = straight T s in
-      let given : ℕ → ℕ → ℤ = λ u i. part ts u (t + i) (λ p. cell q p i) in
-      let all : ℕ → ℕ → ℤ = λ u t. part ts u t (share S t) in
-      let long : length l ≡ N = ap length is ∙ length-tab N (sumOf ts t S) in
-      let same : (u i : ℕ) → i < n → given u i ≡ all u (t + i)
-      = λ u i m. part-same ts u (t + i) (λ p. cell q p i) (share S (t + i)) (λ p v. g .are p i v m ∙ staged-is T s t p i h e (omega arith)) in
-      rw long (tab-same N (λ u. at l u +ℤ sumℤ n (given u)) (sumOf ts (t + n) S) (λ u m.
-      ap₂ _+ℤ_ (ap (λ (k : List ℤ). at k u) is ∙ getD-tab N (sumOf ts t S) u (pos 0) m) (sumℤ-same n (given u) (λ i. all u (t + i)) (same u)) ∙ sym (sumℤ-split t n (all u))))
+    none : Stored s t b 0 q
+    none p i hp hi (inl h) = absurd (omega arith)
+    none p i hp hi (inr h) = g p i hp h

@@ -1,117 +1,115 @@
--- S, as one triple after another is added. Assumes nothing.
+-- S, as the shares of one triple after another are added. Assumes nothing.
 use mathlib.Core.Bool.{Bool, true, false}
-use mathlib.Core.List.{List}
+use mathlib.Core.List.{List, [], _∷_}
 use mathlib.Core.Path.{_≡_, refl, sym, ap, _∙_}
-use Prim.Native.Nat.{ℕ, _+_, _*_, _^_, _≤_, _<_}
+use Prim.Native.Nat.{ℕ, suc, _+_, _*_, _^_, _≤_, _<_}
 use native.Mathlib.Nat.{le-trans}
 use native.Mathlib.Omega.{arith}
 use borrow.Author.Tests.{eq-eqb, ne-eqb}
 use lib.Dec.{eqb}
-use lib.IntN.{ℤ, pos, natAbs, _+ℤ_, _*ℤ_, +ℤ-idr}
+use lib.IntN.{ℤ, pos, natAbs, _+ℤ_, _*ℤ_, +ℤ-idr, +ℤ-assoc}
 use lib.ListN.{length, set}
 use mir.Syntax.{w32}
 use mir.Val.{toZ, ofZ}
 use Rattle.integers.specs.Sum.{sumℤ}
-use Rattle.integers.proofs.Sums.{sumℕ-bound, sumℤ-same, sumℤ-bound}
-use Rattle.integers.proofs.Linear.{split, toℕ, about, abs-add}
+use Rattle.integers.proofs.Sums.{sumℕ-bound, sumℤ-bound}
+use Rattle.integers.proofs.Linear.{about, abs-add}
 use Rattle.integers.proofs.Machine.{held}
 use Rattle.lists.specs.Tabulated.{tab}
-use Rattle.lists.proofs.Tabulated.{length-tab, getD-tab, tab-same, tab-getD, tab-set}
+use Rattle.lists.proofs.Tabulated.{length-tab, getD-tab, tab-same, tab-set}
+use Rattle.model.specs.Limits.{mostTriples, mostDone, mostRow}
+use Rattle.model.specs.Splitting.{member, Named}
 use Rattle.model.specs.Iteration.{at, sign, row, slack, multiplier, share, _when_, sumOf}
 use Rattle.model.specs.Bounds.{RowsWithin}
-use Rattle.model.specs.Splitting.{member}
-use Rattle.model.proofs.Rows.{signed-abs, at-tab}
-use Rattle.layout.specs.Transposed.{lane}
+use Rattle.model.proofs.Rows.{signed-abs}
+use Rattle.sums.specs.Shares.{Summed, Shared}
 
--- one entry of a list of sums is increased
-pub increased : (l : List ℤ) (v : ℕ) (x : ℤ) → v < length l → set l v (at l v +ℤ x) ≡ tab (length l) (λ u. at l u +ℤ (x when eqb v u))
-increased l v x h =
-    ap (λ (k : List ℤ). set k v (at l v +ℤ x)) (sym (tab-getD l (pos 0)))
-    ∙ tab-set (length l) (at l) (λ u. at l u +ℤ (x when eqb v u)) v (at l v +ℤ x) h
-    (rw (eq-eqb v v refl)) (λ u k p. rw (ne-eqb v u (λ e. p (sym e))) (+ℤ-idr (at l u)))
+-- one entry is increased
+pub increased : (n : ℕ) (f : ℕ → ℤ) (v : ℕ) (x : ℤ) → v < n → set (tab n f) v (f v +ℤ x) ≡ tab n (λ u. f u +ℤ (x when eqb v u))
+increased n f v x h =
+    tab-set n f (λ u. f u +ℤ (x when eqb v u)) v (f v +ℤ x) h
+    (rw (eq-eqb v v refl)) (λ u k p. rw (ne-eqb v u (λ e. p (sym e))) (+ℤ-idr (f u)))
 
--- the share of a triple is that of its four rows
-pub share-four : (s : List ℤ) (t p : ℕ) → share (tab 4 (λ r. row s t r)) 0 p ≡ share s t p
-unfolding share
-share-four s t p = refl
+-- ---- how large shares and sums are
+-- rows that a run reaches
+pub reached : (s : List ℤ) → RowsWithin mostDone s → (i : ℕ) → natAbs (at s i) ≤ mostRow
+reached s w i = omega (arith, about (at s i), w .multipliers i, w .slacks i)
 
--- what `rows::shares` forms of four rows
-pub formed : (q x : List ℤ) → x ≡ tab 3 (λ p. sumℤ 4 (λ r. sign r p *ℤ pos (slack (at q r) + multiplier (at q r)))) → x ≡ tab 3 (share q 0)
-unfolding share
-formed q x e = e
-
--- a share of rows that are small
-share-small : (s : List ℤ) (t p : ℕ) → p < 3 → ((r : ℕ) → natAbs (row s t r) ≤ 131072000) → natAbs (share s t p) ≤ 524288000
+pub share-small : (s : List ℤ) (t p : ℕ) → p < 3 → ((r : ℕ) → natAbs (row s t r) ≤ mostRow) → natAbs (share s t p) ≤ 4 * mostRow
 unfolding share
 share-small s t p l h =
     let size : ℕ → ℤ = λ r. pos (slack (row s t r) + multiplier (row s t r)) in
-    le-trans (sumℤ-bound 4 (λ r. sign r p *ℤ size r) (λ _. 131072000) (λ r k. rw (signed-abs r p (size r) k l) (omega (arith, about (row s t r), h r)))) (omega arith)
+    le-trans (sumℤ-bound 4 (λ r. sign r p *ℤ size r) (λ _. mostRow) (λ r k. rw (signed-abs r p (size r) k l) (omega (arith, about (row s t r), h r)))) (omega arith)
 
-pub formed-small : (s : List ℤ) (t p : ℕ) → ((r : ℕ) → natAbs (row s t r) ≤ 131072000) → natAbs (at (tab 3 (share s t)) p) ≤ 524288000
-formed-small s t p h = at-tab (λ z. natAbs z ≤ 524288000) 3 (share s t) p (λ l. share-small s t p l h) (omega arith)
+-- a share, as it is read
+pub read-share : (s : List ℤ) (t p : ℕ) (x : ℤ) → RowsWithin mostDone s → p < 3 → x ≡ share s t p → toZ w32 (ofZ w32 x) ≡ share s t p
+read-share s t p x w l e = held w32 x (4 * mostRow) tt (rw e (share-small s t p l (λ r. reached s w (4 * t + r)))) .is ∙ e
 
-when-small : (b : Bool) (z : ℤ) (u : ℕ) → natAbs z ≤ u → natAbs (z when b) ≤ u
-when-small true z u h = h
-when-small false z u h = omega arith
+-- the three of triple t + i, read from a list of shares
+pub read-three : (s q : List ℤ) (t n i : ℕ) → RowsWithin mostDone s → Shared s t n q → i < n
+    → toZ w32 (ofZ w32 (at q i)) ∷ toZ w32 (ofZ w32 (at q (64 + i))) ∷ toZ w32 (ofZ w32 (at q (128 + i))) ∷ [] ≡ tab 3 (share s (t + i))
+read-three s q t n i w g h =
+    let one : (p j : ℕ) → p < 3 → j ≡ 64 * p + i → toZ w32 (ofZ w32 (at q j)) ≡ share s (t + i) p
+    = λ p j l e. read-share s (t + i) p (at q j) w l (rw e (g p i l h)) in
+    rw (one 0 i (omega arith) (omega arith), one 1 (64 + i) (omega arith) (omega arith), one 2 (128 + i) (omega arith) (omega arith))
 
--- rows that a run reaches
-pub reached : (s : List ℤ) → RowsWithin 3999 s → (i : ℕ) → natAbs (at s i) ≤ 131072000
-reached s w i = omega (arith, about (at s i), w .multipliers i, w .slacks i)
+-- ---- the sums of the first t triples, and of triple t at its first p positions
+module _ (ts : List ℕ) (t : ℕ) (s : List ℤ) where
+  abbrev term : ℕ → ℕ → ℤ
+  term u p = share s t p when eqb (member ts t p) u
 
-pub lane-small : (s : List ℤ) → RowsWithin 3999 s → (t k r : ℕ) → natAbs (at (lane s t k) r) ≤ 131072000
-lane-small s w t k r = at-tab (λ z. natAbs z ≤ 131072000) 4 (λ r. row s (t + r) k) r (λ _. reached s w (4 * (t + r) + k)) (omega arith)
+  abbrev pub partly : ℕ → ℕ → ℤ
+  partly p u = sumOf ts t s u +ℤ sumℤ p (term u)
 
-pub lane-share-small : (s : List ℤ) → RowsWithin 3999 s → (t k p : ℕ) → p < 3 → natAbs (share (lane s t k) 0 p) ≤ 524288000
-lane-share-small s w t k p l = share-small (lane s t k) 0 p l (λ r. lane-small s w t k (0 + r))
+  when-small : (b : Bool) (z : ℤ) (n : ℕ) → natAbs z ≤ n → natAbs (z when b) ≤ n
+  when-small true z n h = h
+  when-small false z n h = omega arith
 
--- position p of what was formed, as it is read
-pub formed-read : (q x : List ℤ) → ((r : ℕ) → natAbs (at q r) ≤ 131072000) → x ≡ tab 3 (share q 0) → (p : ℕ) → p < 3 → toZ w32 (ofZ w32 (at x p)) ≡ share q 0 p
-formed-read q x h e p l = held w32 (at x p) 524288000 tt (rw e (formed-small q 0 p (λ r. h (0 + r)))) .is ∙ ap (λ (k : List ℤ). at k p) e ∙ getD-tab 3 (share q 0) p (pos 0) l
+  module _ (w : RowsWithin mostDone s) where
+    terms-small : (u p : ℕ) → p ≤ 3 → natAbs (sumℤ p (term u)) ≤ p * (4 * mostRow)
+    terms-small u p h =
+        le-trans (sumℤ-bound p (term u) (λ _. 4 * mostRow) (λ q l. when-small (eqb (member ts t q) u) (share s t q) (4 * mostRow)
+        (share-small s t q (omega arith) (λ r. reached s w (4 * t + r)))))
+        (sumℕ-bound p (4 * mostRow) (λ _. 4 * mostRow) (λ _ _. omega arith))
 
--- what triple t gives variable v, of the shares z of its positions
-abbrev pub part : List ℕ → ℕ → ℕ → (ℕ → ℤ) → ℤ
-part ts v t z = sumℤ 3 (λ p. z p when eqb (member ts t p) v)
+-- after all
+module _ (ts : List ℕ) (s : List ℤ) (w : RowsWithin mostDone s) where
+  sums-small : (t u : ℕ) → natAbs (sumOf ts t s u) ≤ t * (12 * mostRow)
+  unfolding sumOf
+  sums-small t u =
+      le-trans (sumℤ-bound t (λ t. sumℤ 3 (term ts t s u)) (λ _. 12 * mostRow) (λ t _. terms-small ts t s w u 3 (omega arith)))
+      (sumℕ-bound t (12 * mostRow) (λ _. 12 * mostRow) (λ _ _. omega arith))
 
-pub part-same : (ts : List ℕ) (v t : ℕ) (z y : ℕ → ℤ) → ((p : ℕ) → p < 3 → z p ≡ y p) → part ts v t z ≡ part ts v t y
-part-same ts v t z y h = sumℤ-same 3 (λ p. z p when eqb (member ts t p) v) (λ p. y p when eqb (member ts t p) v) (λ p l. ap (λ (x : ℤ). x when eqb (member ts t p) v) (h p l))
+  pub partly-small : (t p u : ℕ) → t ≤ mostTriples → p ≤ 3 → natAbs (partly ts t s p u) ≤ 2 ^ 60
+  partly-small t p u h k = omega (arith, abs-add (sumOf ts t s u) (sumℤ p (term ts t s u)), sums-small t u, terms-small ts t s w u p k)
 
-pub part-small : (ts : List ℕ) (v t : ℕ) (z : ℕ → ℤ) → ((p : ℕ) → p < 3 → natAbs (z p) ≤ 524288000) → natAbs (part ts v t z) ≤ 1572864000
-part-small ts v t z h =
-    le-trans (sumℤ-bound 3 (λ p. z p when eqb (member ts t p) v) (λ _. 524288000) (λ p l. when-small (eqb (member ts t p) v) (z p) 524288000 (h p l))) (omega arith)
-
--- n triples
-pub triples-small : (n : ℕ) (f : ℕ → ℤ) → ((t : ℕ) → t < n → natAbs (f t) ≤ 1572864000) → natAbs (sumℤ n f) ≤ 1572864000 * n
-triples-small n f h = le-trans (sumℤ-bound n f (λ _. 1572864000) h) (omega (arith, sumℕ-bound n 1572864000 (λ _. 1572864000) (λ k _. omega arith)))
-
-pub sums-small : (ts : List ℕ) (s : List ℤ) → RowsWithin 3999 s → (t v : ℕ) → t ≤ 8192 → natAbs (sumOf ts t s v) ≤ 2 ^ 58
+-- ---- a list of them
+pub summed-none : {ts : List ℕ} {n : ℕ} {s : List ℤ} (l : List ℤ) → Named ts n → RowsWithin mostDone s → l ≡ tab n (λ _. pos 0) → Summed ts (length l) 0 s l
 unfolding sumOf
-sums-small ts s w t v l =
-    le-trans (triples-small t (λ t. part ts v t (share s t)) (λ t _. part-small ts v t (share s t) (λ p k. share-small s t p k (λ r. reached s w (4 * t + r))))) (omega arith)
+summed-none {n = n} l named w e = let f : length l ≡ n = ap length e ∙ length-tab n (λ _. pos 0) in record { named = rw f named; within = w; are = rw f e }
 
--- ---- a list of sums, with x added at v
-abbrev pub added : List ℤ → ℕ → ℤ → List ℤ
-added l v x = tab (length l) (λ u. at l u +ℤ (x when eqb v u))
+module _ {ts : List ℕ} {N t : ℕ} {s l : List ℤ} where
+  pub summed-long : Summed ts N t s l → length l ≡ N
+  summed-long g = ap length (g .are) ∙ length-tab N (sumOf ts t s)
 
-pub length-added : (l : List ℤ) (v : ℕ) (x : ℤ) → length (added l v x) ≡ length l
-length-added l v x = length-tab (length l) (λ u. at l u +ℤ (x when eqb v u))
+  pub summed-also : Summed ts N t s l → {M u : ℕ} → N ≡ M → t ≡ u → Summed ts M u s l
+  summed-also g d e = rw (← d, ← e) g
 
-added-at : (l : List ℤ) (v : ℕ) (x : ℤ) (u : ℕ) → u < length l → at (added l v x) u ≡ at l u +ℤ (x when eqb v u)
-added-at l v x u h = getD-tab (length l) (λ u. at l u +ℤ (x when eqb v u)) u (pos 0) h
+  pub partly-none : Summed ts N t s l → l ≡ tab N (partly ts t s 0)
+  partly-none g = g .are ∙ tab-same N (sumOf ts t s) (partly ts t s 0) (λ u _. sym (+ℤ-idr (sumOf ts t s u)))
 
-pub added-small : (l : List ℤ) (v : ℕ) (x : ℤ) (b : ℕ) → natAbs x ≤ 524288000 → ((u : ℕ) → natAbs (at l u) ≤ b) → (u : ℕ) → natAbs (at (added l v x) u) ≤ b + 524288000
-added-small l v x b h k u =
-    at-tab (λ z. natAbs z ≤ b + 524288000) (length l) (λ u. at l u +ℤ (x when eqb v u)) u
-    (λ _. omega (arith, abs-add (at l u) (x when eqb v u), k u, when-small (eqb v u) x 524288000 h)) (omega arith)
+  pub partly-all : Summed ts N t s l → (k : List ℤ) → k ≡ tab N (partly ts t s 3) → Summed ts N (suc t) s k
+  unfolding sumOf
+  partly-all g k e = record { named = g .named; within = g .within; are = e }
 
-pub added-three : (l : List ℤ) (v : ℕ → ℕ) (x : ℕ → ℤ) → added (added (added l (v 0) (x 0)) (v 1) (x 1)) (v 2) (x 2) ≡ tab (length l) (λ u. at l u +ℤ sumℤ 3 (λ p. x p when eqb (v p) u))
-added-three l v x =
-    let m = added l (v 0) (x 0) in
-    let n = added m (v 1) (x 1) in
-    let e : length n ≡ length l = length-added m (v 1) (x 1) ∙ length-added l (v 0) (x 0) in
-    let e′ : length m ≡ length l = length-added l (v 0) (x 0) in
-    rw e (tab-same (length l) (λ u. at n u +ℤ (x 2 when eqb (v 2) u)) (λ u. at l u +ℤ sumℤ 3 (λ p. x p when eqb (v p) u)) (λ u h.
-    ap (λ (z : ℤ). z +ℤ (x 2 when eqb (v 2) u)) (added-at m (v 1) (x 1) u (omega (arith, e′)) ∙ ap (λ (z : ℤ). z +ℤ (x 1 when eqb (v 1) u)) (added-at l (v 0) (x 0) u h))
-    ∙ sorted (at l u) (x 0 when eqb (v 0) u) (x 1 when eqb (v 1) u) (x 2 when eqb (v 2) u)))
-  where
-    sorted : (a b c d : ℤ) → a +ℤ b +ℤ c +ℤ d ≡ a +ℤ (pos 0 +ℤ b +ℤ c +ℤ d)
-    sorted a b c d = rw (split a, split b, split c, split d) (simp toℕ (omega arith))
+  -- what is asked where v, the variable at position p, is given its share, and what it comes to
+  module _ (g : Summed ts N t s l) (h : t < mostTriples) (k : List ℤ) (p : ℕ) (e : k ≡ tab N (partly ts t s p)) (v : ℕ) (is : v ≡ member ts t p) where
+    pub may-add : p < 3 → 3 * t + p < length ts → (v < length k) × (natAbs (at k v) ≤ 2 ^ 60)
+    may-add m j =
+        let below : v < N = rw is (g .named (3 * t + p) j) in
+        rw (e, length-tab N (partly ts t s p), getD-tab N (partly ts t s p) v (pos 0) below)
+        (below, partly-small ts s (g .within) t p v (omega arith) (omega arith))
+
+    pub partly-next : (x : ℤ) (r : List ℤ) → x ≡ share s t p → r ≡ tab N (λ u. partly ts t s p u +ℤ (x when eqb v u)) → r ≡ tab N (partly ts t s (suc p))
+    partly-next x r f c =
+        c ∙ rw (f, is) (tab-same N (λ u. partly ts t s p u +ℤ term ts t s u p) (partly ts t s (suc p)) (λ u _. +ℤ-assoc (sumOf ts t s u) (sumℤ p (term ts t s u)) (term ts t s u p)))

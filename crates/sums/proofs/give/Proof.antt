@@ -1,131 +1,89 @@
 -- `sums::give` meets its contract: one position after the other. Assumes nothing.
 use mathlib.Core.List.{List}
-use mathlib.Core.Path.{_≡_, refl, ap, ap₂, _∙_}
-use Prim.Native.Nat.{ℕ, _+_, _*_, _^_, _≤_, _<_}
+use mathlib.Core.Path.{_≡_, ap, _∙_}
+use Prim.Native.Nat.{ℕ, _<_}
 use native.Mathlib.Omega.{arith}
 use borrow.Author.Needs.{needs}
-use lib.Dec.{lit≤}
-use lib.IntN.{ℤ, natAbs}
-use lib.ListN.{length}
+use lib.IntN.{ℤ, pos}
 use mir.Syntax.{w32}
 use mir.Val.{toZ, ofZ}
-use Rattle.integers.proofs.Machine.{held}
-use Rattle.model.specs.Iteration.{at}
-use Rattle.model.specs.Splitting.{member}
-use Rattle.sums.proofs.Sums.{added, length-added, added-small, added-three}
+use Rattle.lists.specs.Tabulated.{tab}
+use Rattle.lists.proofs.Tabulated.{getD-tab}
+use Rattle.model.specs.Iteration.{at, share}
+use Rattle.sums.specs.Shares.{Summed}
+use Rattle.sums.proofs.Sums.{read-share, partly, partly-none, partly-all, may-add, partly-next}
 use Rattle.sums.proofs.give.Statement.{statement}
 use Rattle.sums.proofs.give.Tie as tie
 
-abbrev v : tie.Start → ℕ → ℕ
-v s p = member (s .args .triples .now) (s .args .t) p
+record Known (a : tie.Start) : Type 0 where
+  N : ℕ
+  s : List ℤ
+  summed : Summed (a .args .triples .now) N (a .args .t) s (a .args .sums .now)
+  shares : a .args .t3 ≡ tab 3 (share s (a .args .t))
 
-abbrev x : tie.Start → ℕ → ℤ
-x s p = at (s .args .t3) p
+known : (a : tie.Start) → Known a
+known a = record { N = a .pre .1 .0; s = a .pre .1 .1; summed = a .pre .1 .2; shares = a .pre .1 .3 }
 
-abbrev old : tie.Start → List ℤ
-old s = s .args .sums .now
+module _ {a : tie.Start} (k : Known a) where
+  -- the list of sums, with the shares of p positions
+  abbrev given : ℕ → List ℤ
+  given p = tab (k .N) (partly (a .args .triples .now) (a .args .t) (k .s) p)
 
-x-small : (s : tie.Start) (p : ℕ) → natAbs (x s p) ≤ 524288000
-x-small s p = s .pre .0 .2 p
-
--- position p of the shares, as it is read
-share-is : (s : tie.Start) (p : ℕ) → toZ w32 (ofZ w32 (x s p)) ≡ x s p
-share-is s p = held w32 (x s p) 524288000 tt (x-small s p) .is
-
-abbrev start : tie.After-variable3 → tie.Start
-start c = c .before .before .before .before
+  x-is : (p : ℕ) → p < 3 → toZ w32 (ofZ w32 (at (a .args .t3) p)) ≡ share (k .s) (a .args .t) p
+  x-is p h =
+      read-share (k .s) (a .args .t) p (at (a .args .t3) p) (k .summed .within) h
+      (ap (λ (l : List ℤ). at l p) (k .shares) ∙ getD-tab 3 (share (k .s) (a .args .t)) p (pos 0) h)
 
 -- ---- the three calls
--- what `add` asks of a list that is as long as the sums
-asked : (s : tie.Start) (l : List ℤ) (p u b : ℕ) → p < 3 → length l ≡ length (old s) → ((w : ℕ) → natAbs (at l w) ≤ b) → b ≤ 2 ^ 60 → u ≡ v s p
-    → (u < length l) × (natAbs (at l u) ≤ 2 ^ 60)
-asked s l p u b h e small k w = (omega (arith, e, w, s .pre .1 .0 (3 * s .args .t + p) (omega (arith, s .pre .0 .1))), omega (arith, small u))
+abbrev start : tie.After-variable3 → tie.Start
+start r = r .before .before .before .before
 
-abbrev l1 : tie.Start → List ℤ
-l1 s = added (old s) (v s 0) (x s 0)
+abbrev first : tie.After-add → tie.After-variable3
+first c = c .before .before .before
 
-abbrev l2 : tie.Start → List ℤ
-l2 s = added (l1 s) (v s 1) (x s 1)
+abbrev second : tie.After-add2 → tie.After-add
+second c = c .before .before .before .before
 
-variable-requires : tie.Need-variable-requires
-variable-requires c κs = search needs
+one : (c : tie.After-add) (k : Known (start (first c))) → c .add .last .0 ≡ given k 1
+one c k =
+    let r = first c in
+    let g = k .summed in
+    partly-next g (start r .pre .0 .0) _ 0 (partly-none g) _ (r .before .before .variable .ensures) _ _ (x-is k 0 (omega arith)) (c .add .ensures (k .N) _ (partly-none g))
 
-variable-requires-2 : tie.Need-variable-requires-2
-variable-requires-2 c κs = search needs
-
-variable-requires-3 : tie.Need-variable-requires-3
-variable-requires-3 c κs = search needs
-
-array-copy-out-add : tie.Need-array-copy-out-add
-array-copy-out-add c = search needs
-
-array-copy-out-add-2 : tie.Need-array-copy-out-add-2
-array-copy-out-add-2 c = search needs
-
-array-copy-out-add-3 : tie.Need-array-copy-out-add-3
-array-copy-out-add-3 c = search needs
+two : (c : tie.After-add2) (k : Known (start (first (second c)))) → c .add2 .last .0 ≡ given k 2
+two c k =
+    let r = first (second c) in
+    let e = one (second c) k in
+    partly-next (k .summed) (start r .pre .0 .0) _ 1 e _ (r .before .variable2 .ensures) _ _ (x-is k 1 (omega arith)) (c .add2 .ensures (k .N) _ e)
 
 add-requires : tie.Need-add-requires
 add-requires c κs =
     let r = c .before .before in
-    let s = start r in
-    asked s (old s) 0 _ (2 ^ 59) (omega arith) refl (s .pre .1 .1) (lit≤ tt) (r .before .before .variable .ensures)
-
-one : (c : tie.After-add) → c .add .last .0 ≡ l1 (start (c .before .before .before))
-one c =
-    let r = c .before .before .before in
-    c .add .ensures ∙ ap₂ (added (old (start r))) (r .before .before .variable .ensures) (share-is (start r) 0)
+    let k = known (start r) in
+    may-add (k .summed) (start r .pre .0 .0) _ 0 (partly-none (k .summed)) _ (r .before .before .variable .ensures) (omega arith) (omega (arith, start r .pre .0 .1))
 
 add-requires-2 : tie.Need-add-requires-2
 add-requires-2 c κs =
     let a = c .before .before .before in
-    let r = a .before .before .before in
-    let s = start r in
-    asked s (a .add .last .0) 1 _ (2 ^ 59 + 524288000) (omega arith) (ap length (one a) ∙ length-added (old s) (v s 0) (x s 0))
-    (λ w. rw (one a) (added-small (old s) (v s 0) (x s 0) (2 ^ 59) (x-small s 0) (s .pre .1 .1) w)) (lit≤ tt) (r .before .variable2 .ensures)
-
-two : (c : tie.After-add2) → c .add2 .last .0 ≡ l2 (start (c .before .before .before .before .before .before .before))
-two c =
-    let a = c .before .before .before .before in
-    let r = a .before .before .before in
-    c .add2 .ensures
-    ∙ ap (λ (l : List ℤ). added l (r .before .variable2 .result) (toZ w32 (ofZ w32 (x (start r) 1)))) (one a)
-    ∙ ap₂ (added (l1 (start r))) (r .before .variable2 .ensures) (share-is (start r) 1)
+    let r = first a in
+    let k = known (start r) in
+    may-add (k .summed) (start r .pre .0 .0) _ 1 (one a k) _ (r .before .variable2 .ensures) (omega arith) (omega (arith, start r .pre .0 .1))
 
 add-requires-3 : tie.Need-add-requires-3
 add-requires-3 c κs =
-    let b = c .before .before .before in
-    let r = b .before .before .before .before .before .before .before in
-    let s = start r in
-    asked s (b .add2 .last .0) 2 _ (2 ^ 59 + 524288000 + 524288000) (omega arith) (ap length (two b) ∙ length-added (l1 s) (v s 1) (x s 1) ∙ length-added (old s) (v s 0) (x s 0))
-    (λ w. rw (two b) (added-small (l1 s) (v s 1) (x s 1) (2 ^ 59 + 524288000) (x-small s 1) (added-small (old s) (v s 0) (x s 0) (2 ^ 59) (x-small s 0) (s .pre .1 .1)) w))
-    (lit≤ tt) (r .variable3 .ensures)
-
-same-length : tie.Need-same-length
-same-length c = search needs
+    let a = c .before .before .before in
+    let r = first (second a) in
+    let k = known (start r) in
+    may-add (k .summed) (start r .pre .0 .0) _ 2 (two a k) _ (r .variable3 .ensures) (omega arith) (start r .pre .0 .1)
 
 returns : tie.Need-returns
-returns c =
-    let b = c .before .before .before .before .before in
-    let r = b .before .before .before .before .before .before .before in
-    let s = start r in
-    c .before .add3 .ensures
-    ∙ ap (λ (l : List ℤ). added l (r .variable3 .result) (toZ w32 (ofZ w32 (x s 2)))) (two b)
-    ∙ ap₂ (added (l2 s)) (r .variable3 .ensures) (share-is s 2)
-    ∙ added-three (old s) (v s) (x s)
+returns c N s g e =
+    let a = c .before .before .before .before .before in
+    let r = first (second a) in
+    let k : Known (start r) = record { N = N; s = s; summed = g; shares = e } in
+    partly-all g _ (partly-next g (start r .pre .0 .0) _ 2 (two a k) _ (r .variable3 .ensures) _ _ (x-is k 2 (omega arith)) (c .before .add3 .ensures N _ (two a k)))
 
 pub give-spec : {M : Type 1} → statement M
 give-spec =
-    tie.close
-    (tie.spec
-    variable-requires
-    variable-requires-2
-    variable-requires-3
-    array-copy-out-add
-    add-requires
-    array-copy-out-add-2
-    add-requires-2
-    array-copy-out-add-3
-    add-requires-3
-    same-length
-    returns)
+    tie.close (tie.spec (λ c κs. search needs) (λ c κs. search needs) (λ c κs. search needs) (λ c. search needs) add-requires (λ c. search needs)
+    add-requires-2 (λ c. search needs) add-requires-3 (λ c. search needs) returns)
