@@ -14,9 +14,6 @@ equal c = eq-eqb _ _ (c .if1 .left)
 returns : tie.Need-returns
 returns c = rw (ne-eqb _ _ (c .if1 .taken))
 
-some-not-binary-requires : tie.Need-some-not-binary-requires
-some-not-binary-requires c κs = search needs
-
 returns-2 : tie.Need-returns-2
 returns-2 c = rw (equal (c .before .before), sym (c .before .some-not-binary .ensures) ∙ c .if2 .taken)
 
@@ -24,4 +21,4 @@ returns-3 : tie.Need-returns-3
 returns-3 c = rw (equal (c .before .before), sym (c .before .some-not-binary .ensures) ∙ c .if2 .left)
 
 pub judge-word-spec : {M : Type 1} → statement M
-judge-word-spec = tie.close (tie.spec returns some-not-binary-requires returns-2 returns-3)
+judge-word-spec = tie.close (tie.spec returns (λ c κs. search needs) returns-2 returns-3)

@@ -31,6 +31,7 @@ after-header-requires c κs = header (c .before .before .before) .room
 
 two-bytes-requires-2 : tie.Need-two-bytes-requires-2 Inv-loop μ-loop
 two-bytes-requires-2 c κs = omega (arith, header (c .before .before .before .before) .room)
+
 loop-holds : tie.Need-loop-holds Inv-loop μ-loop
 unfolding checksIn triplesFrom
 loop-holds c =
