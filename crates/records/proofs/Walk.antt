@@ -102,7 +102,7 @@ module _ (s : List ℕ) (j : ℕ) (rest : List ℕ) (w : Walk s j rest) where
     walk-refused m h c = judge-next n j m s h passed ∙ rw (← w) (refused (judgeCheck n rest) (judgeChecks n (m - suc j) (afterChecks (suc j) s) ∷ []) c)
 
 -- ---- index i of a check
-number-at : (d : ℕ) (s : List ℕ) (i : ℕ) → i < d → getD (numbers d s) i 0 ≡ twoBytes (drop (2 * i) s)
+pub number-at : (d : ℕ) (s : List ℕ) (i : ℕ) → i < d → getD (numbers d s) i 0 ≡ twoBytes (drop (2 * i) s)
 unfolding numbers
 number-at zero s i h = absurd (omega arith)
 number-at (suc d) s zero h = refl
