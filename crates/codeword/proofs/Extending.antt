@@ -6,31 +6,41 @@ use native.Mathlib.Decide.{decLt}
 use native.Mathlib.Numerals.{add-one, add-two}
 use native.Mathlib.Omega.{arith}
 use borrow.Author.Tests.{lt-ltb, le-ltb}
-use lib.ListN.{length, getD, take, drop, set, length-set, length-append, length-drop, take-append-drop, drop-of-length-le}
-use lib.Seq.{drop-cons, drop-drop, take-at, drop-at, take-suc-set, drop-set-lt, length-take-le, getD-take}
+use lib.ListN.{length, getD, take, drop, set, length-append, take-append-drop}
+use lib.Seq.{take-add, take-all, take-at, drop-cons, drop-drop, drop-append-seam, length-take-le}
 use Rattle.lists.specs.Tabulated.{written}
-use Rattle.lists.proofs.Tabulated.{length-written}
+use Rattle.lists.specs.Entries.{total}
+use Rattle.lists.proofs.Tabulated.{length-written, written-in}
 use Rattle.model.specs.Code.{turns, tripleCount, variables}
-use Rattle.model.specs.Records.{checkCount, indices, afterCheck, codeOf, judge}
+use Rattle.model.specs.Records.{bitCount, checkCount, indices, afterCheck, checksIn, codeOf, judge}
 use Rattle.model.specs.Sound.{SoundCheck}
-use Rattle.model.specs.Splitting.{queue, triplesFrom, systemOf, member}
+use Rattle.model.specs.Splitting.{triplesOf, triplesFrom, systemOf, member}
 use Rattle.model.specs.TripleRule.{items, TripleRule}
 use Rattle.model.specs.Words.{bitAt}
 use Rattle.model.specs.Points.{extend, pointOf}
-use Rattle.model.proofs.Points.{extend-made, extend-kept}
+use Rattle.model.proofs.Accepted.{accepted}
+use Rattle.model.proofs.Points.{extend-made, extend-kept, extend-long}
 use Rattle.model.proofs.Sound.{rising-below}
 use Rattle.model.proofs.TripleRule.{triple-rule}
-use Rattle.records.proofs.Walk.{here}
-use Rattle.triples.proofs.Auxiliaries.{checks-of, Numbered, numbered-start, numbered-at, numbered-next, none-left}
+use Rattle.records.proofs.Walk.{total-within}
+use Rattle.triples.proofs.Auxiliaries.{body, Numbered, numbered-next, checks-so-far}
 use Rattle.triples.proofs.Items.{item-bit, item-auxiliary}
+use Rattle.triples.proofs.Writing.{members-to, members-next, length-members}
 
--- ---- the triples of a list, one after another
-drop-triple : (ts : List ℕ) (t : ℕ) → 3 * t + 3 ≤ length ts → drop (3 * t) ts ≡ member ts t 0 ∷ member ts t 1 ∷ member ts t 2 ∷ drop (3 * (t + 1)) ts
-drop-triple ts t h =
-    let n = 3 * t in
-    let z : n + 0 ≡ n = omega arith in
-    let e : 3 * (t + 1) ≡ suc (suc (suc n)) = omega arith in
-    rw (z, e, add-one n, add-two n, drop-cons ts n 0 (omega arith), drop-cons ts (suc n) 0 (omega arith), drop-cons ts (suc (suc n)) 0 (omega arith))
+-- ---- a list that grows in a lent one
+-- one entry more
+written-next : (l old : List ℕ) (v : ℕ) → length l < length old → set (written l old) (length l) v ≡ written (l ++ (v ∷ [])) old
+written-next [] [] v h = absurd (omega arith)
+written-next [] (y ∷ old) v h = refl
+written-next (x ∷ l) [] v h = absurd (omega arith)
+written-next (x ∷ l) (y ∷ old) v h = ap (_∷_ x) (written-next l old v (omega arith))
+
+-- what stood in the entries that are written is of no account
+written-over : (l k old : List ℕ) → length k ≤ length l → written l (written k old) ≡ written l old
+written-over l k old h =
+    let e : length k + (length l - length k) ≡ length l = omega arith in
+    let d : (r : List ℕ) → drop (length l) r ≡ drop (length l - length k) (drop (length k) r) = λ r. sym (drop-drop (length l - length k) (length k) r ∙ ap (λ (n : ℕ). drop n r) e) in
+    ap (_++_ l) (d (written k old) ∙ ap (drop (length l - length k)) (drop-append-seam k (drop (length k) old)) ∙ sym (d old))
 
 extend-append : (n : ℕ) (ts rest p : List ℕ) → length ts ≡ 3 * n → extend (ts ++ rest) p ≡ extend rest (extend ts p)
 unfolding extend
@@ -41,17 +51,13 @@ extend-append (suc n) (x ∷ []) rest p h = absurd (omega arith)
 extend-append (suc n) (x ∷ y ∷ []) rest p h = absurd (omega arith)
 extend-append (suc n) (x ∷ y ∷ z ∷ ts) rest p h = extend-append n ts rest _ (omega arith)
 
-kept-more : (n k : ℕ) (l r : List ℕ) → drop n l ≡ drop n r → drop (n + k) l ≡ drop (n + k) r
-kept-more n k l r e = sym (drop-drop k n l) ∙ ap (drop k) e ∙ drop-drop k n r
+-- ---- one check, c, whose first auxiliary is a = length p: the point with t of its auxiliaries
+abbrev pub made : List ℕ → ℕ → List ℕ → ℕ → List ℕ
+made c a p t = extend (take (3 * t) (triplesOf c a)) p
 
--- ---- one check, c, whose first auxiliary is a: t auxiliaries are made
-pub record Made (c : List ℕ) (a : ℕ) (old point : List ℕ) (t : ℕ) : Type 0 where
-  pub long : length point ≡ length old
-  pub kept : drop (a + t) point ≡ drop (a + t) old
-  pub left : extend (drop (3 * t) (queue (turns c) c a)) (take (a + t) point) ≡ extend (queue (turns c) c a) (take a old)
-
-pub made-none : (c : List ℕ) (a : ℕ) (old : List ℕ) → Made c a old old 0
-made-none c a old = let z : a + 0 ≡ a = omega arith in record { long = refl; kept = refl; left = rw z }
+pub made-none : (c : List ℕ) (a : ℕ) (old : List ℕ) → length (take a old) ≡ a → old ≡ written (made c a (take a old) 0) old
+unfolding extend
+made-none c a old h = rw h (sym (take-append-drop a old))
 
 module _ (c : List ℕ) (a : ℕ) (sound : SoundCheck a c) where
   rule : TripleRule c a
@@ -64,94 +70,99 @@ module _ (c : List ℕ) (a : ℕ) (sound : SoundCheck a c) where
       by (yes k) = omega (arith, item-bit c a i k, rising-below a 0 c (sound .rising) i k)
       by (no k) = omega (arith, item-auxiliary c a i (omega arith) (omega arith))
 
-  module _ (old point : List ℕ) (t : ℕ) (room : a + turns c ≤ length old) (m : Made c a old point t) where
-    pub made-next : (x y v : ℕ) → t < turns c → x ≡ getD (items c a) (2 * t) 0 → y ≡ getD (items c a) (2 * t + 1) 0
-        → v ≡ (bitAt point x + bitAt point y) % 2 → Made c a old (set point (a + t) v) (t + 1)
-    made-next x y v h p q e =
-        let ts = queue (turns c) c a in
-        let k = a + t in
-        let n : a + (t + 1) ≡ suc k = omega arith in
-        let first : bitAt (take k point) x ≡ bitAt point x = getD-take k point x 0 (omega (arith, item-below (2 * t) t (omega arith) (omega arith))) in
-        let second : bitAt (take k point) y ≡ bitAt point y = getD-take k point y 0 (omega (arith, item-below (2 * t + 1) t (omega arith) (omega arith))) in
-        let third : member ts t 2 ≡ k = rule .thirds t (omega arith) ∙ rw (lt-ltb t (turns c) h) in
-        let d : drop (3 * t) ts ≡ x ∷ y ∷ k ∷ drop (3 * (t + 1)) ts
-        = drop-triple ts t (omega (arith, rule .long)) ∙ rw (rule .firsts t (omega arith) ∙ sym p, rule .seconds t (omega arith) ∙ sym q, third) in
-        let step = extend-made x y k (drop (3 * (t + 1)) ts) (take k point) (length-take-le k point (omega (arith, m .long))) in
-        let new : (bitAt (take k point) x + bitAt (take k point) y) % 2 ≡ v = rw (first, second) (sym e) in
-        record {
-          long = length-set point k v ∙ m .long;
-          kept = rw (n, drop-set-lt (suc k) point k v (omega arith), ← add-one k) (kept-more k 1 point old (m .kept));
-          left = rw (n, take-suc-set point k v (omega (arith, m .long)), ← new) (sym step ∙ ap (λ (l : List ℕ). extend l (take k point)) (sym d) ∙ m .left);
-        }
+  -- a triple more
+  made-triple : (p : List ℕ) (t : ℕ) → t < tripleCount c
+      → made c a p (t + 1) ≡ extend (getD (items c a) (2 * t) 0 ∷ getD (items c a) (2 * t + 1) 0 ∷ member (triplesOf c a) t 2 ∷ []) (made c a p t)
+  made-triple p t h =
+      let ts = triplesOf c a in
+      let n = 3 * t in
+      let e : 3 * (t + 1) ≡ n + 3 = omega arith in
+      let z : n + 0 ≡ n = omega arith in
+      let d : drop n ts ≡ member ts t 0 ∷ member ts t 1 ∷ member ts t 2 ∷ drop (suc (suc (suc n))) ts
+      = rw (z, add-one n, add-two n, drop-cons ts n 0 (omega (arith, rule .long)), drop-cons ts (suc n) 0 (omega (arith, rule .long)), drop-cons ts (suc (suc n)) 0 (omega (arith, rule .long))) in
+      rw (e, take-add n 3 ts, d, rule .firsts t h, rule .seconds t h)
+      (extend-append t (take n ts) _ p (length-take-le n ts (omega (arith, rule .long))))
 
-    pub made-all : turns c ≤ t → t ≤ turns c → point ≡ extend (queue (turns c) c a) (take a old) ++ drop (a + turns c) old
+  made-next : (p : List ℕ) (t : ℕ) → length (made c a p t) ≡ a + t → t < turns c
+      → made c a p (t + 1) ≡ made c a p t ++ ((bitAt (made c a p t) (getD (items c a) (2 * t) 0) + bitAt (made c a p t) (getD (items c a) (2 * t + 1) 0)) % 2 ∷ [])
+  unfolding extend
+  made-next p t l h =
+      let third : member (triplesOf c a) t 2 ≡ a + t = rule .thirds t (omega arith) ∙ rw (lt-ltb t (turns c) h) in
+      made-triple p t (omega arith) ∙ rw third (extend-made _ _ (a + t) [] (made c a p t) l)
+
+  module _ (p : List ℕ) (begun : length p ≡ a) where
+    pub made-long : (t : ℕ) → t ≤ turns c → length (made c a p t) ≡ a + t
     unfolding extend
-    made-all h l =
-        let ts = queue (turns c) c a in
-        let k = a + t in
-        let e : t ≡ turns c = omega arith in
-        let third : member ts t 2 ≡ getD (items c a) (2 * t + 2) 0 = rule .thirds t (omega arith) ∙ rw (le-ltb t (turns c) h) in
-        let none : drop (3 * (t + 1)) ts ≡ [] = drop-of-length-le ts {i = 3 * (t + 1)} (omega (arith, rule .long)) in
-        let step = extend-kept (member ts t 0) (member ts t 1) (member ts t 2) [] (take k point)
-        (omega (arith, third, item-below (2 * t + 2) t (omega (arith, sound .least)) l, length-take-le k point (omega (arith, m .long)))) in
-        let whole : take k point ≡ extend ts (take a old)
-        = sym step ∙ ap (λ (r : List ℕ). extend (member ts t 0 ∷ member ts t 1 ∷ member ts t 2 ∷ r) (take k point)) (sym none)
-        ∙ ap (λ (r : List ℕ). extend r (take k point)) (sym (drop-triple ts t (omega (arith, rule .long)))) ∙ m .left in
-        rw (← whole, ← e, ← m .kept) (sym (take-append-drop k point))
+    made-long zero h = omega arith
+    made-long (suc t) h =
+        let i = made-long t (omega arith) in
+        rw (← add-one t, made-next p t i h, length-append (made c a p t) (_ ∷ [])) (omega arith)
+
+    -- an auxiliary more in a list that has those before it
+    pub made-set : (old point : List ℕ) (t x y v : ℕ) → a + turns c ≤ length old → t < turns c → point ≡ written (made c a p t) old
+        → x ≡ getD (items c a) (2 * t) 0 → y ≡ getD (items c a) (2 * t + 1) 0 → v ≡ (bitAt point x + bitAt point y) % 2
+        → set point (a + t) v ≡ written (made c a p (t + 1)) old
+    made-set old point t x y v room h is p₁ p₂ e =
+        let q = made c a p t in
+        let l = made-long t (omega arith) in
+        let at : (z i : ℕ) → z ≡ getD (items c a) i 0 → i < length c + t → bitAt point z ≡ bitAt q (getD (items c a) i 0)
+        = λ z i s k. rw (is, s) (written-in q old (getD (items c a) i 0) 0 (omega (arith, item-below i t k (omega arith)))) in
+        let new : v ≡ (bitAt q (getD (items c a) (2 * t) 0) + bitAt q (getD (items c a) (2 * t + 1) 0)) % 2
+        = e ∙ rw (at x (2 * t) p₁ (omega arith), at y (2 * t + 1) p₂ (omega arith)) in
+        rw (is, made-next p t l h, ← new, ← l) (written-next q old v (omega arith))
+
+    pub made-all : made c a p (turns c) ≡ extend (triplesOf c a) p
+    unfolding extend
+    made-all =
+        let n = turns c in
+        let third : member (triplesOf c a) n 2 ≡ getD (items c a) (2 * n + 2) 0 = rule .thirds n (omega arith) ∙ rw (le-ltb n n (omega arith)) in
+        let kept = extend-kept _ _ (member (triplesOf c a) n 2) [] (made c a p n)
+        (omega (arith, third, item-below (2 * n + 2) n (omega (arith, sound .least)) (omega arith), made-long n (omega arith))) in
+        sym (ap (λ (l : List ℕ). extend l p) (sym (take-all (3 * (n + 1)) (triplesOf c a) (omega (arith, rule .long)))) ∙ made-triple p n (omega arith) ∙ kept)
 
 -- ---- all checks: check j is next, at `rest`, and `next` is its first auxiliary
-pub record Going (b w old point rest : List ℕ) (next j : ℕ) : Type 0 where
-  pub numbered : Numbered b rest next j
-  pub long : length point ≡ length old
-  pub kept : drop next point ≡ drop next old
-  pub left : extend (triplesFrom (drop j (checks-of b)) next) (take next point) ≡ pointOf (codeOf b) w
+abbrev pub point-to : List ℕ → List ℕ → ℕ → List ℕ
+point-to b w j = extend (members-to b j) w
 
--- `old` is the lent list with the word copied to it
-module _ (b w old lent : List ℕ) (judged : judge b ≡ 0) (word-long : length w ≡ codeOf b .bits) (fits : variables (codeOf b) ≤ length lent) (copied : old ≡ written w lent) where
-  old-long : length old ≡ length lent
-  old-long = rw copied (length-written w lent (omega arith))
+module _ (b w : List ℕ) (judged : judge b ≡ 0) (word-long : length w ≡ codeOf b .bits) where
+  module _ (j : ℕ) (rest : List ℕ) (next : ℕ) (n : Numbered b j rest next) where
+    pub point-long : length (point-to b w j) ≡ next
+    unfolding codeOf
+    point-long =
+        extend-long (bitCount b) (omega (arith, accepted b judged .bits-least)) (checksIn j (body b)) (bitCount b) (omega arith) (checks-so-far b j judged (n .few)) w word-long
+        ∙ sym (n .auxiliary)
 
-  pub going-start : Going b w old old (drop 6 b) (length w) 0
-  unfolding codeOf systemOf
-  going-start =
-      record {
-        numbered = rw word-long (numbered-start b judged);
-        long = refl;
-        kept = refl;
-        left = rw (copied, take-at w (drop (length w) lent) (length w) refl, word-long);
-      }
+    pub point-next : point-to b w (j + 1) ≡ extend (triplesOf (indices rest) next) (point-to b w j)
+    point-next =
+        rw (members-next b j rest next n) (extend-append (total tripleCount (checksIn j (body b))) (members-to b j) _ w (length-members b judged j (n .few)))
 
-  module _ (point rest : List ℕ) (next j : ℕ) (g : Going b w old point rest next j) where
-    pub long-now : length point ≡ length lent
-    long-now = g .long ∙ old-long
+  -- `old` is the lent list with the word copied to it
+  module _ (old lent : List ℕ) (fits : variables (codeOf b) ≤ length lent) (copied : old ≡ written w lent) where
+    pub filled-start : old ≡ written (point-to b w 0) old
+    unfolding checksIn triplesFrom extend
+    filled-start = rw copied (sym (written-over w w lent (omega arith)))
 
-    pub going-next : (q t : List ℕ) (next′ : ℕ) → j < checkCount b → t ≡ afterCheck rest → next′ ≡ next + turns (indices rest) → length q ≡ length point
-        → q ≡ extend (queue (turns (indices rest)) (indices rest) next) (take next point) ++ drop (next + turns (indices rest)) point
-        → Going b w old q t next′ (j + 1)
-    unfolding triplesFrom
-    going-next q t next′ h e n l p =
-        let c = indices rest in
-        let k = next + turns c in
-        let r = here _ _ _ j rest h (g .numbered .walk) in
-        let a = numbered-at b judged rest next j (g .numbered) h in
-        let E = extend (queue (turns c) c next) (take next point) in
-        let long : length E ≡ k = omega (arith, sym (ap length p) ∙ l, length-append E (drop k point), length-drop k point, a .last, long-now) in
-        let left : extend (queue (turns c) c next ++ triplesFrom (drop (j + 1) (checks-of b)) k) (take next point) ≡ pointOf (codeOf b) w
-        = ap (λ (x : List (List ℕ)). extend (triplesFrom x next) (take next point)) (sym (r .checks)) ∙ g .left in
-        record {
-          numbered = numbered-next b judged rest next j (g .numbered) t next′ h e n;
-          long = l ∙ g .long;
-          kept = rw (n, p, drop-at E (drop k point) k long) (kept-more next (turns c) point old (g .kept));
-          left = rw (n, p, take-at E (drop k point) k long)
-              (sym (extend-append (tripleCount c) (queue (turns c) c next) _ (take next point) (triple-rule next next c (a .check) (omega arith) .long)) ∙ left);
-        }
+    module _ (j : ℕ) (rest : List ℕ) (next : ℕ) (n : Numbered b j rest next) (point : List ℕ) (filled : point ≡ written (point-to b w j) old) where
+      below : next ≤ variables (codeOf b)
+      unfolding codeOf
+      below = omega (arith, n .auxiliary, total-within turns j (checkCount b) (body b) (n .few))
 
-    pub going-end : checkCount b ≤ j → point ≡ written (pointOf (codeOf b) w) lent
-    unfolding triplesFrom extend codeOf
-    going-end h =
-        let whole : take next point ≡ pointOf (codeOf b) w = ap (λ (x : List (List ℕ)). extend (triplesFrom x next) (take next point)) (sym (none-left b j h)) ∙ g .left in
-        let long : length (pointOf (codeOf b) w) ≡ next = sym (ap length whole) ∙ length-take-le next point (omega (arith, g .numbered .auxiliaries, long-now)) in
-        let more : next ≡ length w + (next - length w) = omega (arith, g .numbered .above) in
-        let behind : drop next old ≡ drop next lent
-        = rw more (kept-more (length w) (next - length w) old lent (rw copied (drop-at w (drop (length w) lent) (length w) refl))) in
-        rw (long, ← whole, ← behind, ← g .kept) (sym (take-append-drop next point))
+      pub length-now : length point ≡ length lent
+      length-now =
+          let e : length old ≡ length lent = ap length copied ∙ length-written w lent (omega arith) in
+          ap length filled ∙ length-written (point-to b w j) old (omega (arith, point-long j rest next n, below)) ∙ e
+
+      pub filled-next : (t q : List ℕ) (next′ : ℕ) → j < checkCount b → t ≡ afterCheck rest → next′ ≡ next + turns (indices rest)
+          → q ≡ written (extend (triplesOf (indices rest) next) (take next point)) point → Numbered b (j + 1) t next′ × (q ≡ written (point-to b w (j + 1)) old)
+      filled-next t q next′ h r e is =
+          let m = numbered-next b j rest next n h t next′ r e in
+          let p = point-to b w j in
+          let begun : take next point ≡ p = ap (take next) filled ∙ take-at p (drop (length p) old) next (point-long j rest next n) in
+          let over = written-over (point-to b w (j + 1)) p old (omega (arith, point-long j rest next n, point-long (j + 1) t next′ m)) in
+          (m, is ∙ rw (begun, ← point-next j rest next n) (ap (written (point-to b w (j + 1))) filled ∙ over))
+
+      pub filled-end : checkCount b ≤ j → point ≡ written (pointOf (codeOf b) w) lent
+      unfolding systemOf codeOf
+      filled-end h =
+          let e : checkCount b ≡ j = omega (arith, n .few) in
+          filled ∙ rw (← e) (ap (written (point-to b w (checkCount b))) copied ∙ written-over (point-to b w (checkCount b)) w lent (rw e (omega (arith, point-long j rest next n, n .auxiliary))))

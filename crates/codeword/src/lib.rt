@@ -1,32 +1,32 @@
 // The codeword test and the extension of a codeword to its point (document 01, 'Points and reflection').
 ghost use mathlib.Core.Path.{_≡_};
-ghost use mathlib.Core.List.{_++_};
-ghost use Prim.Native.Nat.{ℕ, _+_, _*_, _%_, _≤_, _<_};
-ghost use lib.ListN.{length, getD, take, drop};
+ghost use Prim.Native.Nat.{_+_, _%_, _≤_};
+ghost use lib.ListN.{length, take};
 ghost use Rattle.lists.specs.Tabulated.{written};
+ghost use Rattle.model.specs.Limits.{mostVariables};
 ghost use Rattle.model.specs.Code.{turns, variables};
-ghost use Rattle.model.specs.Records.{degree, indices, codeOf, judge};
+ghost use Rattle.model.specs.Records.{indices, codeOf, judge};
 ghost use Rattle.model.specs.Sound.{SoundCheck};
-ghost use Rattle.model.specs.Splitting.{queue};
+ghost use Rattle.model.specs.Splitting.{triplesOf, Named};
 ghost use Rattle.model.specs.Words.{odd, firstOdd};
 ghost use Rattle.model.specs.Points as points;
 ghost use Rattle.model.specs.Points.{pointOf};
 ghost use Rattle.model.specs.Calls.{verdictTold};
 ghost use Rattle.model.specs.Told.{verdictKind};
 ghost use Rattle.model.specs.Promises.{TestCall, ExtensionCall};
+ghost use Rattle.records.specs.Judged.{Whole};
 use model::Reading;
 use model::Verdict;
 
 // Whether the word's sum over the check record that `s` begins with is odd.
 fn is_odd(s: &[u8], word: &[u8]) -> bool
-    requires { ⌜ 3 + 2 * degree (now s) ≤ length (now s) ⌝ }
-    requires { ⌜ ((i : ℕ) → i < degree (now s) → getD (indices (now s)) i 0 < length (now word)) ⌝ }
+    requires { ⌜ Whole (now s) × Named (indices (now s)) (length (now word)) ⌝ }
     ensures { λ r. ⌜ r ≡ odd (now (word .entry)) (indices (now (s .entry))) ⌝ }
 {
     let d = records::degree(s);
     let mut sum = 0usize;
     for i in 0..d {
-        let v = records::two_bytes(s, 3 + 2 * i);
+        let v = records::index(s, i);
         sum += records::wide(word[v]);
     }
     sum % 2 == 1
@@ -39,13 +39,13 @@ pub fn first_odd(code: &[u8], checks: usize, word: &[u8]) -> usize
     requires { ⌜ codeOf (now code) .bits ≤ length (now word) ⌝ }
     ensures { λ r. ⌜ r ≡ firstOdd (codeOf (now (code .entry))) (now (word .entry)) ⌝ }
 {
-    let mut rest = &code[6..];
+    let mut rest = records::after_header(code);
     for j in 0..checks {
         if is_odd(rest, word) {
             return j;
         }
-        let d = records::degree(rest);
-        rest = &rest[3 + 2 * d..];
+        let after = records::after_check(rest);
+        rest = after;
     }
     checks
 }
@@ -95,16 +95,12 @@ fn parity(x: u8, y: u8) -> u8
 
 // The auxiliaries of the check record that `s` begins with, from `next` on: each from the two items of the queue that it is made of.
 fn write_auxiliaries(s: &[u8], next: usize, point: &mut [u8])
-    requires { ⌜ 3 + 2 * degree (now s) ≤ length (now s) ⌝ }
-    requires { ⌜ SoundCheck next (indices (now s)) ⌝ }
-    requires { ⌜ next ≤ 12288 ⌝ }
+    requires { ⌜ Whole (now s) × SoundCheck next (indices (now s)) × (next ≤ mostVariables) ⌝ }
     requires { ⌜ next + turns (indices (now s)) ≤ length (now point) ⌝ }
     ensures { λ _. ⌜ now (point .exit)
-        ≡ points.extend (queue (turns (indices (now (s .entry)))) (indices (now (s .entry))) next) (take next (now (point .entry)))
-        ++ drop (next + turns (indices (now (s .entry)))) (now (point .entry)) ⌝ }
+        ≡ written (points.extend (triplesOf (indices (now (s .entry))) next) (take next (now (point .entry)))) (now (point .entry)) ⌝ }
 {
-    let d = records::degree(s);
-    for t in 0..d - 3 {
+    for t in 0..records::turns(s) {
         let first = triples::item(s, next, 2 * t) as usize;
         let second = triples::item(s, next, 2 * t + 1) as usize;
         point[next + t] = parity(point[first], point[second]);
@@ -120,13 +116,13 @@ fn write_point(code: &[u8], word: &[u8], point: &mut [u8])
 {
     copy(word, point);
     let checks = records::two_bytes(code, 4);
-    let mut rest = &code[6..];
+    let mut rest = records::after_header(code);
     let mut next = word.len();
     for j in 0..checks {
-        let d = records::degree(rest);
         write_auxiliaries(rest, next, point);
-        next += d - 3;
-        rest = &rest[3 + 2 * d..];
+        next += records::turns(rest);
+        let after = records::after_check(rest);
+        rest = after;
     }
 }
 

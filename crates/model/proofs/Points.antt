@@ -208,6 +208,9 @@ module _ (n : ℕ) (some-bit : 0 < n) where
         λ r e o t k. g .even r (e ∙ g .is) (o 0 (omega arith)) (total tripleCount cs) (i .1 r (e ∙ g .is) (λ j m. o (suc j) (omega arith))) t (omega arith),
       )
 
+  pub extend-long : (cs : List (List ℕ)) (a : ℕ) → n ≤ a → SoundChecks n cs → (p : List ℕ) → length p ≡ a → length (extend (triplesFrom cs a) p) ≡ a + total turns cs
+  extend-long cs a l s p h = checks-grow cs a l s p h .0
+
 -- a sum over a check sees only its bits
 pub total-bits : (n low : ℕ) (x y : ℕ → ℕ) (c : List ℕ) → ((i : ℕ) → i < n → x i ≡ y i) → Rising n low c → total x c ≡ total y c
 total-bits n low x y [] h r = refl

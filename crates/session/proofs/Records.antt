@@ -8,7 +8,8 @@ use lib.Dec.{ltb, eqb}
 use lib.ListN.{length, take, drop, length-append, length-take, length-drop, take-append-drop}
 use lib.Seq.{length-take-le, take-take, take-add, take-append-add, drop-drop, drop-at, take-append-seam}
 use borrow.Author.Tests.{ltb-true, ltb-false, eqb-true, not-false}
-use Rattle.model.specs.Records.{bitCount, checkCount, degree, judge}
+use Rattle.model.specs.Code.{tripleCount}
+use Rattle.model.specs.Records.{bitCount, checkCount, degree, indices, judge}
 use Rattle.program.specs.Frames.{judgeHeldHeader, judgeHeldCheck, judgeSettings, frameSize, refusal, frames}
 use Rattle.program.specs.FrameClaims.{Begun, Opened}
 use Rattle.model.proofs.Causes.{or-false}
@@ -242,19 +243,16 @@ module _ (buffer : List ℕ) (long : length buffer ≡ 10260) (st : State) (came
       pub indices-all : came ≡ st .want
       indices-all = omega (arith, a .most, due-indices .want, degree-is, long-check, record-sound _ _ (check-held _ t (three ++ bytes) held .sound) .room)
 
-      pub degree-told : degree (drop from buffer) ≡ degree (three ++ bytes)
-      degree-told = sym (degree-take (st .at + came - from) (drop from buffer) (omega (arith, sizes .0))) ∙ rw check-is
+      pub check-whole : 3 ≤ length (take (st .at + came - from) (drop from buffer))
+      check-whole = rw check-is (omega (arith, long-check))
 
-      pub next-begun : Begun (st .left - 1) (t + (degree (drop from buffer) - 2)) (take (st .at + came) buffer)
+      pub next-begun : Begun (st .left - 1) (t + tripleCount (indices (take (st .at + came - from) (drop from buffer)))) (take (st .at + came) buffer)
       next-begun =
           let l : suc (st .left - 1) ≡ st .left = omega (arith, due-indices .more) in
           let g : Begun (suc (st .left - 1)) t head = rw l (due-indices .begun) in
           let all : take (st .at + came) buffer ≡ head ++ (three ++ bytes) =
           take-add (st .at) came buffer ∙ ap (λ (l : List ℕ). l ++ bytes) (sym (take-append-drop from b)) ∙ append-assoc head three bytes in
-          rw (all, degree-told) (held-next (st .left - 1) t head (three ++ bytes) g held (omega (arith, long-check, indices-all, due-indices .want, degree-is)))
-
-      pub degree-within : (3 ≤ degree (drop from buffer)) × (t + (degree (drop from buffer) - 2) ≤ 1024)
-      degree-within = let g = next-begun in (omega (arith, degree-told, record-sound _ _ (check-held _ t (three ++ bytes) held .sound) .least), g .few)
+          rw (all, check-is) (held-next (st .left - 1) t head (three ++ bytes) g held (omega (arith, long-check, indices-all, due-indices .want, degree-is)))
 
       pub indices-kept : {r : Step} {out : List ℕ} → Entered buffer (st .at + came) r out → Told buffer st came r out
       indices-kept f = kept-too buffer st came (ap isOver p) indices-all f

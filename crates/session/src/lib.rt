@@ -172,15 +172,15 @@ fn indices(state: State, came: usize, buffer: &[u8; 10260], out: &mut [u8; 640])
     let from = at - 3;
     let end = at + came;
     let bits = records::two_bytes(bytes, 2);
-    let cause = stream::judge_check(&bytes[from..end], bits, state.triples);
+    let check = &bytes[from..end];
+    let cause = stream::judge_check(check, bits, state.triples);
     if cause != 0 {
         return refuse(cause, out);
     }
-    let degree = records::wide(bytes[from + 2]);
     keep(
         end,
         state.left - 1,
-        state.triples + (degree - 2),
+        state.triples + records::triple_count(check),
         buffer,
         out,
     )

@@ -35,7 +35,7 @@ pub fn judge_check(s: &[u8], bits: usize, triples: usize) -> u32
     if cause != 0 {
         return cause;
     }
-    if 1026 < triples + records::degree(s) {
+    if 1024 < triples + records::triple_count(s) {
         10
     } else {
         0

@@ -1,8 +1,7 @@
 -- The triples that the walk over the checks of an accepted code writes. Assumes nothing.
 use mathlib.Core.Path.{_≡_, sym, ap, _∙_}
 use mathlib.Core.List.{List, [], _++_, append-nil, append-assoc}
-use Prim.Native.Nat.{ℕ, suc, _+_, _-_, _*_, _≤_, _<_}
-use native.Mathlib.Numerals.{add-one}
+use Prim.Native.Nat.{ℕ, _+_, _-_, _*_, _≤_, _<_}
 use native.Mathlib.Omega.{arith}
 use lib.ListN.{length, take, drop, length-append, length-drop, drop-of-length-le}
 use lib.Seq.{drop-drop, take-append-seam, drop-append-seam}
@@ -10,13 +9,12 @@ use Rattle.lists.specs.Tabulated.{written}
 use Rattle.lists.specs.Entries.{total}
 use Rattle.lists.proofs.Tabulated.{length-written}
 use Rattle.model.specs.Code.{turns, tripleCount, triples}
-use Rattle.model.specs.Records.{bitCount, checkCount, indices, afterCheck, checksIn, afterChecks, codeOf, judge}
+use Rattle.model.specs.Records.{bitCount, checkCount, indices, afterCheck, checksIn, codeOf, judge}
 use Rattle.model.specs.Splitting.{triplesOf, triplesFrom}
 use Rattle.model.proofs.Queue.{triples-last}
-use Rattle.model.proofs.Accepted.{bytes-sound, checks-sound}
 use Rattle.model.proofs.TripleRule.{triples-long}
-use Rattle.records.proofs.Walk.{checks-next, total-next, total-within, judge-within}
-use Rattle.triples.proofs.Auxiliaries.{body, Numbered, numbered-next}
+use Rattle.records.proofs.Walk.{walk-checks, walk-total, total-within}
+use Rattle.triples.proofs.Auxiliaries.{body, Numbered, numbered-next, checks-so-far}
 
 -- k behind l, written to what was left of the list, which then comes back
 written-more : (l k q old ts : List ℕ) → ts ≡ written l old → q ≡ written k (drop (length l) ts)
@@ -30,6 +28,10 @@ written-more l k q old ts e w =
 abbrev pub members-to : List ℕ → ℕ → List ℕ
 members-to b j = triplesFrom (checksIn j (body b)) (bitCount b)
 
+pub members-next : (b : List ℕ) (j : ℕ) (rest : List ℕ) (next : ℕ) → Numbered b j rest next → members-to b (j + 1) ≡ members-to b j ++ triplesOf (indices rest) next
+members-next b j rest next n =
+    rw (walk-checks (body b) j rest (n .walk), n .auxiliary) (triples-last (checksIn j (body b)) (indices rest) (bitCount b))
+
 -- check j is next, at `rest`, and `next` is its first auxiliary; `done` entries are written
 pub record Going (b old : List ℕ) (j : ℕ) (ts rest : List ℕ) (next done : ℕ) : Type 0 where
   pub numbered : Numbered b j rest next
@@ -38,9 +40,7 @@ pub record Going (b old : List ℕ) (j : ℕ) (ts rest : List ℕ) (next done : 
 
 module _ (b : List ℕ) (judged : judge b ≡ 0) where
   pub length-members : (j : ℕ) → j ≤ checkCount b → length (members-to b j) ≡ 3 * total tripleCount (checksIn j (body b))
-  length-members j h =
-      let s = checks-sound (bitCount b) j (body b) (judge-within (bitCount b) j (checkCount b) (body b) h (bytes-sound b judged .checks)) in
-      triples-long (bitCount b) (checksIn j (body b)) (bitCount b) s
+  length-members j h = triples-long (bitCount b) (checksIn j (body b)) (bitCount b) (checks-so-far b j judged h)
 
   module _ (old : List ℕ) (fits : 3 * triples (codeOf b) ≤ length old) (j : ℕ) (ts rest : List ℕ) (next done : ℕ) (g : Going b old j ts rest next done) where
     pub length-now : length ts ≡ length old
@@ -52,7 +52,7 @@ module _ (b : List ℕ) (judged : judge b ≡ 0) where
     -- room for the triples of the check at hand
     pub going-room : j < checkCount b → done + 3 * tripleCount (indices rest) ≤ length old
     unfolding codeOf
-    going-room h = rw (g .numbered .left) (omega (arith, g .entries, total-next tripleCount j (body b), total-within tripleCount (suc j) (checkCount b) (body b) (omega arith)))
+    going-room h = omega (arith, g .entries, walk-total (body b) j rest (g .numbered .walk) tripleCount, total-within tripleCount (j + 1) (checkCount b) (body b) (omega arith))
 
     pub going-next : (k t : List ℕ) (next′ done′ : ℕ) → j < checkCount b → k ≡ written (triplesOf (indices rest) next) (drop done ts)
         → t ≡ afterCheck rest → next′ ≡ next + turns (indices rest) → done′ ≡ done + 3 * tripleCount (indices rest)
@@ -60,12 +60,11 @@ module _ (b : List ℕ) (judged : judge b ≡ 0) where
     going-next k t next′ done′ h w e m n =
         let l = members-to b j in
         let d : done ≡ length l = omega (arith, g .entries, length-members j (g .numbered .few)) in
-        let more : members-to b (suc j) ≡ l ++ triplesOf (indices rest) next
-        = rw (checks-next j (body b), triples-last (checksIn j (body b)) (indices (afterChecks j (body b))) (bitCount b), g .numbered .left, g .numbered .auxiliary) in
+        let more : members-to b (j + 1) ≡ l ++ triplesOf (indices rest) next = members-next b j rest next (g .numbered) in
         record {
           numbered = numbered-next b j rest next (g .numbered) h t next′ e m;
-          entries = n ∙ rw (add-one j, g .numbered .left) (omega (arith, g .entries, total-next tripleCount j (body b)));
-          filled = rw (add-one j, more, d) (written-more l (triplesOf (indices rest) next) k old ts (g .filled) (rw d at w));
+          entries = omega (arith, g .entries, walk-total (body b) j rest (g .numbered .walk) tripleCount);
+          filled = rw (more, d) (written-more l (triplesOf (indices rest) next) k old ts (g .filled) (rw d at w));
         }
 
     pub going-end : checkCount b ≤ j → ts ≡ written (members-to b (checkCount b)) old

@@ -22,17 +22,8 @@ loop-holds c = (omega arith, refl)
 long : (c : tie.At-loop Inv-loop μ-loop) → length (c .loop .point) ≡ length (c .before .args .point .now)
 long c = ap length (c .loop .inv .1) ∙ length-over (c .loop .v) (bitAt (c .before .args .word .now)) (c .before .args .point .now) (omega arith)
 
-shared-slice-read-point : tie.Need-shared-slice-read-point Inv-loop μ-loop
-shared-slice-read-point c = omega arith
-
 slice-write-point : tie.Need-slice-write-point Inv-loop μ-loop
 slice-write-point c = omega (arith, long (c .before .before))
-
-add-v : tie.Need-add-v Inv-loop μ-loop
-add-v c = omega arith
-
-loop-less : tie.Need-loop-less Inv-loop μ-loop
-loop-less c = omega arith
 
 loop-again : tie.Need-loop-again Inv-loop μ-loop
 loop-again c =
@@ -51,15 +42,4 @@ returns c =
 
 pub copy-spec : {M : Type 1} → statement M
 copy-spec =
-    tie.close
-    (tie.spec
-    Inv-loop
-    μ-loop
-    loop-holds
-    shared-slice-read-point
-    slice-write-point
-    add-v
-    loop-less
-    loop-again
-    same-length
-    returns)
+    tie.close (tie.spec Inv-loop μ-loop loop-holds (λ c. omega arith) slice-write-point (λ c. omega arith) (λ c. omega arith) loop-again same-length returns)

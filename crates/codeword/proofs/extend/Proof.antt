@@ -13,18 +13,6 @@ use Rattle.codeword.proofs.Verdicts.{word-cause, word-long, no-room, ca
 use Rattle.codeword.proofs.extend.Statement.{statement}
 use Rattle.codeword.proofs.extend.Tie as tie
 
-read-requires : tie.Need-read-requires
-read-requires c κs = search needs
-
-enum-known-cause : tie.Need-enum-known-cause
-enum-known-cause c = search needs
-
-enum-known-bits : tie.Need-enum-known-bits
-enum-known-bits c = search needs
-
-judge-word-requires : tie.Need-judge-word-requires
-judge-word-requires c κs = search needs
-
 -- ---- an accepted code, an accepted word, and room
 read : (c : tie.After-bits)
     → let g = c .bits .given .0 in
@@ -98,9 +86,6 @@ returns-4 c =
     let a = c .before .before .before .before .before .before .before .args in
     extend-refused _ (a .word .now) (a .point .now) _ (by-code _ (a .word .now) (no-room (a .code .now) (a .point .now)) _ (e .0) (e .1 .0)) (λ z. omega (arith, e .1 .0))
 
-same-length : tie.Need-same-length
-same-length c = search needs
-
 returns-5 : tie.Need-returns-5
 returns-5 c =
     let w = c .before .before in
@@ -112,19 +97,5 @@ returns-5 c =
 
 pub extend-spec : {M : Type 1} → statement M
 extend-spec =
-    tie.close
-    (tie.spec
-    read-requires
-    enum-known-cause
-    enum-known-bits
-    judge-word-requires
-    returns
-    add-if2
-    sub-if2
-    returns-2
-    first-odd-requires
-    returns-3
-    write-point-requires
-    returns-4
-    same-length
-    returns-5)
+    tie.close (tie.spec (λ c κs. search needs) (λ c. search needs) (λ c. search needs) (λ c κs. search needs) returns add-if2 sub-if2 returns-2
+    first-odd-requires returns-3 write-point-requires returns-4 (λ c. search needs) returns-5)

@@ -9,18 +9,6 @@ use Rattle.codeword.proofs.Verdicts.{word-cause, word-long, causes, by-
 use Rattle.codeword.proofs.test.Statement.{statement}
 use Rattle.codeword.proofs.test.Tie as tie
 
-read-requires : tie.Need-read-requires
-read-requires c κs = search needs
-
-enum-known-cause : tie.Need-enum-known-cause
-enum-known-cause c = search needs
-
-enum-known-bits : tie.Need-enum-known-bits
-enum-known-bits c = search needs
-
-judge-word-requires : tie.Need-judge-word-requires
-judge-word-requires c κs = search needs
-
 -- ---- an accepted code, and an accepted word
 read : (c : tie.After-bits)
     → let g = c .bits .given .0 in
@@ -72,14 +60,5 @@ returns-4 c =
 
 pub test-spec : {M : Type 1} → statement M
 test-spec =
-    tie.close
-    (tie.spec
-    read-requires
-    enum-known-cause
-    enum-known-bits
-    judge-word-requires
-    returns
-    first-odd-requires
-    returns-2
-    returns-3
+    tie.close (tie.spec (λ c κs. search needs) (λ c. search needs) (λ c. search needs) (λ c κs. search needs) returns first-odd-requires returns-2 returns-3
     returns-4)

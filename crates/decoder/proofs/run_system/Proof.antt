@@ -1,11 +1,10 @@
 -- `decoder::run_system` meets its contract: the parts that are lent hold the code's system. Assumes nothing.
 use mathlib.Core.List.{List}
 use mathlib.Core.Path.{_≡_, sym, ap, ap₂, _∙_, subst}
-use Prim.Native.Nat.{ℕ, _*_, _<_}
-use native.Mathlib.Omega.{arith}
+use Prim.Native.Nat.{ℕ, _*_}
 use borrow.Author.Needs.{needs}
 use lib.Dec.{ltb}
-use lib.ListN.{length, getD, take, drop}
+use lib.ListN.{length, take, drop}
 use lib.Seq.{length-take-le, take-at}
 use Rattle.lists.proofs.Parts.{lent-back}
 use Rattle.lists.proofs.Tabulated.{length-tab}
@@ -22,7 +21,7 @@ use Rattle.model.specs.Code.{Code, triples, variables}
 use Rattle.model.specs.Splitting.{System, systemOf, Named}
 use Rattle.model.proofs.Causes.{or-false, within}
 use Rattle.model.proofs.Bounds.{ready}
-use Rattle.triples.proofs.Members.{members-long, member-below}
+use Rattle.model.proofs.TripleRule.{members-long, members-named}
 use Rattle.decoder.proofs.run_system.Statement.{statement}
 use Rattle.decoder.proofs.run_system.Tie as tie
 
@@ -83,9 +82,8 @@ module _ (w : tie.After-write-system) where
   rows-long = length-take-le (4 * s .args .total) (s .args .rows .now) (s .pre .1 .1 .1 .2)
 
   members-below : Named ts n
-  members-below i h =
-      subst (λ (m : ℕ). getD ts i 0 < m) (sym (n-is ∙ s .pre .0 .2))
-      (subst (λ (l : List ℕ). getD l i 0 < variables k) (sym ts-is) (member-below k sound i (omega (arith, ts-long, s .pre .0 .1))))
+  members-below =
+      subst (Named ts) (sym (n-is ∙ s .pre .0 .2)) (subst (λ (l : List ℕ). Named l (variables k)) (sym ts-is) (members-named k sound))
 
   is-ready : Ready n ts (s .args .total) (s .args .settings) (s .args .costs .now)
   unfolding systemOf

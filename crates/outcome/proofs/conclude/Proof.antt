@@ -18,9 +18,6 @@ use Rattle.outcome.proofs.Outcomes.{undecided, odd-check, codeword, ans
 use Rattle.outcome.proofs.conclude.Statement.{statement}
 use Rattle.outcome.proofs.conclude.Tie as tie
 
-first-undecided-requires : tie.Need-first-undecided-requires
-first-undecided-requires c κs = search needs
-
 module _ (c : tie.After-first-undecided) where
   abbrev s : tie.Start
   s = c .before .before .before
@@ -53,21 +50,12 @@ returns c =
     let e = undecided (k f) (values f) (f .first-undecided .result) (v-is f) (omega (arith, c .if1 .taken, s f .pre .0 .1)) in
     (by-outcome f _ (s f .args .word .now) e refl, tt)
 
-first-odd-requires : tie.Need-first-odd-requires
-first-odd-requires c κs = search needs
-
 returns-2 : tie.Need-returns-2
 returns-2 c =
     let j = c .before in
     let f = j .before .before in
     let e = odd-check (k f) (values f) (f .first-undecided .result) (j .first-odd .result) (v-is f) (omega (arith, j .before .if1 .left, s f .pre .0 .1)) (j .first-odd .ensures) (omega (arith, c .if2 .taken, s f .pre .0 .2)) in
     (by-outcome f _ (s f .args .word .now) e refl, tt)
-
-write-word-requires : tie.Need-write-word-requires
-write-word-requires c κs = search needs
-
-same-length : tie.Need-same-length
-same-length c = search needs
 
 returns-3 : tie.Need-returns-3
 returns-3 c =
@@ -78,13 +66,4 @@ returns-3 c =
     (by-outcome f _ (w .write-word .last .1 .1 .0) e (whole f (w .write-word .last .1 .1 .0) (w .write-word .ensures)), tt)
 
 pub conclude-spec : {M : Type 1} → statement M
-conclude-spec =
-    tie.close
-    (tie.spec
-    first-undecided-requires
-    returns
-    first-odd-requires
-    returns-2
-    write-word-requires
-    same-length
-    returns-3)
+conclude-spec = tie.close (tie.spec (λ c κs. search needs) returns (λ c κs. search needs) returns-2 (λ c κs. search needs) (λ c. search needs) returns-3)

@@ -15,9 +15,6 @@ use Rattle.model.specs.Code.{Code}
 use Rattle.outcome.proofs.first_odd_in.Statement.{statement}
 use Rattle.outcome.proofs.first_odd_in.Tie as tie
 
-slice-relend-prefix-write-word : tie.Need-slice-relend-prefix-write-word
-slice-relend-prefix-write-word c = search needs
-
 part-long : (c : tie.After-write-word-arg) → let a = c .before .before .before .args in length (take (a .bits) (a .aside .now)) ≡ a .bits
 part-long c = let s = c .before .before .before in length-take-le (s .args .bits) (s .args .aside .now) (s .pre .1 .1)
 
@@ -51,30 +48,16 @@ module _ (c : tie.After-write-word) where
   lent : take (s .args .bits) (c .write-word .last .1 .1 .0 ++ drop (s .args .bits) (s .args .aside .now)) ≡ wordOf k (s .args .values .now)
   lent = take-at (c .write-word .last .1 .1 .0) (drop (s .args .bits) (s .args .aside .now)) (s .args .bits) (ap length part-is ∙ long) ∙ part-is
 
-slice-reshare-prefix-first-odd : tie.Need-slice-reshare-prefix-first-odd
-slice-reshare-prefix-first-odd c = search needs
-
 slice-aggregate-first-odd : tie.Need-slice-aggregate-first-odd
 slice-aggregate-first-odd c = let w = c .before .before .before in sym (ap length (lent w) ∙ long w)
 
 first-odd-requires : tie.Need-first-odd-requires
 first-odd-requires c κs = let w = c .before .before .before in let p = s w .pre .0 in (p .0, (p .2, omega (arith, ap length (lent w) ∙ long w, p .1)))
 
-same-length : tie.Need-same-length
-same-length c = search needs
-
 returns : tie.Need-returns
 returns c = let w = c .before .before .before .before in c .first-odd .ensures ∙ ap (firstOdd (k w)) (lent w)
 
 pub first-odd-in-spec : {M : Type 1} → statement M
 first-odd-in-spec =
-    tie.close
-    (tie.spec
-    slice-relend-prefix-write-word
-    slice-aggregate-write-word
-    write-word-requires
-    slice-reshare-prefix-first-odd
-    slice-aggregate-first-odd
-    first-odd-requires
-    same-length
-    returns)
+    tie.close (tie.spec (λ c. search needs) slice-aggregate-write-word write-word-requires (λ c. search needs) slice-aggregate-first-odd first-odd-requires
+    (λ c. search needs) returns)

@@ -22,15 +22,6 @@ abbrev μ-loop : tie.MeasureT-loop
 loop-holds : tie.Need-loop-holds Inv-loop μ-loop
 loop-holds c = (omega arith, λ u h. absurd (omega arith))
 
-mul-is-zero : tie.Need-mul-is-zero Inv-loop μ-loop
-mul-is-zero c = search needs
-
-shared-slice-copy-out-is-zero : tie.Need-shared-slice-copy-out-is-zero Inv-loop μ-loop
-shared-slice-copy-out-is-zero c = search needs
-
-is-zero-requires : tie.Need-is-zero-requires Inv-loop μ-loop
-is-zero-requires c κs = search needs
-
 module _ (c : tie.After-is-zero Inv-loop μ-loop) where
   abbrev l : tie.At-loop Inv-loop μ-loop
   l = c .before .before .before
@@ -46,12 +37,6 @@ returns c =
     let z = c .before in
     sym (first-at (l z .before .args .bits) (f z) (l z .loop .v) (z .before .before .loop-test .taken) (l z .loop .inv .1) (sym (test z) ∙ c .if1 .taken))
 
-add-v : tie.Need-add-v Inv-loop μ-loop
-add-v c = search needs
-
-loop-less : tie.Need-loop-less Inv-loop μ-loop
-loop-less c = search needs
-
 loop-again : tie.Need-loop-again Inv-loop μ-loop
 loop-again c =
     let z = c .before in
@@ -66,16 +51,5 @@ returns-2 c =
 
 pub first-undecided-spec : {M : Type 1} → statement M
 first-undecided-spec =
-    tie.close
-    (tie.spec
-    Inv-loop
-    μ-loop
-    loop-holds
-    mul-is-zero
-    shared-slice-copy-out-is-zero
-    is-zero-requires
-    returns
-    add-v
-    loop-less
-    loop-again
-    returns-2)
+    tie.close (tie.spec Inv-loop μ-loop loop-holds (λ c. search needs) (λ c. search needs) (λ c κs. search needs) returns (λ c. search needs)
+    (λ c. search needs) loop-again returns-2)

@@ -33,23 +33,8 @@ module _ (l : tie.At-loop Inv-loop μ-loop) where
   long : length (l .loop .word) ≡ length (first .args .word .now)
   long = ap length (l .loop .inv .1) ∙ length-over (l .loop .v) f (first .args .word .now) (omega (arith, l .loop .inv .0, first .pre .1))
 
-mul-bit : tie.Need-mul-bit Inv-loop μ-loop
-mul-bit c = search needs
-
-shared-slice-copy-out-bit : tie.Need-shared-slice-copy-out-bit Inv-loop μ-loop
-shared-slice-copy-out-bit c = search needs
-
-bit-requires : tie.Need-bit-requires Inv-loop μ-loop
-bit-requires c κs = search needs
-
 slice-write-word : tie.Need-slice-write-word Inv-loop μ-loop
 slice-write-word c = let l = c .before .before .before in omega (arith, long l, first l .pre .1, c .before .before .loop-test .taken)
-
-add-v : tie.Need-add-v Inv-loop μ-loop
-add-v c = search needs
-
-loop-less : tie.Need-loop-less Inv-loop μ-loop
-loop-less c = search needs
 
 loop-again : tie.Need-loop-again Inv-loop μ-loop
 loop-again c =
@@ -71,17 +56,5 @@ returns c =
 
 pub write-word-spec : {M : Type 1} → statement M
 write-word-spec =
-    tie.close
-    (tie.spec
-    Inv-loop
-    μ-loop
-    loop-holds
-    mul-bit
-    shared-slice-copy-out-bit
-    bit-requires
-    slice-write-word
-    add-v
-    loop-less
-    loop-again
-    same-length
-    returns)
+    tie.close (tie.spec Inv-loop μ-loop loop-holds (λ c. search needs) (λ c. search needs) (λ c κs. search needs) slice-write-word (λ c. search needs)
+    (λ c. search needs) loop-again same-length returns)

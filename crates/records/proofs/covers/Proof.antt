@@ -2,7 +2,6 @@
 use mathlib.Core.Path.{_≡_, refl, sym, _∙_}
 use mathlib.Core.List.{List}
 use Prim.Native.Nat.{ℕ, _-_, _≤_, _<_}
-use native.Mathlib.Numerals.{add-one}
 use native.Mathlib.Omega.{arith}
 use borrow.Author.Needs.{needs}
 use lib.Dec.{eqb}
@@ -10,28 +9,28 @@ use lib.ListN.{length, getD-replicate}
 use Rattle.lists.specs.Entries.{some}
 use Rattle.lists.proofs.Entries.{every-same}
 use Rattle.model.specs.Limits.{mostBits}
-use Rattle.model.specs.Records.{checksIn, afterChecks, judgeCheck, covered}
+use Rattle.model.specs.Records.{checksIn, judgeCheck, covered}
 use Rattle.model.proofs.Accepted.{record-sound}
 use Rattle.records.specs.Marks.{marked, allMarked}
-use Rattle.records.proofs.Walk.{after-next, checks-next, judged-at}
+use Rattle.records.proofs.Walk.{Walk, walk-start, walk-next, walk-checks, walk-judged}
 use Rattle.records.proofs.Marks.{some-last}
 use Rattle.records.proofs.covers.Statement.{statement}
 use Rattle.records.proofs.covers.Tie as tie
 
 abbrev Inv-loop : tie.InvT-loop
 Inv-loop s bits checks seen₀ rest₀ j₀ seen rest j =
-    (rest ≡ afterChecks j s) × (length seen ≡ mostBits) × ((b : ℕ) → b < mostBits → marked seen b ≡ some (some (eqb b)) (checksIn j s)) × (j ≤ checks)
+    Walk s j rest × (length seen ≡ mostBits) × ((b : ℕ) → b < mostBits → marked seen b ≡ some (some (eqb b)) (checksIn j s)) × (j ≤ checks)
 
 abbrev μ-loop : tie.MeasureT-loop
 μ-loop s bits checks seen₀ rest₀ j₀ seen rest j = checks - j
 
 loop-holds : tie.Need-loop-holds Inv-loop μ-loop
-unfolding afterChecks checksIn
-loop-holds c = (refl, refl, λ b h. rw (getD-replicate {A = ℕ} mostBits b 0 0 h), omega arith)
+unfolding checksIn
+loop-holds c = (walk-start _, refl, λ b h. rw (getD-replicate {A = ℕ} mostBits b 0 0 h), omega arith)
 
 -- the check record at hand
 judged : (c : tie.In-loop Inv-loop μ-loop) → judgeCheck (c .before .before .before .args .bits) (c .before .loop .rest .now) ≡ 0
-judged c = rw (c .before .loop .inv .0) (judged-at _ _ _ _ (c .loop-test .taken) (c .before .before .before .pre .1))
+judged c = walk-judged _ _ _ (c .before .loop .inv .0) _ _ (c .loop-test .taken) (c .before .before .before .pre .1)
 
 mark-requires : tie.Need-mark-requires Inv-loop μ-loop
 mark-requires c κs = (c .before .before .before .before .pre .0, judged (c .before))
@@ -44,11 +43,10 @@ loop-again c =
     let m = c .before .mark .ensures in
     let t = c .before .before .before in
     let l = t .before .loop in
-    let s = t .before .before .before .args .s .now in
-    rw (add-one (l .j)) (
-      c .after-check .ensures ∙ rw (l .inv .0) (sym (after-next (l .j) s)),
+    let k = checksIn (l .j) (t .before .before .before .args .s .now) in (
+      walk-next _ _ _ (l .inv .0) _ (c .after-check .ensures),
       m .long ∙ l .inv .1,
-      λ b h. m .each b (omega (arith, l .inv .1)) ∙ rw (l .inv .2 b h, l .inv .0, checks-next (l .j) s, some-last (some (eqb b)) (checksIn (l .j) s) _),
+      λ b h. m .each b (omega (arith, l .inv .1)) ∙ rw (l .inv .2 b h, walk-checks _ _ _ (l .inv .0)) (sym (some-last (some (eqb b)) k _)),
       omega arith,
     )
 

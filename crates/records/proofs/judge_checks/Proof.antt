@@ -1,37 +1,36 @@
 -- `records::judge_checks` meets its contract: the records so far are sound. Assumes nothing.
 use mathlib.Core.Path.{_≡_, refl, sym, ap, _∙_}
 use Prim.Native.Nat.{_-_, _*_, _≤_}
-use native.Mathlib.Numerals.{add-one}
 use native.Mathlib.Omega.{arith}
 use borrow.Author.Needs.{needs}
 use lib.ListN.{length}
 use Rattle.lists.specs.Entries.{total}
 use Rattle.model.specs.Code.{tripleCount}
-use Rattle.model.specs.Records.{checksIn, afterChecks, judgeCheck, judgeChecks}
+use Rattle.model.specs.Records.{checksIn, judgeCheck, judgeChecks}
 use Rattle.model.proofs.Accepted.{record-sound}
 use Rattle.records.specs.Judged.{Whole}
-use Rattle.records.proofs.Walk.{after-next, total-next, judge-refused, judge-passed}
+use Rattle.records.proofs.Walk.{Walk, walk-start, walk-next, walk-total, walk-passed, walk-refused}
 use Rattle.records.proofs.judge_checks.Statement.{statement}
 use Rattle.records.proofs.judge_checks.Tie as tie
 
 abbrev Inv-loop : tie.InvT-loop
 Inv-loop s bits checks rest₀ triples₀ j₀ rest triples j =
-    (rest ≡ afterChecks j s) × (judgeChecks bits j s ≡ 0) × (triples ≡ total tripleCount (checksIn j s)) × (triples ≤ 253 * j) × (j ≤ checks)
+    Walk s j rest × (judgeChecks bits j s ≡ 0) × (triples ≡ total tripleCount (checksIn j s)) × (triples ≤ 253 * j) × (j ≤ checks)
 
 abbrev μ-loop : tie.MeasureT-loop
 μ-loop s bits checks rest₀ triples₀ j₀ rest triples j = checks - j
 
 loop-holds : tie.Need-loop-holds Inv-loop μ-loop
-unfolding afterChecks checksIn judgeChecks
-loop-holds c = (refl, refl, refl, omega arith, omega arith)
+unfolding checksIn judgeChecks
+loop-holds c = (walk-start _, refl, refl, omega arith, omega arith)
 
 returns : tie.Need-returns Inv-loop μ-loop
 returns c =
     let t = c .before .before in
     let l = t .before .loop in
-    let e = rw (l .inv .0) at (c .before .judge-check .ensures) in
+    let e = c .before .judge-check .ensures in
     record {
-      first = e ∙ sym (judge-refused _ _ _ _ (t .loop-test .taken) (l .inv .1) (λ z. c .if1 .taken (e ∙ z)));
+      first = e ∙ sym (walk-refused _ _ _ (l .inv .0) _ (l .inv .1) _ (t .loop-test .taken) (λ z. c .if1 .taken (e ∙ z)));
       counted = λ z. absurd (c .if1 .taken z);
       left = λ z. absurd (c .if1 .taken z);
     }
@@ -56,14 +55,7 @@ loop-again c =
     let n = c .before .triple-count .ensures in
     let p = c .before .before in
     let l = p .before .before .before .loop in
-    let s = p .before .before .before .before .before .args .s .now in
-    rw (add-one (l .j)) (
-      c .after-check .ensures ∙ rw (l .inv .0) (sym (after-next (l .j) s)),
-      judge-passed _ (l .j) s (l .inv .1) (rw (l .inv .0) at (passed p)),
-      rw (n .0, l .inv .2) (rw (l .inv .0) (sym (total-next tripleCount (l .j) s))),
-      omega arith,
-      omega arith,
-    )
+    (walk-next _ _ _ (l .inv .0) _ (c .after-check .ensures), walk-passed _ _ _ (l .inv .0) _ (l .inv .1) (passed p), omega (arith, n .0, l .inv .2, walk-total _ _ _ (l .inv .0) tripleCount), omega arith, omega arith)
 
 returns-2 : tie.Need-returns-2 Inv-loop μ-loop
 returns-2 c =
