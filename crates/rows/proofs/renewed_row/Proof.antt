@@ -1,5 +1,6 @@
 -- `rows::renewed_row` meets its contract. Assumes nothing.
 use mathlib.Core.Path.{_≡_, ap, _∙_}
+use Prim.Native.Nat.{_*_}
 use native.Mathlib.Omega.{arith}
 use borrow.Author.Needs.{needs}
 use lib.IntN.{ℤ, pos, _+ℤ_, _-ℤ_}
@@ -9,7 +10,6 @@ use Rattle.integers.proofs.Machine.{Worth, fits, stored, local, held, literal, 
 use Rattle.integers.proofs.Linear.{split, toℕ, about}
 use Rattle.model.specs.Limits.{mostRow}
 use Rattle.quotient.specs.Quotient.{unit}
-use Prim.Native.Nat.{_*_}
 use Rattle.model.specs.Iteration.{at, multiplier}
 use Rattle.rows.proofs.renewed_row.Statement.{statement}
 use Rattle.rows.proofs.renewed_row.Tie as tie
