@@ -39,12 +39,10 @@ returns c =
     let s = c .before .before .before in
     stored (plus (multiplier-is (c .before)) (stored (lowered s) w32 tt)) w32 tt .is ∙ regrouped (pos (multiplier (row s))) (sum s) (pos unit)
 
-sub-result : tie.Need-sub-result
-sub-result c = fits (lowered (c .before .before .before)) w32 tt
-
 add-result : tie.Need-add-result
 add-result c = fits (plus (multiplier-is (c .before)) (stored (lowered (c .before .before .before)) w32 tt)) w32 tt
 
 pub renewed-row-spec : {M : Type 1} → statement M
 renewed-row-spec =
-    tie.close (tie.spec (λ c. search needs) (λ c. search needs) (λ c κs. search needs) (λ c. search needs) (λ c. search needs) sub-result add-result returns)
+    tie.close (tie.spec (λ c. search needs) (λ c. search needs) (λ c κs. search needs) (λ c. search needs) (λ c. search needs)
+    (λ c. fits (lowered (c .before .before .before)) w32 tt) add-result returns)
