@@ -31,20 +31,6 @@ fours-are f h k = by (decLt k 4)
 pub cell-is : (f : ℕ → ℕ → ℤ) (k j : ℕ) → k < 4 → j < 4 → cell (tab 4 (λ k. tab 4 (f k))) k j ≡ f k j
 cell-is f k j l m = ap (λ (q : List ℤ). at q j) (getD-tab 4 (λ k. tab 4 (f k)) k [] l) ∙ getD-tab 4 (f k) j (pos 0) m
 
--- 16b + 4k + r, taken apart
-module _ (b k r : ℕ) (l : k < 4) (m : r < 4) where
-  sixteenth : (16 * b + (4 * k + r)) / 16 ≡ b
-  sixteenth = omega arith
-
-  in-sixteen : (16 * b + (4 * k + r)) % 16 ≡ 4 * k + r
-  in-sixteen = omega arith
-
-  in-four : (16 * b + (4 * k + r)) % 4 ≡ r
-  in-four = omega arith
-
-  fourth : (4 * k + r) / 4 ≡ k
-  fourth = omega arith
-
 module _ (T : ℕ) where
   -- among the first triples
   pub place-first : (i : ℕ) → i < 4 * (T % 4) → place T i ≡ i
@@ -58,7 +44,12 @@ module _ (T : ℕ) where
       let b = (t - T % 4) / 4 in
       let t-is : t ≡ T % 4 + 4 * b = omega arith in
       let u-is : 4 * (t + k) + r - 4 * (T % 4) ≡ 16 * b + (4 * k + r) = omega (arith, t-is) in
-      rw (le-ltb (4 * (t + k) + r) (4 * (T % 4)) (omega arith), u-is, sixteenth b k r l m, in-four b k r l m, in-sixteen b k r l m, fourth b k r l m) (omega (arith, t-is))
+      let i = 16 * b + (4 * k + r) in
+      let p : i / 16 ≡ b = omega arith in
+      let q : i % 4 ≡ r = omega arith in
+      let s : i % 16 ≡ 4 * k + r = omega arith in
+      let w : (4 * k + r) / 4 ≡ k = omega arith in
+      rw (le-ltb (4 * (t + k) + r) (4 * (T % 4)) (omega arith), u-is, p, q, s, w) (omega (arith, t-is))
 
 -- ---- four stores of four are one of sixteen
 pub sets-fours : (l : List ℤ) (t : ℕ) (f : ℕ → ℕ → ℤ)
@@ -70,14 +61,15 @@ sets-fours l t f =
     let c : 4 * (t + 3) ≡ suc (suc (suc (suc (4 * (t + 2))))) = omega arith in
     rw (c, b, a)
 
--- ---- four fours, transposed, are stored in a list of which the entries before them are f's
+-- ---- four fours, transposed, as they stand from triple t on in a list of which these entries are f's
+pub cells-are : (f : ℕ → ℤ) (t : ℕ) (q : List (List ℤ)) → ((k r : ℕ) → k < 4 → r < 4 → cell q k r ≡ f (4 * (t + r) + k)) → (j : ℕ) → j < 16 → cell q (j % 4) (j / 4) ≡ f (4 * t + j)
+cells-are f t q are j h = let e : 4 * (t + j / 4) + j % 4 ≡ 4 * t + j = omega arith in are (j % 4) (j / 4) (omega arith) (omega arith) ∙ ap f e
+
 pub four-more : (s : List ℤ) (f : ℕ → ℤ) (t : ℕ) (q : List (List ℤ)) → 4 * t + 16 ≤ length s → ((k r : ℕ) → k < 4 → r < 4 → cell q k r ≡ f (4 * (t + r) + k))
     → stored (over (4 * t) f s) t q ≡ over (4 * (t + 4)) f s
 four-more s f t q long are =
-    let put : (j : ℕ) → j < 16 → cell q (j % 4) (j / 4) ≡ f (4 * t + j)
-    = λ j h. let e : 4 * (t + j / 4) + j % 4 ≡ 4 * t + j = omega arith in are (j % 4) (j / 4) (omega arith) (omega arith) ∙ ap f e in
     let n : 4 * t + 16 ≡ 4 * (t + 4) = omega arith in
-    ap (sets (over (4 * t) f s) (4 * t)) (tab-same 16 (λ j. cell q (j % 4) (j / 4)) (λ j. f (4 * t + j)) put)
+    ap (sets (over (4 * t) f s) (4 * t)) (tab-same 16 (λ j. cell q (j % 4) (j / 4)) (λ j. f (4 * t + j)) (cells-are f t q are))
     ∙ over-sets 16 (4 * t) f s long
     ∙ ap (λ (n : ℕ). over n f s) n
 

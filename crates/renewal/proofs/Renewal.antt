@@ -30,7 +30,7 @@ use Rattle.rows.specs.Sides.{Rows, changeOf}
 use Rattle.rows.proofs.Four.{rows-are, side-multiplier, side-slack}
 use Rattle.layout.specs.Transposed.{cell, Fours, lane, stored, place, straight, Aligned}
 use Rattle.layout.proofs.Arranged.{arranged-at, sum-arranged}
-use Rattle.layout.proofs.Places.{place-first, place-four, fours-are, cell-is, transposed}
+use Rattle.layout.proofs.Places.{place-first, place-four, fours-are, cell-is, cells-are, transposed}
 use Rattle.renewal.specs.InPlace.{Small, tripleChanges, fourChanges, renewedFour, renewedIn, renewedAll, Left, renewedFrom, changesFrom, Renewed}
 
 -- ---- how large
@@ -189,9 +189,8 @@ module _ (T : ℕ) (ts : List ℕ) (c : List ℤ) where
     pub four-renewed : s′ ≡ stored s t (renewedFour ts s c t) → a ≡ m + fourChanges (pos 1) (getD q 0 []) (getD q 1 []) → b ≡ z + fourChanges (negsuc 0) (getD q 0 []) (getD q 1 [])
         → Renewed T ts c t (t + 4) s s′ m a z b
     four-renewed put e f =
-        step 4 t s s′ (λ j. cell (renewedFour ts s c t) (j % 4) (j / 4)) (omega (arith, al)) left put
-        (λ j l. let e : 4 * (t + j / 4) + j % 4 ≡ 4 * t + j = omega arith in
-        cell-is (λ k r. renewed (row s (t + r) k) (sumAt ts c (t + k) r)) (j % 4) (j / 4) (omega arith) (omega arith) ∙ new-four s t (j % 4) (j / 4) al (omega arith) (omega arith) ∙ ap (new s) e)
+        step 4 t s s′ (λ j. cell (renewedFour ts s c t) (j % 4) (j / 4)) (omega (arith, al)) left put (cells-are (new s) t (renewedFour ts s c t) (λ k r l g.
+        cell-is (λ k r. renewed (row s (t + r) k) (sumAt ts c (t + k) r)) k r l g ∙ new-four s t k r al l g))
         m z a b (e ∙ ap (λ (x : ℕ). m + x) (four-total (pos 1))) (f ∙ ap (λ (x : ℕ). z + x) (four-total (negsuc 0)))
 
   -- ---- nothing more, one after another, all

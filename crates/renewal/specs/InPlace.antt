@@ -47,21 +47,21 @@ renewedIn T ts s c i = renewed (at s i) (sumAt ts c (place T i / 4) (place T i %
 abbrev pub renewedAll : ℕ → List ℕ → List ℤ → List ℤ → List ℤ
 renewedAll T ts s c = tab (4 * T) (renewedAt ts (straight T s) c)
 
--- the triples before t are done; the rows of the others are as they were
+-- a list of their rows of which the entries from triple t on are yet to be renewed
 pub record Left (T t : ℕ) (s : List ℤ) : Type 0 where
   pub long : length s ≡ 4 * T
   pub small : (i : ℕ) → 4 * t ≤ i → Small (at s i)
 
 module _ (T : ℕ) (ts : List ℕ) (c : List ℤ) where
-  -- what the list will be when they are renewed too
+  -- what the list will be when they are renewed
   abbrev pub renewedFrom : ℕ → List ℤ → List ℤ
   renewedFrom t s = tab (4 * T) (λ i. cond (ltb i (4 * t)) (at s i) (renewedIn T ts s c i))
 
-  -- what this will add to the total of one side
+  -- what they will add to the total of one side
   abbrev pub changesFrom : ℤ → ℕ → List ℤ → ℕ
   changesFrom side t s = sumℕ (4 * T - 4 * t) (λ j. changeOf side (at s (4 * t + j)) (renewedIn T ts s c (4 * t + j)))
 
-  -- Rows and totals with t triples done, then with u: the list and the totals will be the same in the end.
+  -- From t triples done to u: what the list and the totals will be in the end stays the same.
   pub record Renewed (t u : ℕ) (s s′ : List ℤ) (multipliers multipliers′ slacks slacks′ : ℕ) : Type 0 where
     pub left : Left T u s′
     pub rows : renewedFrom u s′ ≡ renewedFrom t s

@@ -57,7 +57,7 @@ fn renewed_four(triples: &[u16], values: &[i16], t: usize, s: [[i32; 4]; 4]) -> 
     ]
 }
 
-// The four triples from t on are renewed; their old rows and their new ones.
+// The four triples from t on are renewed; the answer holds their old rows and their new ones.
 fn renew_four(triples: &[u16], values: &[i16], rows: &mut [i32], t: usize) -> [[[i32; 4]; 4]; 2]
     requires { ⌜ (t + 4 ≤ mostTriples) × (3 * t + 11 < length (now triples)) × (4 * t + 15 < length (now rows)) ⌝ }
     requires { ⌜ Valued (now triples) (now values) ⌝ }
@@ -80,7 +80,7 @@ struct Totals {
     slacks: u64,
 }
 
-// With one triple more.
+// The totals with one triple more.
 fn with_triple(totals: Totals, old: [i32; 4], new: [i32; 4]) -> Totals
     requires { ⌜ (totals .multipliers ≤ 2 ^ 63) × (totals .slacks ≤ 2 ^ 63) ⌝ }
     requires { ⌜ Rows old × Rows new ⌝ }
@@ -94,7 +94,7 @@ fn with_triple(totals: Totals, old: [i32; 4], new: [i32; 4]) -> Totals
     }
 }
 
-// With four more.
+// The totals with four triples more.
 fn with_four(totals: Totals, old: [[i32; 4]; 4], new: [[i32; 4]; 4]) -> Totals
     requires { ⌜ (totals .multipliers ≤ 2 ^ 62) × (totals .slacks ≤ 2 ^ 62) ⌝ }
     requires { ⌜ Fours old × Fours new ⌝ }

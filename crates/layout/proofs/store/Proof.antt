@@ -13,12 +13,6 @@ use Rattle.model.specs.Iteration.{at}
 use Rattle.layout.proofs.store.Statement.{statement}
 use Rattle.layout.proofs.store.Tie as tie
 
-slice-set-from-rows-2 : tie.Need-slice-set-from-rows-2
-slice-set-from-rows-2 c = simp length-set (omega arith)
-
-slice-set-from-rows-3 : tie.Need-slice-set-from-rows-3
-slice-set-from-rows-3 c = simp length-set (omega arith)
-
 returns : tie.Need-returns
 returns c =
     let s = c .before .before .before .before in
@@ -28,5 +22,5 @@ returns c =
 pub store-spec : {M : Type 1} → statement M
 store-spec =
     tie.close (tie.spec (λ c. search needs) (λ c. search needs) (λ c. search needs) (λ c. search needs) (λ c. search needs) (λ c. search needs)
-    (λ c. search needs) slice-set-from-rows-2 (λ c. search needs) (λ c. search needs) (λ c. search needs) slice-set-from-rows-3 (λ c. search needs)
-    (λ c. search needs) (λ c. search needs) (λ c. search needs) (λ c. search needs) returns)
+    (λ c. search needs) (λ c. simp length-set (omega arith)) (λ c. search needs) (λ c. search needs) (λ c. search needs) (λ c. simp length-set (omega arith))
+    (λ c. search needs) (λ c. search needs) (λ c. search needs) (λ c. search needs) (λ c. search needs) returns)

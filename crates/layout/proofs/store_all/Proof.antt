@@ -27,18 +27,6 @@ first c = c .before .before .before .before
 abbrev second : tie.After-store3 → tie.After-store2
 second c = c .before .before .before .before
 
-store-requires : tie.Need-store-requires
-store-requires c κs = let s = c .before .before in (search needs, small s 0)
-
-store-requires-2 : tie.Need-store-requires-2
-store-requires-2 c κs = let s = start (c .before .before .before) in (search needs, small s 1)
-
-store-requires-3 : tie.Need-store-requires-3
-store-requires-3 c κs = let s = start (first (c .before .before .before)) in (search needs, small s 2)
-
-store-requires-4 : tie.Need-store-requires-4
-store-requires-4 c κs = let s = start (first (second (c .before .before .before))) in (search needs, small s 3)
-
 returns : tie.Need-returns
 returns c =
     let d = c .before .before .before .before .before in
@@ -50,5 +38,7 @@ returns c =
 
 pub store-all-spec : {M : Type 1} → statement M
 store-all-spec =
-    tie.close (tie.spec (λ c. search needs) store-requires (λ c. search needs) (λ c. search needs) store-requires-2 (λ c. search needs) (λ c. search needs)
-    store-requires-3 (λ c. search needs) (λ c. search needs) store-requires-4 (λ c. search needs) returns)
+    tie.close (tie.spec (λ c. search needs) (λ c κs. (search needs, small (c .before .before) 0)) (λ c. search needs) (λ c. search needs)
+    (λ c κs. (search needs, small (start (c .before .before .before)) 1)) (λ c. search needs) (λ c. search needs)
+    (λ c κs. (search needs, small (start (first (c .before .before .before))) 2)) (λ c. search needs) (λ c. search needs)
+    (λ c κs. (search needs, small (start (first (second (c .before .before .before)))) 3)) (λ c. search needs) returns)

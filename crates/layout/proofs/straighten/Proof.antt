@@ -66,12 +66,6 @@ at-loop c = c .before .before .before .before .before .before
 below : (c : tie.After-rows Inv-loop μ-loop) → at-loop c .loop .t + 4 ≤ start (at-loop c) .args .count
 below c = room (c .before .before .before .before .before)
 
-add-t : tie.Need-add-t Inv-loop μ-loop
-add-t c = omega (arith, start (at-loop c) .pre .0, below c)
-
-loop-less : tie.Need-loop-less Inv-loop μ-loop
-loop-less c = omega (arith, below c)
-
 loop-again : tie.Need-loop-again Inv-loop μ-loop
 loop-again c =
     let l = at-loop c in
@@ -88,9 +82,6 @@ loop-again c =
           ∙ sym (straight-four n (ss l) t r k (omega (arith, l .loop .inv .0)) (l .loop .inv .0 .1) (omega (arith, below c)) m h)),
     )
 
-same-length : tie.Need-same-length Inv-loop μ-loop
-same-length c = long (c .before) ∙ start (c .before) .pre .1
-
 returns : tie.Need-returns Inv-loop μ-loop
 returns c =
     let l = c .before in
@@ -103,4 +94,5 @@ returns c =
 
 pub straighten-spec : {M : Type 1} → statement M
 straighten-spec =
-    tie.close (tie.spec Inv-loop μ-loop loop-holds load-all-requires store-four-requires add-t loop-less loop-again same-length returns)
+    tie.close (tie.spec Inv-loop μ-loop loop-holds load-all-requires store-four-requires (λ c. omega (arith, start (at-loop c) .pre .0, below c))
+    (λ c. omega (arith, below c)) loop-again (λ c. long (c .before) ∙ start (c .before) .pre .1) returns)

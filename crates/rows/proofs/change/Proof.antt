@@ -29,15 +29,10 @@ new c =
 difference : (c : tie.After-wide2) → Worth (toZ w64 (ofZ w64 (c .before .before .wide .result)) -ℤ toZ w64 (ofZ w64 (c .wide2 .result))) (pos (multiplier (c .before .before .before .before .args .b)) -ℤ pos (multiplier (c .before .before .before .before .args .a))) (2 * mostRow)
 difference c = minus (new (c .before .before)) (old c)
 
-sub-square : tie.Need-sub-square
-sub-square c = fits (difference c) w64 tt
-
-square-requires : tie.Need-square-requires
-square-requires c κs = within-raw (stored (difference c) w64 tt)
-
 returns : tie.Need-returns
 returns c = c .square .ensures ∙ ap (λ (z : ℤ). natAbs z * natAbs z) (stored (difference (c .before)) w64 tt .is)
 
 pub change-spec : {M : Type 1} → statement M
 change-spec =
-    tie.close (tie.spec (λ c κs. search needs) (λ c κs. search needs) (λ c κs. search needs) (λ c κs. search needs) sub-square square-requires returns)
+    tie.close (tie.spec (λ c κs. search needs) (λ c κs. search needs) (λ c κs. search needs) (λ c κs. search needs) (λ c. fits (difference c) w64 tt)
+    (λ c κs. within-raw (stored (difference c) w64 tt)) returns)

@@ -21,12 +21,6 @@ module _ (s : tie.Start) where
   new : Worth (raw (s .args .side) *ℤ raw (at (s .args .t2) (s .args .r))) (s .args .side *ℤ at (s .args .t2) (s .args .r)) mostRow
   new = times side (held w32 (at (s .args .t2) (s .args .r)) mostRow tt (s .pre .3))
 
-mul-change-2 : tie.Need-mul-change-2
-mul-change-2 c = fits (old (c .before)) w32 tt
-
-mul-change-4 : tie.Need-mul-change-4
-mul-change-4 c = fits (new (c .before .before)) w32 tt
-
 change-requires : tie.Need-change-requires
 change-requires c κs = let s = c .before .before in (within-raw (stored (old s) w32 tt), within-raw (stored (new s) w32 tt))
 
@@ -37,4 +31,5 @@ returns c =
 
 pub change-at-spec : {M : Type 1} → statement M
 change-at-spec =
-    tie.close (tie.spec (λ c. search needs) (λ c. search needs) mul-change-2 (λ c. search needs) (λ c. search needs) mul-change-4 change-requires returns)
+    tie.close (tie.spec (λ c. search needs) (λ c. search needs) (λ c. fits (old (c .before)) w32 tt) (λ c. search needs) (λ c. search needs)
+    (λ c. fits (new (c .before .before)) w32 tt) change-requires returns)

@@ -39,9 +39,6 @@ summed c =
 small : (c : tie.After-change-at4) → sumℕ 4 (of (start c) (start c .args .side)) ≤ mostChanges
 small c = let s = start c in sumℕ-bound 4 (mostRow * mostRow) (of s (s .args .side)) (λ r _. change-small (s .args .side) (s .pre .0) _ _ (s .pre .1 r, s .pre .2 r))
 
-added-requires : tie.Need-added-requires
-added-requires c κs = omega (arith, summed c, small c)
-
 returns : tie.Need-returns
 returns c = (c .added .ensures ∙ summed (c .before), omega (arith, c .added .ensures, summed (c .before), small (c .before)))
 
@@ -50,4 +47,5 @@ changes-spec =
     tie.close (tie.spec (λ s κs. (omega arith, within-raw (side s), s .pre .1 _, s .pre .2 _))
     (λ c κs. let s = c .before in (omega arith, within-raw (side s), s .pre .1 _, s .pre .2 _))
     (λ c κs. let s = c .before .before in (omega arith, within-raw (side s), s .pre .1 _, s .pre .2 _))
-    (λ c κs. let s = c .before .before .before in (omega arith, within-raw (side s), s .pre .1 _, s .pre .2 _)) added-requires returns)
+    (λ c κs. let s = c .before .before .before in (omega arith, within-raw (side s), s .pre .1 _, s .pre .2 _)) (λ c κs. omega (arith, summed c, small c))
+    returns)

@@ -1,5 +1,6 @@
 -- `rows::renewed_row` meets its contract. Assumes nothing.
 use mathlib.Core.Path.{_≡_, ap, _∙_}
+use Prim.Native.Nat.{_*_}
 use native.Mathlib.Omega.{arith}
 use borrow.Author.Needs.{needs}
 use lib.IntN.{ℤ, pos, _+ℤ_, _-ℤ_}
@@ -9,7 +10,6 @@ use Rattle.integers.proofs.Machine.{Worth, fits, stored, local, held, literal, 
 use Rattle.integers.proofs.Linear.{split, toℕ, about}
 use Rattle.model.specs.Limits.{mostRow}
 use Rattle.quotient.specs.Quotient.{unit}
-use Prim.Native.Nat.{_*_}
 use Rattle.model.specs.Iteration.{at, multiplier}
 use Rattle.rows.proofs.renewed_row.Statement.{statement}
 use Rattle.rows.proofs.renewed_row.Tie as tie
@@ -39,12 +39,10 @@ returns c =
     let s = c .before .before .before in
     stored (plus (multiplier-is (c .before)) (stored (lowered s) w32 tt)) w32 tt .is ∙ regrouped (pos (multiplier (row s))) (sum s) (pos unit)
 
-sub-result : tie.Need-sub-result
-sub-result c = fits (lowered (c .before .before .before)) w32 tt
-
 add-result : tie.Need-add-result
 add-result c = fits (plus (multiplier-is (c .before)) (stored (lowered (c .before .before .before)) w32 tt)) w32 tt
 
 pub renewed-row-spec : {M : Type 1} → statement M
 renewed-row-spec =
-    tie.close (tie.spec (λ c. search needs) (λ c. search needs) (λ c κs. search needs) (λ c. search needs) (λ c. search needs) sub-result add-result returns)
+    tie.close (tie.spec (λ c. search needs) (λ c. search needs) (λ c κs. search needs) (λ c. search needs) (λ c. search needs)
+    (λ c. fits (lowered (c .before .before .before)) w32 tt) add-result returns)

@@ -33,9 +33,6 @@ first c = let s = c .before in given (s .args .r) 0 (s .args .a) (c .plus .resul
 second : (c : tie.After-plus2) → Worth (raw (c .plus2 .result)) (c .plus2 .result) unit
 second c = let s = c .before .before in given (s .args .r) 1 (s .args .b) (c .plus2 .result) (s .pre .0) (omega arith) (s .pre .2) (c .plus2 .ok) (c .plus2 .ensures)
 
-add-result : tie.Need-add-result
-add-result c = fits (plus (first (c .before)) (second c)) w32 tt
-
 module _ (c : tie.After-plus3) where
   abbrev s : tie.Start
   s = c .before .before .before
@@ -68,21 +65,6 @@ module _ (c : tie.After-plus3) where
       (pos 2 *ℤ (u +ℤ v +ℤ w) -ℤ (s .args .a +ℤ s .args .b +ℤ s .args .c)) 147456
   less = minus (stored twice w32 tt) (stored three w32 tt)
 
-add-result-2 : tie.Need-add-result-2
-add-result-2 c = fits (those c) w32 tt
-
-mul-result : tie.Need-mul-result
-mul-result c = fits (twice c) w32 tt
-
-add-result-3 : tie.Need-add-result-3
-add-result-3 c = fits (two c) w32 tt
-
-add-result-4 : tie.Need-add-result-4
-add-result-4 c = fits (three c) w32 tt
-
-sub-result : tie.Need-sub-result
-sub-result c = fits (less c) w32 tt
-
 -- twice those with plus, less all three
 signed : (a b c x y z u v w : ℤ) → pos 2 *ℤ u ≡ x +ℤ a → pos 2 *ℤ v ≡ y +ℤ b → pos 2 *ℤ w ≡ z +ℤ c → pos 2 *ℤ (u +ℤ v +ℤ w) -ℤ (a +ℤ b +ℤ c) ≡ x +ℤ y +ℤ z
 signed a b c x y z u v w = rw (split a, split b, split c, split x, split y, split z, split u, split v, split w) (simp toℕ (omega arith))
@@ -100,5 +82,5 @@ returns c =
 
 pub row-sum-spec : {M : Type 1} → statement M
 row-sum-spec =
-    tie.close (tie.spec (λ c κs. search needs) (λ c κs. search needs) add-result (λ c κs. search needs) add-result-2 mul-result add-result-3 add-result-4
-    sub-result returns)
+    tie.close (tie.spec (λ c κs. search needs) (λ c κs. search needs) (λ c. fits (plus (first (c .before)) (second c)) w32 tt) (λ c κs. search needs)
+    (λ c. fits (those c) w32 tt) (λ c. fits (twice c) w32 tt) (λ c. fits (two c) w32 tt) (λ c. fits (three c) w32 tt) (λ c. fits (less c) w32 tt) returns)

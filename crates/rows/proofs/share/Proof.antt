@@ -45,15 +45,6 @@ all c =
 reversed : (w x y z : ℤ) → w +ℤ x +ℤ y +ℤ z ≡ z +ℤ y +ℤ x +ℤ w
 reversed w x y z = rw (split w, split x, split y, split z) (simp toℕ (omega arith))
 
-add-result : tie.Need-add-result
-add-result c = fits (two c) w32 tt
-
-add-result-2 : tie.Need-add-result-2
-add-result-2 c = fits (three c) w32 tt
-
-add-result-3 : tie.Need-add-result-3
-add-result-3 c = fits (all c) w32 tt
-
 returns : tie.Need-returns
 returns c =
     let a = c .before .before .before .before .args in
@@ -62,5 +53,5 @@ returns c =
 
 pub share-spec : {M : Type 1} → statement M
 share-spec =
-    tie.close (tie.spec (λ c κs. search needs) (λ c κs. search needs) add-result (λ c κs. search needs) add-result-2 (λ c κs. search needs) add-result-3
-    returns)
+    tie.close (tie.spec (λ c κs. search needs) (λ c κs. search needs) (λ c. fits (two c) w32 tt) (λ c κs. search needs) (λ c. fits (three c) w32 tt)
+    (λ c κs. search needs) (λ c. fits (all c) w32 tt) returns)

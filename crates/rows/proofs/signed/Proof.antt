@@ -24,9 +24,6 @@ minus x = rw (split x) (simp toℕ (omega arith))
 plus : (x : ℤ) → x ≡ pos 1 *ℤ x
 plus x = rw (split x) (simp toℕ (omega arith))
 
-sub-result : tie.Need-sub-result
-sub-result c = fits (negated (c .before .before)) w32 tt
-
 returns : tie.Need-returns
 unfolding sign
 returns c =
@@ -41,4 +38,5 @@ returns-2 c =
 
 pub signed-spec : {M : Type 1} → statement M
 signed-spec =
-    tie.close (tie.spec (λ c. search needs) (λ c. search needs) (λ c. search needs) (λ c. search needs) sub-result returns returns-2)
+    tie.close (tie.spec (λ c. search needs) (λ c. search needs) (λ c. search needs) (λ c. search needs) (λ c. fits (negated (c .before .before)) w32 tt)
+    returns returns-2)

@@ -22,9 +22,6 @@ row s = held w32 (s .args .s) mostRow tt (s .pre)
 negated : (c : tie.Then1) → Worth (pos 0 -ℤ toZ w32 (ofZ w32 (c .before .args .s))) (negℤ (c .before .args .s)) mostRow
 negated c = negative (row (c .before))
 
-sub-result : tie.Need-sub-result
-sub-result c = fits (negated c) w32 tt
-
 returns : tie.Need-returns
 returns c =
     let s = c .before in
@@ -37,4 +34,4 @@ returns-2 c =
 
 pub size-spec : {M : Type 1} → statement M
 size-spec =
-    tie.close (tie.spec sub-result returns returns-2)
+    tie.close (tie.spec (λ c. fits (negated c) w32 tt) returns returns-2)

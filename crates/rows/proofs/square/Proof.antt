@@ -16,9 +16,6 @@ value s =
     let x = held w64 (s .args .x) (2 * mostRow) tt (s .pre) in
     also (times x x) (square-abs (s .args .x))
 
-mul-result : tie.Need-mul-result
-mul-result c = fits (value c) w64 tt
-
 cast-result : tie.Need-cast-result
 cast-result c = rw (stored (value c) w64 tt .is) (tt, record { fits = omega (arith, value c .within) })
 
@@ -27,4 +24,4 @@ returns c = ap natAbs (stored (value c) w64 tt .is)
 
 pub square-spec : {M : Type 1} → statement M
 square-spec =
-    tie.close (tie.spec mul-result cast-result returns)
+    tie.close (tie.spec (λ c. fits (value c) w64 tt) cast-result returns)

@@ -9,12 +9,9 @@ use Rattle.rows.proofs.wide.Tie as tie
 value : (s : tie.Start) → Worth (toZ w32 (ofZ w32 (s .args .x))) (s .args .x) 2147483648
 value s = local w32 2147483648 (s .fits .x .sfits) refl (abs-fits {w = w32} (s .fits .x))
 
-cast-result : tie.Need-cast-result
-cast-result c = fits (value c) w64 tt
-
 returns : tie.Need-returns
 returns c = stored (value c) w64 tt .is
 
 pub wide-spec : {M : Type 1} → statement M
 wide-spec =
-    tie.close (tie.spec cast-result returns)
+    tie.close (tie.spec (λ c. fits (value c) w64 tt) returns)
