@@ -33,12 +33,6 @@ returns-2 : tie.Need-returns-2
 unfolding judgeCheck
 returns-2 c = rw (le-ltb _ 2 (c .before .before .if1 .left), ne-eqb _ 0x4C43 (λ e. c .if2 .taken (c .before .two-bytes .ensures .0 ∙ e)))
 
-returns-3 : tie.Need-returns-3
-returns-3 c = rw (opened (c .before), lt-ltb _ 3 (c .if3 .taken))
-
-returns-4 : tie.Need-returns-4
-returns-4 c = rw (tested (c .before), c .if4 .taken)
-
 returns-5 : tie.Need-returns-5
 returns-5 c =
     let m = c .before .before .before in
@@ -46,5 +40,6 @@ returns-5 c =
 
 pub judge-check-spec : {M : Type 1} → statement M
 judge-check-spec =
-    tie.close (tie.spec returns (λ c κs. search needs) returns-2 returns-3 (λ c κs. search needs) (λ c κs. search needs) returns-4 (λ c. search needs)
-    (λ c. search needs) (λ c. search needs) (λ c κs. search needs) returns-5)
+    tie.close (tie.spec returns (λ c κs. search needs) returns-2 (λ c. rw (opened (c .before), lt-ltb _ 3 (c .if3 .taken))) (λ c κs. search needs)
+    (λ c κs. search needs) (λ c. rw (tested (c .before), c .if4 .taken)) (λ c. search needs) (λ c. search needs) (λ c. search needs) (λ c κs. search needs)
+    returns-5)

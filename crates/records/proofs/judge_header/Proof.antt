@@ -37,14 +37,8 @@ returns-2 : tie.Need-returns-2
 unfolding judgeHeader
 returns-2 c = rw (le-ltb _ 2 (c .before .before .if1 .left), ne-eqb _ 0x4C48 (λ e. c .if2 .taken (c .before .two-bytes .ensures .0 ∙ e)))
 
-returns-3 : tie.Need-returns-3
-returns-3 c = rw (marked (c .before), lt-ltb _ 4 (c .if3 .taken))
-
 returns-4 : tie.Need-returns-4
 returns-4 c = let e = c .before .before .before in rw (marked (e .before), le-ltb _ 4 (e .if3 .left), bits-test (c .before) ∙ c .if4 .taken)
-
-returns-5 : tie.Need-returns-5
-returns-5 c = rw (bits-passed (c .before), lt-ltb _ 6 (c .if5 .taken))
 
 returns-6 : tie.Need-returns-6
 returns-6 c = let e = c .before .before .before in rw (bits-passed (e .before), le-ltb _ 6 (e .if5 .left), checks-test (c .before) ∙ c .if6 .taken)
@@ -54,5 +48,6 @@ returns-7 c = let e = c .before .before .before in rw (bits-passed (e .before), 
 
 pub judge-header-spec : {M : Type 1} → statement M
 judge-header-spec =
-    tie.close (tie.spec returns (λ c κs. search needs) returns-2 returns-3 (λ c κs. search needs) (λ c κs. search needs) returns-4 returns-5
-    (λ c κs. search needs) (λ c κs. search needs) returns-6 returns-7)
+    tie.close (tie.spec returns (λ c κs. search needs) returns-2 (λ c. rw (marked (c .before), lt-ltb _ 4 (c .if3 .taken))) (λ c κs. search needs)
+    (λ c κs. search needs) returns-4 (λ c. rw (bits-passed (c .before), lt-ltb _ 6 (c .if5 .taken))) (λ c κs. search needs) (λ c κs. search needs) returns-6
+    returns-7)

@@ -44,9 +44,6 @@ at-index c =
     let t = c .before .before in
     rw (t .before .loop .inv, next _ _ _ _ (t .loop-test .taken), le-ltb _ 2 (c .before .if1 .left), ← c .two-bytes .ensures .0)
 
-returns-2 : tie.Need-returns-2 Inv-loop μ-loop
-returns-2 c = rw (at-index (c .before), le-leb _ _ (c .if2 .taken))
-
 returns-3 : tie.Need-returns-3 Inv-loop μ-loop
 returns-3 c = rw (at-index (c .before .before), lt-leb _ _ (c .before .if2 .left), lt-ltb _ _ (c .if3 .taken))
 
@@ -65,5 +62,5 @@ returns-4 c =
 
 pub judge-indices-spec : {M : Type 1} → statement M
 judge-indices-spec =
-    tie.close (tie.spec Inv-loop μ-loop (λ c. refl) returns (λ c κs. search needs) returns-2 returns-3 (λ c. omega arith) (λ c. search needs)
-    (λ c. search needs) (λ c. search needs) (λ c. search needs) (λ c. search needs) loop-again returns-4)
+    tie.close (tie.spec Inv-loop μ-loop (λ c. refl) returns (λ c κs. search needs) (λ c. rw (at-index (c .before), le-leb _ _ (c .if2 .taken))) returns-3
+    (λ c. omega arith) (λ c. search needs) (λ c. search needs) (λ c. search needs) (λ c. search needs) (λ c. search needs) loop-again returns-4)
