@@ -7,6 +7,7 @@ ghost use lib.ListN.{length};
 ghost use Rattle.lists.specs.Tabulated.{over, written};
 ghost use Rattle.lists.specs.Entries.{first};
 ghost use Rattle.model.specs.Causes.{accepted};
+ghost use Rattle.model.specs.Limits.{mostBits};
 ghost use Rattle.model.specs.Records.{codeOf, judge};
 ghost use Rattle.model.specs.Iteration.{at};
 ghost use Rattle.model.specs.Words.{bitOf, wordOf, firstOdd, outcome};
@@ -67,10 +68,10 @@ fn first_odd_in(code: &[u8], bits: usize, checks: usize, values: &[i16], aside: 
 // The same, in a list of its own, since a lent one is not to be touched.
 fn first_odd(code: &[u8], bits: usize, checks: usize, values: &[i16]) -> usize
     requires { ⌜ (judge (now code) ≡ 0) × (bits ≡ codeOf (now code) .bits) × (checks ≡ length (codeOf (now code) .checks)) ⌝ }
-    requires { ⌜ (bits ≤ 4096) × (bits ≤ length (now values)) ⌝ }
+    requires { ⌜ (bits ≤ mostBits) × (bits ≤ length (now values)) ⌝ }
     ensures { λ j. ⌜ j ≡ firstOdd (codeOf (now (code .entry))) (wordOf (codeOf (now (code .entry))) (now (values .entry))) ⌝ }
 {
-    let mut aside = [0u8; 4096];
+    let mut aside = [0u8; records::MOST_BITS];
     first_odd_in(code, bits, checks, values, &mut aside)
 }
 
@@ -84,7 +85,7 @@ pub fn conclude(
     word: &mut [u8],
 ) -> Decoding
     requires { ⌜ (judge (now code) ≡ 0) × (bits ≡ codeOf (now code) .bits) × (checks ≡ length (codeOf (now code) .checks)) ⌝ }
-    requires { ⌜ (bits ≤ 4096) × (bits ≤ length (now values)) × (bits ≤ length (now word)) ⌝ }
+    requires { ⌜ (bits ≤ mostBits) × (bits ≤ length (now values)) × (bits ≤ length (now word)) ⌝ }
     ensures told { λ d. ⌜ (let out = outcome (codeOf (now (code .entry))) (now (values .entry)) in
         (decodingTold d ≡ record { number = out .number; place = out .place; k = ending .k; settled = ending .settled })
         × (now (word .exit)

@@ -5,6 +5,7 @@ use Prim.Native.Nat.{ℕ, zero, suc, _+_, _-_, _≤_}
 use native.Mathlib.Omega.{arith}
 use lib.ListN.{length, drop}
 use Rattle.model.specs.declared.Reading.{Reading}
+use Rattle.model.specs.Limits.{mostBits, mostTriples}
 use Rattle.model.specs.Code.{triples, variables}
 use Rattle.model.specs.Records.{bitCount, checkCount, codeOf, judge}
 use Rattle.model.specs.RecordClaims.{Bytes}
@@ -36,8 +37,8 @@ pub record Read (b : List ℕ) (n m t : ℕ) : Type 0 where
   pub checks : m ≡ length (codeOf b .checks)
   pub triples : t ≡ triples (codeOf b)
   -- the sizes
-  pub bits-most : n ≤ 4096
-  pub triples-most : t ≤ 8192
+  pub bits-most : n ≤ mostBits
+  pub triples-most : t ≤ mostTriples
   pub checks-most : m ≤ t
   pub variables : n + t - m ≡ variables (codeOf b)
 

@@ -1,7 +1,7 @@
 -- What crates above cite:
 --
---   of the reader's answer: told-code, with the sizes of the code; told-refused                                        Answers
---   a loop over the checks, `rest` being what is left of the bytes: code-start; here, at each check; index-at, at an index   Walk
+--   of the reader's answer: told-code, with the sizes of the code; told-refused                        Answers
+--   a loop over the checks keeps Walk: walk-start, walk-next; walk-check, walk-judged, walk-total      Walk
 --   of what was written, a header and check after check: records-are, checks-next                                       Written
 --   what else an accepted code is: `accepted` and `bytes-sound` of the model
 --

@@ -16,22 +16,13 @@ Inv-loop word point₀ v₀ v-end point v = (v ≤ length word) × (point ≡ ov
 abbrev μ-loop : tie.MeasureT-loop
 μ-loop word point₀ v₀ v-end point v = length word - v
 
-loop-holds : tie.Need-loop-holds Inv-loop μ-loop
-loop-holds c = (omega arith, refl)
-
 long : (c : tie.At-loop Inv-loop μ-loop) → length (c .loop .point) ≡ length (c .before .args .point .now)
 long c = ap length (c .loop .inv .1) ∙ length-over (c .loop .v) (bitAt (c .before .args .word .now)) (c .before .args .point .now) (omega arith)
-
-slice-write-point : tie.Need-slice-write-point Inv-loop μ-loop
-slice-write-point c = omega (arith, long (c .before .before))
 
 loop-again : tie.Need-loop-again Inv-loop μ-loop
 loop-again c =
     let l = c .before .before .loop in
     (omega arith, rw (l .inv .1, add-one (l .v)) (over-next (l .v) (bitAt (c .before .before .before .args .word .now)) _ _ (omega arith) refl))
-
-same-length : tie.Need-same-length Inv-loop μ-loop
-same-length c = long (c .before)
 
 returns : tie.Need-returns Inv-loop μ-loop
 returns c =
@@ -42,4 +33,5 @@ returns c =
 
 pub copy-spec : {M : Type 1} → statement M
 copy-spec =
-    tie.close (tie.spec Inv-loop μ-loop loop-holds (λ c. omega arith) slice-write-point (λ c. omega arith) (λ c. omega arith) loop-again same-length returns)
+    tie.close (tie.spec Inv-loop μ-loop (λ c. (omega arith, refl)) (λ c. omega arith) (λ c. omega (arith, long (c .before .before))) (λ c. omega arith)
+    (λ c. omega arith) loop-again (λ c. long (c .before)) returns)

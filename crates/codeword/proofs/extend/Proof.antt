@@ -39,12 +39,6 @@ passed c =
     by-rest _ (a .word .now) (no-room (a .code .now) (a .point .now)) _ (r .judged) (r .bits) (clear (c .before))
     ∙ rw (le-ltb (length (a .point .now)) (variables (codeOf (a .code .now))) (room c))
 
-add-if2 : tie.Need-add-if2
-add-if2 c = omega (arith, read (c .before .before .before))
-
-sub-if2 : tie.Need-sub-if2
-sub-if2 c = omega (arith, read (c .before .before .before))
-
 first-odd-requires : tie.Need-first-odd-requires
 first-odd-requires c κs =
     let r = read (c .before .before .before .before) in
@@ -97,5 +91,6 @@ returns-5 c =
 
 pub extend-spec : {M : Type 1} → statement M
 extend-spec =
-    tie.close (tie.spec (λ c κs. search needs) (λ c. search needs) (λ c. search needs) (λ c κs. search needs) returns add-if2 sub-if2 returns-2
-    first-odd-requires returns-3 write-point-requires returns-4 (λ c. search needs) returns-5)
+    tie.close (tie.spec (λ c κs. search needs) (λ c. search needs) (λ c. search needs) (λ c κs. search needs) returns
+    (λ c. omega (arith, read (c .before .before .before))) (λ c. omega (arith, read (c .before .before .before))) returns-2 first-odd-requires returns-3
+    write-point-requires returns-4 (λ c. search needs) returns-5)

@@ -34,9 +34,6 @@ count : (s : tie.Start Inv-loop μ-loop) → s .args .checks ≡ checkCount (s .
 unfolding codeOf
 count s = s .pre .1 .0 ∙ length-checks _ _
 
-after-header-requires : tie.Need-after-header-requires Inv-loop μ-loop
-after-header-requires c κs = sound (c .before .before) .header .room
-
 loop-holds : tie.Need-loop-holds Inv-loop μ-loop
 unfolding afterChecks
 loop-holds c = (omega arith, c .after-header .ensures, λ i h. absurd (omega arith))
@@ -67,9 +64,6 @@ returns c =
     sym (first-at (length (checksIn (checkCount b) (body b))) (odd-at b (s t .args .word .now)) (t .before .loop .j) (omega (arith, more t, length-checks (checkCount b) (body b)))
     (t .before .loop .inv .2) (odd-here t ∙ sym (c .before .is-odd .ensures) ∙ c .if1 .taken))
 
-after-check-requires : tie.Need-after-check-requires Inv-loop μ-loop
-after-check-requires c κs = check (c .before .before) .room
-
 loop-again : tie.Need-loop-again Inv-loop μ-loop
 loop-again c =
     let e = c .before in
@@ -91,5 +85,5 @@ returns-2 c =
 
 pub first-odd-spec : {M : Type 1} → statement M
 first-odd-spec =
-    tie.close (tie.spec Inv-loop μ-loop after-header-requires loop-holds is-odd-requires returns after-check-requires (λ c. search needs)
-    (λ c. search needs) loop-again returns-2)
+    tie.close (tie.spec Inv-loop μ-loop (λ c κs. sound (c .before .before) .header .room) loop-holds is-odd-requires returns
+    (λ c κs. check (c .before .before) .room) (λ c. search needs) (λ c. search needs) loop-again returns-2)

@@ -21,9 +21,6 @@ Inv-loop s word d sum₀ i₀ sum i = (i ≤ d) × (sum ≤ 255 * i) × (sum ≡
 abbrev μ-loop : tie.MeasureT-loop
 μ-loop s word d sum₀ i₀ sum i = d - i
 
-loop-holds : tie.Need-loop-holds Inv-loop μ-loop
-loop-holds c = (omega arith, omega arith, refl)
-
 shared-slice-read-wide : tie.Need-shared-slice-read-wide Inv-loop μ-loop
 shared-slice-read-wide c =
     let l = c .before .before .before in
@@ -47,5 +44,5 @@ returns c =
 
 pub is-odd-spec : {M : Type 1} → statement M
 is-odd-spec =
-    tie.close (tie.spec Inv-loop μ-loop (λ c κs. search needs) loop-holds (λ c κs. search needs) shared-slice-read-wide (λ c κs. search needs)
-    (λ c. search needs) (λ c. search needs) (λ c. search needs) loop-again returns)
+    tie.close (tie.spec Inv-loop μ-loop (λ c κs. search needs) (λ c. (omega arith, omega arith, refl)) (λ c κs. search needs) shared-slice-read-wide
+    (λ c κs. search needs) (λ c. search needs) (λ c. search needs) (λ c. search needs) loop-again returns)

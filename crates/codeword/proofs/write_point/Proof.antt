@@ -64,9 +64,6 @@ turns-requires c κs = omega (arith, check-at (c .before .before .before .before
 add-next : tie.Need-add-next Inv-loop μ-loop
 add-next c = omega (arith, check-at (c .before .before .before .before .before) .low, c .turns .ensures .1)
 
-after-check-requires : tie.Need-after-check-requires Inv-loop μ-loop
-after-check-requires c κs = check-at (c .before .before .before .before .before) .whole
-
 loop-again : tie.Need-loop-again Inv-loop μ-loop
 loop-again c =
     let n = c .before in
@@ -84,4 +81,5 @@ returns c =
 pub write-point-spec : {M : Type 1} → statement M
 write-point-spec =
     tie.close (tie.spec Inv-loop μ-loop (λ c κs. search needs) two-bytes-requires after-header-requires loop-holds write-auxiliaries-requires turns-requires
-    add-next after-check-requires (λ c. search needs) (λ c. search needs) loop-again (λ c. long (c .before)) returns)
+    add-next (λ c κs. check-at (c .before .before .before .before .before) .whole) (λ c. search needs) (λ c. search needs) loop-again
+    (λ c. long (c .before)) returns)

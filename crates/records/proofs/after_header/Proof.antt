@@ -4,8 +4,5 @@ use Rattle.lists.proofs.Parts.{part-from}
 use Rattle.records.proofs.after_header.Statement.{statement}
 use Rattle.records.proofs.after_header.Tie as tie
 
-returns : tie.Need-returns
-returns c = part-from 6 (c .before .args .code .now)
-
 pub after-header-spec : {M : Type 1} → statement M
-after-header-spec = tie.close (tie.spec (λ c. search needs) (λ c. search needs) (λ c. search needs) returns)
+after-header-spec = tie.close (tie.spec (λ c. search needs) (λ c. search needs) (λ c. search needs) (λ c. part-from 6 (c .before .args .code .now)))

@@ -32,12 +32,6 @@ loop-holds c = (walk-start _, refl, λ b h. rw (getD-replicate {A = ℕ} mostBit
 judged : (c : tie.In-loop Inv-loop μ-loop) → judgeCheck (c .before .before .before .args .bits) (c .before .loop .rest .now) ≡ 0
 judged c = walk-judged _ _ _ (c .before .loop .inv .0) _ _ (c .loop-test .taken) (c .before .before .before .pre .1)
 
-mark-requires : tie.Need-mark-requires Inv-loop μ-loop
-mark-requires c κs = (c .before .before .before .before .pre .0, judged (c .before))
-
-after-check-requires : tie.Need-after-check-requires Inv-loop μ-loop
-after-check-requires c κs = record-sound _ _ (judged (c .before .before)) .room
-
 loop-again : tie.Need-loop-again Inv-loop μ-loop
 loop-again c =
     let m = c .before .mark .ensures in
@@ -65,5 +59,5 @@ returns c =
 
 pub covers-spec : {M : Type 1} → statement M
 covers-spec =
-    tie.close (tie.spec Inv-loop μ-loop loop-holds mark-requires after-check-requires (λ c. search needs) (λ c. search needs) loop-again
-    (λ c κs. search needs) returns)
+    tie.close (tie.spec Inv-loop μ-loop loop-holds (λ c κs. (c .before .before .before .before .pre .0, judged (c .before)))
+    (λ c κs. record-sound _ _ (judged (c .before .before)) .room) (λ c. search needs) (λ c. search needs) loop-again (λ c κs. search needs) returns)

@@ -1,32 +1,29 @@
 -- `records::judge_check` meets its contract: the tests in the definition's order. Assumes nothing.
 use mathlib.Core.Path.{_≡_, sym, _∙_}
-use mathlib.Core.List.{List, [], _∷_}
-use Prim.Native.Nat.{ℕ, _≤_}
+use mathlib.Core.List.{[], _∷_}
 use borrow.Author.Needs.{needs}
 use borrow.Author.Tests.{lt-ltb, le-ltb, ne-eqb}
-use lib.ListN.{length, drop}
+use lib.ListN.{drop}
 use Rattle.lists.proofs.Parts.{part-from}
+use Rattle.model.specs.Limits.{leastDegree, mostDegree}
 use Rattle.model.specs.Causes.{_if_, firstOf, short, outside}
-use Rattle.model.specs.Records.{twoBytes, degree, judgeIndices, judgeCheck}
+use Rattle.model.specs.Records.{degree, judgeIndices, judgeCheck}
 use Rattle.model.proofs.Causes.{only}
 use Rattle.records.proofs.judge_check.Statement.{statement}
 use Rattle.records.proofs.judge_check.Tie as tie
 
--- what is left to judge after the mark, and where the degree is there
-after-mark : (n : ℕ) (s : List ℕ) → 2 ≤ length s → twoBytes s ≡ 0x4C43
-    → judgeCheck n s ≡ firstOf (1 if short 3 s ∷ 4 if outside 3 32 (degree s) ∷ judgeIndices n (degree s) 0 (drop 3 s) ∷ [])
+-- ---- what is left to judge after the mark, and where the degree is there
+opened : (c : tie.Else2)
+    → let a = c .before .before .before .before .args in
+    let s = a .s .now in
+    judgeCheck (a .bits) s ≡ firstOf (1 if short 3 s ∷ 4 if outside leastDegree mostDegree (degree s) ∷ judgeIndices (a .bits) (degree s) 0 (drop 3 s) ∷ [])
 unfolding judgeCheck
-after-mark n s two mark = rw (le-ltb (length s) 2 two, mark)
+opened c = rw (le-ltb _ 2 (c .before .before .if1 .left), sym (c .before .two-bytes .ensures .0) ∙ c .if2 .left)
 
-mark-is : (c : tie.Else2) → twoBytes (c .before .before .before .before .args .s .now) ≡ 0x4C43
-mark-is c = sym (c .before .two-bytes .ensures .0) ∙ c .if2 .left
-
-marked : (c : tie.After-outside)
+tested : (c : tie.After-outside)
     → let a = c .before .before .before .before .before .before .before .args in
     judgeCheck (a .bits) (a .s .now) ≡ firstOf (4 if c .outside .result ∷ judgeIndices (a .bits) (c .before .degree .result) 0 (drop 3 (a .s .now)) ∷ [])
-marked c =
-    let e = c .before .before in
-    rw (after-mark _ _ (e .before .before .before .if1 .left) (mark-is (e .before)), le-ltb _ 3 (e .if3 .left), c .outside .ensures, c .before .degree .ensures .0)
+tested c = let e = c .before .before in rw (opened (e .before), le-ltb _ 3 (e .if3 .left), c .outside .ensures, c .before .degree .ensures .0)
 
 returns : tie.Need-returns
 unfolding judgeCheck
@@ -36,18 +33,13 @@ returns-2 : tie.Need-returns-2
 unfolding judgeCheck
 returns-2 c = rw (le-ltb _ 2 (c .before .before .if1 .left), ne-eqb _ 0x4C43 (λ e. c .if2 .taken (c .before .two-bytes .ensures .0 ∙ e)))
 
-returns-3 : tie.Need-returns-3
-returns-3 c = rw (after-mark _ _ (c .before .before .before .if1 .left) (mark-is (c .before)), lt-ltb _ 3 (c .if3 .taken))
-
-returns-4 : tie.Need-returns-4
-returns-4 c = rw (marked (c .before), c .if4 .taken)
-
 returns-5 : tie.Need-returns-5
 returns-5 c =
     let m = c .before .before .before in
-    rw (marked m, c .before .before .if4 .left, c .judge-indices .ensures, part-from 3 (m .before .before .before .before .before .before .before .args .s .now)) (sym (only _))
+    rw (tested m, c .before .before .if4 .left, c .judge-indices .ensures, part-from 3 (m .before .before .before .before .before .before .before .args .s .now)) (sym (only _))
 
 pub judge-check-spec : {M : Type 1} → statement M
 judge-check-spec =
-    tie.close (tie.spec returns (λ c κs. search needs) returns-2 returns-3 (λ c κs. search needs) (λ c κs. search needs) returns-4 (λ c. search needs)
-    (λ c. search needs) (λ c. search needs) (λ c κs. search needs) returns-5)
+    tie.close (tie.spec returns (λ c κs. search needs) returns-2 (λ c. rw (opened (c .before), lt-ltb _ 3 (c .if3 .taken))) (λ c κs. search needs)
+    (λ c κs. search needs) (λ c. rw (tested (c .before), c .if4 .taken)) (λ c. search needs) (λ c. search needs) (λ c. search needs) (λ c κs. search needs)
+    returns-5)

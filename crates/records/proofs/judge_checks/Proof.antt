@@ -44,12 +44,6 @@ passed c = sym (c .before .judge-check .ensures) ∙ c .if1 .left
 whole : (c : tie.Else1 Inv-loop μ-loop) → Whole (c .before .before .before .loop .rest .now)
 whole c = record-sound _ _ (passed c) .room
 
-triple-count-requires : tie.Need-triple-count-requires Inv-loop μ-loop
-triple-count-requires c κs = omega (arith, whole c)
-
-after-check-requires : tie.Need-after-check-requires Inv-loop μ-loop
-after-check-requires c κs = whole (c .before)
-
 loop-again : tie.Need-loop-again Inv-loop μ-loop
 loop-again c =
     let n = c .before .triple-count .ensures in
@@ -70,5 +64,5 @@ returns-2 c =
 
 pub judge-checks-spec : {M : Type 1} → statement M
 judge-checks-spec =
-    tie.close (tie.spec Inv-loop μ-loop loop-holds (λ c κs. search needs) returns triple-count-requires (λ c. search needs) after-check-requires
-    (λ c. search needs) (λ c. search needs) loop-again returns-2)
+    tie.close (tie.spec Inv-loop μ-loop loop-holds (λ c κs. search needs) returns (λ c κs. omega (arith, whole c)) (λ c. search needs)
+    (λ c κs. whole (c .before)) (λ c. search needs) (λ c. search needs) loop-again returns-2)

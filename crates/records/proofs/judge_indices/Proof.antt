@@ -1,7 +1,7 @@
 -- `records::judge_indices` meets its contract: what is left to read decides. Assumes nothing.
 use mathlib.Core.Path.{_≡_, refl}
 use mathlib.Core.List.{List, [], _∷_}
-use Prim.Native.Nat.{ℕ, zero, suc, _+_, _-_, _≤_, _<_}
+use Prim.Native.Nat.{ℕ, zero, suc, _+_, _-_, _<_}
 use native.Mathlib.Numerals.{add-one}
 use native.Mathlib.Omega.{arith}
 use borrow.Author.Needs.{needs}
@@ -44,23 +44,14 @@ at-index c =
     let t = c .before .before in
     rw (t .before .loop .inv, next _ _ _ _ (t .loop-test .taken), le-ltb _ 2 (c .before .if1 .left), ← c .two-bytes .ensures .0)
 
-above : (c : tie.Then2 Inv-loop μ-loop) → c .before .before .before .before .before .before .args .bits ≤ c .before .two-bytes .result
-above c = omega arith
-
-below : (c : tie.Else2 Inv-loop μ-loop) → c .before .two-bytes .result < c .before .before .before .before .before .before .args .bits
-below c = omega arith
-
-returns-2 : tie.Need-returns-2 Inv-loop μ-loop
-returns-2 c = rw (at-index (c .before), le-leb _ _ (above c))
-
 returns-3 : tie.Need-returns-3 Inv-loop μ-loop
-returns-3 c = rw (at-index (c .before .before), lt-leb _ _ (below (c .before)), lt-ltb _ _ (c .if3 .taken))
+returns-3 c = rw (at-index (c .before .before), lt-leb _ _ (c .before .if2 .left), lt-ltb _ _ (c .if3 .taken))
 
 loop-again : tie.Need-loop-again Inv-loop μ-loop
 loop-again c =
     let e = c .before in
     let w = e .before .before in
-    rw (part-from 2 (w .before .before .before .loop .rest .now), at-index w, lt-leb _ _ (below (e .before)), le-ltb _ _ (e .if3 .left)) (only _)
+    rw (part-from 2 (w .before .before .before .loop .rest .now), at-index w, lt-leb _ _ (e .before .if2 .left), le-ltb _ _ (e .if3 .left)) (only _)
 
 returns-4 : tie.Need-returns-4 Inv-loop μ-loop
 unfolding judgeIndices
@@ -71,5 +62,5 @@ returns-4 c =
 
 pub judge-indices-spec : {M : Type 1} → statement M
 judge-indices-spec =
-    tie.close (tie.spec Inv-loop μ-loop (λ c. refl) returns (λ c κs. search needs) returns-2 returns-3 (λ c. omega arith) (λ c. search needs)
-    (λ c. search needs) (λ c. search needs) (λ c. search needs) (λ c. search needs) loop-again returns-4)
+    tie.close (tie.spec Inv-loop μ-loop (λ c. refl) returns (λ c κs. search needs) (λ c. rw (at-index (c .before), le-leb _ _ (c .if2 .taken))) returns-3
+    (λ c. omega arith) (λ c. search needs) (λ c. search needs) (λ c. search needs) (λ c. search needs) (λ c. search needs) loop-again returns-4)

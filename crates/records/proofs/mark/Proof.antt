@@ -27,9 +27,6 @@ abbrev μ-loop : tie.MeasureT-loop
 sound : (s : tie.Start Inv-loop μ-loop) → SoundRecord (s .args .bits) (s .args .s .now)
 sound s = record-sound _ _ (s .pre .1)
 
-degree-requires : tie.Need-degree-requires Inv-loop μ-loop
-degree-requires c κs = omega (arith, sound (c .before) .room)
-
 index-requires : tie.Need-index-requires Inv-loop μ-loop
 index-requires c κs = (sound (c .before .before .before .before) .room, omega (arith, c .before .before .degree .ensures .0))
 
@@ -66,5 +63,5 @@ returns c =
 
 pub mark-spec : {M : Type 1} → statement M
 mark-spec =
-    tie.close (tie.spec Inv-loop μ-loop degree-requires (λ c. (refl, λ b h. refl)) index-requires element-write-seen (λ c. search needs) (λ c. search needs)
-    loop-again returns)
+    tie.close (tie.spec Inv-loop μ-loop (λ c κs. omega (arith, sound (c .before) .room)) (λ c. (refl, λ b h. refl)) index-requires element-write-seen
+    (λ c. search needs) (λ c. search needs) loop-again returns)

@@ -46,15 +46,6 @@ header c = sym (c .before .judge-header .ensures) ∙ c .if1 .left
 sound : (c : tie.Else1) → SoundHeader (c .before .before .before .args .code .now)
 sound c = header-sound _ (header c)
 
-two-bytes-requires : tie.Need-two-bytes-requires
-two-bytes-requires c κs = omega (arith, sound c .room)
-
-two-bytes-requires-2 : tie.Need-two-bytes-requires-2
-two-bytes-requires-2 c κs = omega (arith, sound (c .before) .room)
-
-after-header-requires : tie.Need-after-header-requires
-after-header-requires c κs = sound (c .before .before) .room
-
 judge-checks-requires : tie.Need-judge-checks-requires
 judge-checks-requires c κs = omega (arith, sound (c .before .before .before) .checks-most, c .before .two-bytes2 .ensures .0)
 
@@ -122,5 +113,5 @@ returns-6 c =
 
 pub read-spec : {M : Type 1} → statement M
 read-spec =
-    tie.close (tie.spec (λ c κs. search needs) returns two-bytes-requires two-bytes-requires-2 after-header-requires judge-checks-requires returns-2 returns-3
-    returns-4 covers-requires returns-5 returns-6)
+    tie.close (tie.spec (λ c κs. search needs) returns (λ c κs. omega (arith, sound c .room)) (λ c κs. omega (arith, sound (c .before) .room))
+    (λ c κs. sound (c .before .before) .room) judge-checks-requires returns-2 returns-3 returns-4 covers-requires returns-5 returns-6)

@@ -18,22 +18,13 @@ Inv-loop counts₀ n v₀ counts v = (v ≤ n) × (counts ≡ over v none counts
 abbrev μ-loop : tie.MeasureT-loop
 μ-loop counts₀ n v₀ counts v = n - v
 
-loop-holds : tie.Need-loop-holds Inv-loop μ-loop
-loop-holds c = (omega arith, refl)
-
 long : (c : tie.At-loop Inv-loop μ-loop) → length (c .loop .counts) ≡ length (c .before .args .counts .now)
 long c = ap length (c .loop .inv .1) ∙ length-over (c .loop .v) none (c .before .args .counts .now) (omega arith)
-
-slice-write-counts : tie.Need-slice-write-counts Inv-loop μ-loop
-slice-write-counts c = omega (arith, long (c .before))
 
 loop-again : tie.Need-loop-again Inv-loop μ-loop
 loop-again c =
     let l = c .before .loop in
     (omega arith, rw (l .inv .1, add-one (l .v)) (over-next (l .v) none _ 0 (omega arith) refl))
-
-same-length : tie.Need-same-length Inv-loop μ-loop
-same-length c = long (c .before)
 
 returns : tie.Need-returns Inv-loop μ-loop
 returns c =
@@ -43,5 +34,5 @@ returns c =
 
 pub clear-spec : {M : Type 1} → statement M
 clear-spec =
-    tie.close (tie.spec Inv-loop μ-loop loop-holds (λ c. omega arith) slice-write-counts (λ c. omega arith) (λ c. omega arith) loop-again same-length
-    returns)
+    tie.close (tie.spec Inv-loop μ-loop (λ c. (omega arith, refl)) (λ c. omega arith) (λ c. omega (arith, long (c .before))) (λ c. omega arith)
+    (λ c. omega arith) loop-again (λ c. long (c .before)) returns)

@@ -48,15 +48,6 @@ read c =
     let g = c .reading2 .given in
     told-code _ (g .0 .0) (g .0 .1 .0) (g .0 .1 .1 .0) _ (g .1) (c .before .before .read .ensures)
 
-add-variables : tie.Need-add-variables
-add-variables c = omega (arith, read (c .before))
-
-sub-variables : tie.Need-sub-variables
-sub-variables c = omega (arith, read (c .before))
-
-mul-if1 : tie.Need-mul-if1
-mul-if1 c = omega (arith, read (c .before))
-
 -- ---- the answers
 returns : tie.Need-returns
 returns c =
@@ -104,5 +95,6 @@ returns-4 c =
 
 pub split-spec : {M : Type 1} → statement M
 split-spec =
-    tie.close (tie.spec (λ c κs. search needs) (λ c. search needs) (λ c. search needs) add-variables sub-variables mul-if1 returns returns-2
-    write-system-requires returns-3 (λ c. search needs) (λ c. search needs) returns-4)
+    tie.close (tie.spec (λ c κs. search needs) (λ c. search needs) (λ c. search needs) (λ c. omega (arith, read (c .before)))
+    (λ c. omega (arith, read (c .before))) (λ c. omega (arith, read (c .before))) returns returns-2 write-system-requires returns-3 (λ c. search needs)
+    (λ c. search needs) returns-4)

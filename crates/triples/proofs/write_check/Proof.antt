@@ -30,9 +30,6 @@ long c =
     let a = c .before .before .before .before .args in
     ap length (c .loop .inv .1) ∙ length-over (3 * c .loop .t) (entry (indices (a .s .now)) (a .next)) (a .out .now) (omega arith)
 
-put-requires : tie.Need-put-requires Inv-loop μ-loop
-put-requires c κs = omega (arith, long (c .before .before))
-
 -- triple t more: made of the third z
 turn : (c : tie.At-loop Inv-loop μ-loop) (z : ℕ)
     → let a = c .before .before .before .before .args in
@@ -53,9 +50,6 @@ loop-again c =
     let t = l .loop .t in
     (omega arith, p .put .ensures ∙ turn l (s .args .next + t) (omega arith) (rule s .thirds t (omega arith) ∙ rw (lt-ltb t (turns (indices (s .args .s .now))) (omega arith))))
 
-put-requires-2 : tie.Need-put-requires-2 Inv-loop μ-loop
-put-requires-2 c κs = omega (arith, long (c .before .before .before))
-
 same-length : tie.Need-same-length Inv-loop μ-loop
 same-length c = c .before .out2 .given ∙ long (c .before .before .before .before .before .before)
 
@@ -74,5 +68,6 @@ returns c =
 
 pub write-check-spec : {M : Type 1} → statement M
 write-check-spec =
-    tie.close (tie.spec Inv-loop μ-loop (λ c κs. search needs) (λ c. (omega arith, refl)) (λ c. search needs) (λ c. search needs) put-requires
-    (λ c. search needs) (λ c. search needs) loop-again (λ c. search needs) (λ c. search needs) (λ c κs. search needs) put-requires-2 same-length returns)
+    tie.close (tie.spec Inv-loop μ-loop (λ c κs. search needs) (λ c. (omega arith, refl)) (λ c. search needs) (λ c. search needs)
+    (λ c κs. omega (arith, long (c .before .before))) (λ c. search needs) (λ c. search needs) loop-again (λ c. search needs) (λ c. search needs)
+    (λ c κs. search needs) (λ c κs. omega (arith, long (c .before .before .before))) same-length returns)

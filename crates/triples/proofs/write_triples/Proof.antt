@@ -23,15 +23,6 @@ abbrev μ-loop : tie.MeasureT-loop
 header : (s : tie.Start Inv-loop μ-loop) → SoundHeader (s .args .code .now)
 header s = bytes-sound _ (s .pre .0) .header
 
-two-bytes-requires : tie.Need-two-bytes-requires Inv-loop μ-loop
-two-bytes-requires c κs = omega (arith, header (c .before .before) .room)
-
-after-header-requires : tie.Need-after-header-requires Inv-loop μ-loop
-after-header-requires c κs = header (c .before .before .before) .room
-
-two-bytes-requires-2 : tie.Need-two-bytes-requires-2 Inv-loop μ-loop
-two-bytes-requires-2 c κs = omega (arith, header (c .before .before .before .before) .room)
-
 loop-holds : tie.Need-loop-holds Inv-loop μ-loop
 unfolding checksIn triplesFrom
 loop-holds c =
@@ -97,7 +88,8 @@ returns c =
 
 pub write-triples-spec : {M : Type 1} → statement M
 write-triples-spec =
-    tie.close (tie.spec Inv-loop μ-loop two-bytes-requires after-header-requires two-bytes-requires-2 loop-holds
-    (λ c. omega (arith, room c, long (c .before))) (λ c. omega (arith, room c, long (c .before))) (λ c. omega (arith, room c, long (c .before)))
-    (λ c. search needs) write-check-requires triple-count-requires (λ c. search needs) add-done turns-requires add-next after-check-requires
-    (λ c. search needs) (λ c. search needs) loop-again (λ c. long (c .before)) returns)
+    tie.close (tie.spec Inv-loop μ-loop (λ c κs. omega (arith, header (c .before .before) .room)) (λ c κs. header (c .before .before .before) .room)
+    (λ c κs. omega (arith, header (c .before .before .before .before) .room)) loop-holds (λ c. omega (arith, room c, long (c .before)))
+    (λ c. omega (arith, room c, long (c .before))) (λ c. omega (arith, room c, long (c .before))) (λ c. search needs) write-check-requires
+    triple-count-requires (λ c. search needs) add-done turns-requires add-next after-check-requires (λ c. search needs) (λ c. search needs) loop-again
+    (λ c. long (c .before)) returns)
