@@ -1,6 +1,6 @@
 -- `values::divide` meets its contract. Assumes nothing.
 use mathlib.Core.Path.{_≡_, ap, ap₂, _∙_}
-use Prim.Native.Nat.{_*_, _-_, _^_}
+use Prim.Native.Nat.{_*_, _-_}
 use borrow.Author.Needs.{needs}
 use lib.IntN.{ℤ, pos, negℤ, _-ℤ_}
 use mir.Facts.{toZ-ofZ}
@@ -9,15 +9,14 @@ use mir.Val.{toZ, ofZ}
 use Rattle.integers.proofs.Machine.{Worth, kept, fits, stored, read-back, held, negative}
 use Rattle.quotient.specs.Quotient.{quotient}
 use Rattle.quotient.specs.Prepared.{Prepared}
+use Rattle.model.specs.Limits.{mostChecks, mostNumerator}
 use Rattle.model.specs.Iteration.{at, divisor}
 use Rattle.model.proofs.Bounds.{divisor-above, divisor-below}
 use Rattle.values.proofs.Divisors.{entry}
 use Rattle.values.proofs.divide.Statement.{statement}
 use Rattle.values.proofs.divide.Tie as tie
 
--- ---- by a product
-
--- the entries that were read stand for the divisor
+-- ---- by a product: the entries that were read stand for the divisor
 prepared : (c : tie.After-divide-opposite-arg2)
     → let a = c .before .before .before .args in
     let i = a .count - 1 in
@@ -39,19 +38,16 @@ returns c =
     read-back w16 (c .divide-opposite .ok) (c .divide-opposite .ensures den (prepared (c .before)) ∙ ap (λ (y : ℤ). quotient (negℤ y) den) (toZ-ofZ (s .fits .x)))
 
 -- ---- by `/`
-opposite : (s : tie.Start) → Worth (pos 0 -ℤ toZ w64 (ofZ w64 (s .args .x))) (negℤ (s .args .x)) (2 ^ 49)
-opposite s = negative (held w64 (s .args .x) (2 ^ 49) tt (s .pre .0 .0))
+opposite : (s : tie.Start) → Worth (pos 0 -ℤ toZ w64 (ofZ w64 (s .args .x))) (negℤ (s .args .x)) mostNumerator
+opposite s = negative (held w64 (s .args .x) mostNumerator tt (s .pre .0 .0))
 
 den-is : (c : tie.After-divisor) → let a = c .before .before .args in toZ w64 (ofZ w64 (c .divisor .result)) ≡ divisor (4 * a .count) (a .ratio)
 den-is c = read-back w64 (c .divisor .ok) (c .divisor .ensures)
 
-sub-divide : tie.Need-sub-divide
-sub-divide c = fits (opposite (c .before)) w64 tt
-
 divide-requires : tie.Need-divide-requires
 divide-requires c κs =
     let s = c .before .before in
-    rw (den-is c) (divisor-above (s .args .count) (s .args .ratio) (s .pre .0 .1) (s .pre .0 .3), divisor-below (s .args .count) (s .args .ratio) 2048 (s .pre .0 .2))
+    rw (den-is c) (divisor-above (s .args .count) (s .args .ratio) (s .pre .0 .1) (s .pre .0 .3), divisor-below (s .args .count) (s .args .ratio) mostChecks (s .pre .0 .2))
 
 returns-2 : tie.Need-returns-2
 returns-2 c =
@@ -61,4 +57,4 @@ returns-2 c =
 pub divide-spec : {M : Type 1} → statement M
 divide-spec =
     tie.close (tie.spec (λ c. search needs) (λ c. search needs) (λ c. search needs) (λ c. search needs) (λ c. search needs) (λ c. search needs)
-    divide-opposite-requires sub-divide (λ c κs. search needs) divide-requires returns returns-2)
+    divide-opposite-requires (λ c. fits (opposite (c .before)) w64 tt) (λ c κs. search needs) divide-requires returns returns-2)

@@ -7,26 +7,23 @@ use lib.IntN.{pos, _-ℤ_}
 use mir.Syntax.{w64}
 use mir.Val.{toZ}
 use Rattle.integers.proofs.Machine.{Worth, fits, fits-one, stored, unsigned, also, minus}
+use Rattle.model.specs.Limits.{mostChecks, mostRatio}
 use Rattle.model.specs.Iteration.{divisor}
 use Rattle.values.proofs.divisor.Statement.{statement}
 use Rattle.values.proofs.divisor.Tie as tie
 
-counted : (s : tie.Start) → Worth (toZ w64 (1024 * s .args .count)) (pos (1024 * s .args .count)) (1024 * 2048)
-counted s = unsigned w64 (1024 * s .args .count) (1024 * 2048) tt (omega (arith, s .pre .0))
+counted : (s : tie.Start) → Worth (toZ w64 (1024 * s .args .count)) (pos (1024 * s .args .count)) (1024 * mostChecks)
+counted s = unsigned w64 (1024 * s .args .count) (1024 * mostChecks) tt (omega (arith, s .pre .0))
 
-value : (s : tie.Start) → Worth (toZ w64 (1024 * s .args .count) -ℤ toZ w64 (s .args .ratio)) (divisor (4 * s .args .count) (s .args .ratio)) (1024 * 2048 + 1023)
+value : (s : tie.Start) → Worth (toZ w64 (1024 * s .args .count) -ℤ toZ w64 (s .args .ratio)) (divisor (4 * s .args .count) (s .args .ratio)) (1024 * mostChecks + mostRatio)
 value s =
-    also (minus (counted s) (unsigned w64 (s .args .ratio) 1023 tt (s .pre .1)))
+    also (minus (counted s) (unsigned w64 (s .args .ratio) mostRatio tt (s .pre .1)))
     (ap (λ (n : ℕ). pos n -ℤ pos (s .args .ratio)) (let e : 1024 * s .args .count ≡ 256 * (4 * s .args .count) = omega arith in e))
-
-cast-result : tie.Need-cast-result
-cast-result c = fits-one w64 (pos (1024 * c .args .count)) (1024 * 2048) (counted c .within) tt
-
-sub-result : tie.Need-sub-result
-sub-result c = fits (value c) w64 tt
 
 returns : tie.Need-returns
 returns c = stored (value c) w64 tt .is
 
 pub divisor-spec : {M : Type 1} → statement M
-divisor-spec = tie.close (tie.spec (λ c. search needs) cast-result (λ c. search needs) sub-result returns)
+divisor-spec =
+    tie.close (tie.spec (λ c. search needs) (λ c. fits-one w64 (pos (1024 * c .args .count)) (1024 * mostChecks) (counted c .within) tt) (λ c. search needs)
+    (λ c. fits (value c) w64 tt) returns)

@@ -21,9 +21,6 @@ Inv-loop ratio limits₀ inverses₀ i₀ i-end limits inverses i =
 abbrev μ-loop : tie.MeasureT-loop
 μ-loop ratio limits₀ inverses₀ i₀ i-end limits inverses i = length inverses₀ - i
 
-loop-holds : tie.Need-loop-holds Inv-loop μ-loop
-loop-holds c = (omega arith, c .pre .1, omega arith, λ k h. absurd (omega arith))
-
 divisor-requires : tie.Need-divisor-requires Inv-loop μ-loop
 divisor-requires c κs = let s = c .before .before in (omega (arith, s .pre .2), omega (arith, s .pre .0))
 
@@ -38,18 +35,6 @@ prepare-requires c κs =
 
 abbrev turn : tie.After-struct-told Inv-loop μ-loop → tie.At-loop Inv-loop μ-loop
 turn c = c .before .before .before .before
-
-mul-limit : tie.Need-mul-limit Inv-loop μ-loop
-mul-limit c = omega (arith, turn c .before .pre .2)
-
-slice-set-from-limit : tie.Need-slice-set-from-limit Inv-loop μ-loop
-slice-set-from-limit c = omega (arith, turn c .loop .inv .1)
-
-mul-inverse : tie.Need-mul-inverse Inv-loop μ-loop
-mul-inverse c = omega (arith, turn (c .before) .before .pre .2)
-
-slice-set-from-inverse : tie.Need-slice-set-from-inverse Inv-loop μ-loop
-slice-set-from-inverse c = omega (arith, turn (c .before) .loop .inv .2)
 
 loop-again : tie.Need-loop-again Inv-loop μ-loop
 loop-again c =
@@ -69,12 +54,6 @@ loop-again c =
           (omega (arith, l .loop .inv .1)) (omega (arith, l .loop .inv .2)) (l .loop .inv .3) here,
     )
 
-same-length : tie.Need-same-length Inv-loop μ-loop
-same-length c = let l = c .before in omega (arith, l .loop .inv .1, l .before .pre .1)
-
-same-length-2 : tie.Need-same-length-2 Inv-loop μ-loop
-same-length-2 c = c .before .loop .inv .2
-
 returns : tie.Need-returns Inv-loop μ-loop
 returns c =
     let l = c .before in
@@ -82,5 +61,7 @@ returns c =
 
 pub prepare-spec : {M : Type 1} → statement M
 prepare-spec =
-    tie.close (tie.spec Inv-loop μ-loop loop-holds (λ c. omega arith) divisor-requires prepare-requires mul-limit slice-set-from-limit mul-inverse
-    slice-set-from-inverse (λ c. omega arith) (λ c. omega arith) loop-again same-length same-length-2 returns)
+    tie.close (tie.spec Inv-loop μ-loop (λ c. (omega arith, c .pre .1, omega arith, λ k h. absurd (omega arith))) (λ c. omega arith) divisor-requires
+    prepare-requires (λ c. omega (arith, turn c .before .pre .2)) (λ c. omega (arith, turn c .loop .inv .1))
+    (λ c. omega (arith, turn (c .before) .before .pre .2)) (λ c. omega (arith, turn (c .before) .loop .inv .2)) (λ c. omega arith) (λ c. omega arith)
+    loop-again (λ c. let l = c .before in omega (arith, l .loop .inv .1, l .before .pre .1)) (λ c. c .before .loop .inv .2) returns)
