@@ -4,6 +4,7 @@ ghost use Prim.Native.Nat.{_≤_};
 use crate::codes;
 use crate::show::Lists;
 use crate::show::Which;
+use crate::show::lent;
 use crate::show::list;
 use crate::show::number;
 use crate::show::placed;
@@ -78,13 +79,6 @@ fn nines() -> Lists {
         rows: [9; 16],
         word: [9; 16],
     }
-}
-
-// How many of 16 entries are lent.
-fn lent(x: usize) -> usize
-    ensures { λ r. ⌜ r ≤ 16 ⌝ }
-{
-    if x <= 16 { x } else { 16 }
 }
 
 fn room(s: &[u8]) -> usize
@@ -353,10 +347,10 @@ fn decode(code: &[u8], settings: Settings, costs: &[i16], room: [usize; 8]) {
 }
 
 fn each_list(lists: Lists, room: [usize; 8]) {
-    list(b", triples", lists, Which::Triples, lent(room[0]));
-    list(b", counts", lists, Which::Counts, lent(room[1]));
-    list(b", S", lists, Which::Sums, lent(room[2]));
-    list(b", c", lists, Which::Values, lent(room[3]));
-    list(b", s", lists, Which::Rows, lent(room[4]));
-    list(b", word", lists, Which::Word, lent(room[5]));
+    list(b", triples", lists, Which::Triples, room[0]);
+    list(b", counts", lists, Which::Counts, room[1]);
+    list(b", S", lists, Which::Sums, room[2]);
+    list(b", c", lists, Which::Values, room[3]);
+    list(b", s", lists, Which::Rows, room[4]);
+    list(b", word", lists, Which::Word, room[5]);
 }

@@ -97,12 +97,18 @@ fn entry(lists: Lists, which: Which, i: usize) -> i64
     }
 }
 
-// The first `n` entries of one list.
-pub fn list(name: &[u8], lists: Lists, which: Which, n: usize)
-    requires { ⌜ n ≤ 16 ⌝ }
+// How many of 16 entries are meant.
+pub fn lent(n: usize) -> usize
+    ensures { λ r. ⌜ r ≤ 16 ⌝ }
 {
+    if n <= 16 { n } else { 16 }
+}
+
+// The first `n` entries of one list.
+pub fn list(name: &[u8], lists: Lists, which: Which, n: usize) {
     text(name);
-    for i in 0..n {
+    let end = lent(n);
+    for i in 0..end {
         signed(entry(lists, which, i));
     }
 }
