@@ -1,13 +1,12 @@
 // The codeword test and the extension: on the code of three bits with the check (0,1,2), on that of five bits with one check, whose
-// auxiliaries are 5 and 6, and on that of five bits with the checks (0,1,2,3) and (0,2,3,4), which have one auxiliary each.
-use crate::codes;
-use crate::example::Example;
-use crate::example::extending;
-use crate::show::text;
-use crate::show::title;
-use crate::table::each;
+// auxiliaries are 5 and 6, and on that of five bits with the checks (0,1,2,3) and (0,2,3,4), which have one auxiliary each. A line has
+// a code, a word and the length of the point.
+use examples::Example;
+use examples::each;
+use examples::title;
 
-fn codewords() {
+fn accepted() {
+    title(b"codeword test and extension, into a list that held nines");
     each(
         b"000|LH\0\x03\0\x01LC\x03\0\0\0\x01\0\x02|\0\0\0|3\n\
         011|LH\0\x03\0\x01LC\x03\0\0\0\x01\0\x02|\0\x01\x01|3\n\
@@ -21,14 +20,8 @@ fn codewords() {
         11110|LH\0\x05\0\x01LC\x05\0\0\0\x01\0\x02\0\x03\0\x04|\x01\x01\x01\x01\0|7\n\
         two checks, 11001|LH\0\x05\0\x02LC\x04\0\0\0\x01\0\x02\0\x03LC\x04\0\0\0\x02\0\x03\0\x04|\x01\x01\0\0\x01|7\n\
         two checks, 01101|LH\0\x05\0\x02LC\x04\0\0\0\x01\0\x02\0\x03LC\x04\0\0\0\x02\0\x03\0\x04|\0\x01\x01\0\x01|7\n\
-        two checks, 00110|LH\0\x05\0\x02LC\x04\0\0\0\x01\0\x02\0\x03LC\x04\0\0\0\x02\0\x03\0\x04|\0\0\x01\x01\0|7\n",
-        Example::Extending,
-    );
-}
-
-fn odd() {
-    each(
-        b"100|LH\0\x03\0\x01LC\x03\0\0\0\x01\0\x02|\x01\0\0|3\n\
+        two checks, 00110|LH\0\x05\0\x02LC\x04\0\0\0\x01\0\x02\0\x03LC\x04\0\0\0\x02\0\x03\0\x04|\0\0\x01\x01\0|7\n\
+        100|LH\0\x03\0\x01LC\x03\0\0\0\x01\0\x02|\x01\0\0|3\n\
         111|LH\0\x03\0\x01LC\x03\0\0\0\x01\0\x02|\x01\x01\x01|3\n\
         00001|LH\0\x05\0\x01LC\x05\0\0\0\x01\0\x02\0\x03\0\x04|\0\0\0\0\x01|7\n\
         11111|LH\0\x05\0\x01LC\x05\0\0\0\x01\0\x02\0\x03\0\x04|\x01\x01\x01\x01\x01|7\n\
@@ -39,7 +32,7 @@ fn odd() {
     );
 }
 
-fn words() {
+fn refused() {
     each(
         b"a word too short|LH\0\x03\0\x01LC\x03\0\0\0\x01\0\x02|\0\x01|3\n\
         a word too long|LH\0\x03\0\x01LC\x03\0\0\0\x01\0\x02|\0\x01\x01\0|4\n\
@@ -48,26 +41,14 @@ fn words() {
         12 before 15|LH\0\x03\0\x01LC\x03\0\0\0\x01\0\x02|\0\x02|3\n\
         12 before 10|LH\0\x03\0\x01LC\x03\0\0\0\x01\0\x02|\0\x01|2\n\
         15 before 10|LH\0\x03\0\x01LC\x03\0\0\0\x01\0\x02|\0\x02\0|2\n\
-        15 before 17|LH\0\x03\0\x01LC\x03\0\0\0\x01\0\x02|\x01\0\x02|3\n",
-        Example::Extending,
-    );
-}
-
-fn lengths() {
-    each(
-        b"a longer point list|LH\0\x03\0\x01LC\x03\0\0\0\x01\0\x02|\0\x01\x01|5\n\
+        15 before 17|LH\0\x03\0\x01LC\x03\0\0\0\x01\0\x02|\x01\0\x02|3\n\
+        a longer point list|LH\0\x03\0\x01LC\x03\0\0\0\x01\0\x02|\0\x01\x01|5\n\
         a short point list|LH\0\x03\0\x01LC\x03\0\0\0\x01\0\x02|\0\x01\x01|2\n\
         10 before 17|LH\0\x03\0\x01LC\x03\0\0\0\x01\0\x02|\x01\0\0|2\n\
         five bits, a longer point list|LH\0\x05\0\x01LC\x05\0\0\0\x01\0\x02\0\x03\0\x04|\x01\0\x01\0\0|9\n\
         five bits, a short point list|LH\0\x05\0\x01LC\x05\0\0\0\x01\0\x02\0\x03\0\x04|\x01\0\x01\0\0|6\n\
-        five bits, 10 before 17|LH\0\x05\0\x01LC\x05\0\0\0\x01\0\x02\0\x03\0\x04|\0\0\0\0\x01|6\n",
-        Example::Extending,
-    );
-}
-
-fn causes_of_the_code() {
-    each(
-        b"1 before 12, 15 and 10|LH\0\x03\0\x01|\x02|1\n\
+        five bits, 10 before 17|LH\0\x05\0\x01LC\x05\0\0\0\x01\0\x02\0\x03\0\x04|\0\0\0\0\x01|6\n\
+        1 before 12, 15 and 10|LH\0\x03\0\x01|\x02|1\n\
         2 before 12, 15 and 10|LH\0\x03\0\x01LX\x03\0\0\0\x01\0\x02|\x02|1\n\
         3 before 12, 15 and 10|LH\0\x02\0\x01LC\x03\0\0\0\x01\0\x02|\x02|1\n\
         4 before 12, 15 and 10|LH\0\x03\0\x01LC\x02\0\0\0\x01|\x02|1\n\
@@ -78,22 +59,13 @@ fn causes_of_the_code() {
         12 before 15 and 10|LH\0\x03\0\x01LC\x03\0\0\0\x01\0\x02|\x02|1\n",
         Example::Extending,
     );
-}
-
-fn many_triples() {
-    let mut code = io::large_buffer();
-    let n = codes::large(&mut code, 32, b"LC\x03\0\0\0\x01\0\x02");
-    text(b"7 before 12, 15 and 10:");
-    extending(&code[0..n], b"\x02", b"1");
-    text(b"\n");
+    each(
+        b"7 before 12, 15 and 10|LC\x03\0\0\0\x01\0\x02|\x02|1\n",
+        Example::ExtendingMany,
+    );
 }
 
 pub fn run() {
-    title(b"codeword test and extension, into a list that held nines");
-    codewords();
-    odd();
-    words();
-    lengths();
-    causes_of_the_code();
-    many_triples();
+    accepted();
+    refused();
 }

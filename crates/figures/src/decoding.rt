@@ -1,22 +1,18 @@
-// The decoder on the code of three bits with the check (0,1,2): the frames of document 01, the settings' edges, the causes and the lengths.
-use crate::example::Example;
-use crate::show::title;
-use crate::table::each;
+// The decoder on the code of three bits with the check (0,1,2): the frames of document 01, the settings' edges, the causes and the lengths. A line
+// has W, A, K and X, the costs, and the lengths of the lists for triples, counts, S, c, s and the word.
+use examples::Example;
+use examples::each;
+use examples::title;
 
-fn frames() {
+fn accepted() {
+    title(b"decoder, into lists that held nines");
     each(
         b"frame 1|256 0 2 0|0 0 0|3 3 3 3 4 3\n\
         frame 2|256 0 2 0|20000 20000 -8000|3 3 3 3 4 3\n\
         frame 3|256 0 2 0|20000 20000 20000|3 3 3 3 4 3\n\
         frame 2, K = 1|256 0 1 0|20000 20000 -8000|3 3 3 3 4 3\n\
-        frame 2 reflected, K = 1|256 0 1 0|20000 -20000 8000|3 3 3 3 4 3\n",
-        Example::Decoding(b'C'),
-    );
-}
-
-fn edges() {
-    each(
-        b"W = 0|0 0 2 0|20000 20000 -8000|3 3 3 3 4 3\n\
+        frame 2 reflected, K = 1|256 0 1 0|20000 -20000 8000|3 3 3 3 4 3\n\
+        W = 0|0 0 2 0|20000 20000 -8000|3 3 3 3 4 3\n\
         W = 1|1 0 2 0|20000 20000 -8000|3 3 3 3 4 3\n\
         W = 65535|65535 0 2 0|20000 20000 -8000|3 3 3 3 4 3\n\
         W = 65536|65536 0 2 0|20000 20000 -8000|3 3 3 3 4 3\n\
@@ -25,14 +21,8 @@ fn edges() {
         K = 0|256 0 0 0|20000 20000 -8000|3 3 3 3 4 3\n\
         K = 1|256 0 1 0|20000 20000 -8000|3 3 3 3 4 3\n\
         K = 1000|256 0 1000 0|20000 20000 -8000|3 3 3 3 4 3\n\
-        K = 1001|256 0 1001 0|20000 20000 -8000|3 3 3 3 4 3\n",
-        Example::Decoding(b'C'),
-    );
-}
-
-fn tolerances() {
-    each(
-        b"X just below the total|256 0 2 1073741823|0 0 0|3 3 3 3 4 3\n\
+        K = 1001|256 0 1001 0|20000 20000 -8000|3 3 3 3 4 3\n\
+        X just below the total|256 0 2 1073741823|0 0 0|3 3 3 3 4 3\n\
         X the total|256 0 2 1073741824|0 0 0|3 3 3 3 4 3\n\
         a total of 2^32, X = 0|512 0 1 0|32767 32767 32767|3 3 3 3 4 3\n\
         a total of 2^32, X = 2^32 - 1|512 0 1 4294967295|32767 32767 32767|3 3 3 3 4 3\n",
@@ -58,10 +48,6 @@ fn refused() {
         b"2 before 11, 12, 13 and 10|0 0 2 0|1 -32768|2 2 2 2 3 2\n",
         Example::Decoding(b'X'),
     );
-}
-
-// Frame 3, into lists of other lengths.
-fn lengths() {
     each(
         b"longer lists|256 0 2 0|20000 20000 20000|4 5 4 5 5 4\n\
         triples short|256 0 2 0|20000 20000 20000|2 3 3 3 4 3\n\
@@ -75,10 +61,6 @@ fn lengths() {
 }
 
 pub fn run() {
-    title(b"decoder, into lists that held nines");
-    frames();
-    edges();
-    tolerances();
+    accepted();
     refused();
-    lengths();
 }

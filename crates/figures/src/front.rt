@@ -1,11 +1,12 @@
 // The channel front: products and their rounding, each kind of setting, the causes and their order. Floats are written by their bits:
 // 3f800000 is 1.0, 3f000000 a half, 00000001 is 2^-149, the least above 0, and 7f000000 is 2^127, twice which is infinite, 7f800000; 7fc00000
-// is NaN. The bit above these, 80000000, is the sign.
-use crate::example::Example;
-use crate::show::title;
-use crate::table::each;
+// is NaN. The bit above these, 80000000, is the sign. A line has a scale, a weight, or a floor and a weight, then samples and the length of the costs.
+use examples::Example;
+use examples::each;
+use examples::title;
 
-fn gaussian() {
+fn costs() {
+    title(b"channel, into a list that held nines");
     each(
         b"Gaussian: 2^-127 and 2^-149 by 2^127|7f000000|00400000 80400000 00000001 80000001|4\n\
         Gaussian: -0.0 and 0.0|3f800000|80000000 00000000|2\n\
@@ -15,9 +16,6 @@ fn gaussian() {
         Gaussian: 32767.5, 32766.5 and just below each|3f800000|46ffff00 c6ffff00 46fffeff 46fffd00 c6fffd00 46fffcff|6\n",
         Example::Gaussian,
     );
-}
-
-fn hard() {
     each(
         b"hard: above, below and at zero|42c80000|40000000 c0400000 00000000 80000000 00000001 80000001|6\n\
         hard: a weight just below a half|3effffff|40000000 c0400000|2\n\
@@ -25,9 +23,6 @@ fn hard() {
         hard: a large weight|471c4000|40000000 c0400000|2\n",
         Example::Hard,
     );
-}
-
-fn erasing() {
     each(
         b"erasing: floor -0.0|80000000 42c80000|00000001 80000001 00000000 80000000|4\n\
         erasing: floor 0.0|00000000 42c80000|00000001 80000001 00000000 80000000|4\n\
@@ -36,7 +31,7 @@ fn erasing() {
     );
 }
 
-fn scales() {
+fn settings() {
     each(
         b"0.0 as scale|00000000|3f800000|1\n\
         0.0 as scale, no sample|00000000||1\n\
@@ -50,9 +45,6 @@ fn scales() {
         infinity as scale, no sample|7f800000||1\n",
         Example::Gaussian,
     );
-}
-
-fn weights() {
     each(
         b"0.0 as weight|00000000|3f800000|1\n\
         -0.0 as weight|80000000|3f800000|1\n\
@@ -66,14 +58,8 @@ fn weights() {
         -0.0 as weight beside a floor|3f800000 80000000|3f800000|1\n\
         -1.0 as weight beside a floor|3f800000 bf800000|3f800000|1\n\
         NaN as weight beside a floor|3f800000 7fc00000|3f800000|1\n\
-        infinity as weight beside a floor|3f800000 7f800000|3f800000|1\n",
-        Example::Erasing,
-    );
-}
-
-fn floors() {
-    each(
-        b"-1.0 as floor|bf800000 3f800000|3f800000|1\n\
+        infinity as weight beside a floor|3f800000 7f800000|3f800000|1\n\
+        -1.0 as floor|bf800000 3f800000|3f800000|1\n\
         -1.0 as floor, no sample|bf800000 3f800000||1\n\
         -2^-149 as floor|80000001 3f800000|3f800000|1\n\
         -2^-149 as floor, no sample|80000001 3f800000||1\n\
@@ -107,16 +93,13 @@ fn samples() {
     );
 }
 
-fn order() {
+fn order_and_lengths() {
     each(
         b"11 before 14|00000000|7fc00000|1\n\
         11 before 10|00000000|3f800000|0\n\
         14 before 10|3f800000|7fc00000|0\n",
         Example::Hard,
     );
-}
-
-fn lengths() {
     each(
         b"a short list|3f800000|3f800000 c0000000|1\n\
         just room|3f800000|3f800000 c0000000|2\n\
@@ -128,14 +111,8 @@ fn lengths() {
 }
 
 pub fn run() {
-    title(b"channel, into a list that held nines");
-    gaussian();
-    hard();
-    erasing();
-    scales();
-    weights();
-    floors();
+    costs();
+    settings();
     samples();
-    order();
-    lengths();
+    order_and_lengths();
 }

@@ -1,15 +1,11 @@
-// The figures of document 01 that are not marked for proof: each run by the library and printed, a line each. The stored output is what
-// they should be. A section is a module with a function `run`.
-mod codes;
+// The figures of document 01 that are not marked for proof, and an example of every cause and edge: each run by the library and printed, a
+// line each. The stored output is what they should be. A section is a module of tables with a function `run`.
 mod codewords;
 mod decoding;
-mod example;
 mod front;
 mod reader;
 mod reflection;
-mod show;
 mod splitting;
-mod table;
 
 fn main() {
     reader::run();

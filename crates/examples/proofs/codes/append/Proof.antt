@@ -1,0 +1,18 @@
+-- `examples::codes::append` meets its contract: the place stays within the list. Assumes nothing.
+use mathlib.Core.Path.{_≡_}
+use Prim.Native.Nat.{_-_, _≤_}
+use native.Mathlib.Omega.{arith}
+use lib.ListN.{length}
+use Rattle.examples.proofs.codes.append.Statement.{statement}
+use Rattle.examples.proofs.codes.append.Tie as tie
+
+abbrev Inv-loop : tie.InvT-loop
+Inv-loop code₀ at s next₀ i₀ i-end code next i = (next ≤ length code) × (length code ≡ length code₀) × (i-end ≡ length s)
+
+abbrev μ-loop : tie.MeasureT-loop
+μ-loop code₀ at s next₀ i₀ i-end code next i = i-end - i
+
+pub append-spec : {M : Type 1} → statement M
+append-spec =
+    tie.close (tie.spec Inv-loop μ-loop (λ c. omega arith) (λ c. omega arith) (λ c. omega arith) (λ c. omega arith) (λ c κs. omega arith) (λ c. omega arith)
+    (λ c. omega arith) (λ c. omega arith) (λ c. omega arith) (λ c. omega arith))

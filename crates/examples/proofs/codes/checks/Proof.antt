@@ -1,0 +1,18 @@
+-- `examples::codes::checks` meets its contract: the place stays within the list. Assumes nothing.
+use mathlib.Core.Path.{_≡_}
+use Prim.Native.Nat.{_-_, _≤_}
+use native.Mathlib.Omega.{arith}
+use lib.ListN.{length}
+use Rattle.examples.proofs.codes.checks.Statement.{statement}
+use Rattle.examples.proofs.codes.checks.Tie as tie
+
+abbrev Inv-loop : tie.InvT-loop
+Inv-loop code₀ at count degree step next₀ first₀ j₀ code next first j = (next ≤ length code) × (length code ≡ length code₀) × (first ≤ 65535)
+
+abbrev μ-loop : tie.MeasureT-loop
+μ-loop code₀ at count degree step next₀ first₀ j₀ code next first j = count - j
+
+pub checks-spec : {M : Type 1} → statement M
+checks-spec =
+    tie.close (tie.spec Inv-loop μ-loop (λ c. omega arith) (λ c. omega arith) (λ c. omega arith) (λ c. omega arith) (λ c. omega arith) (λ c. omega arith)
+    (λ c κs. omega arith) (λ c. omega arith) (λ c. omega arith) (λ c. omega arith) (λ c. omega arith) (λ c. omega arith) (λ c. omega arith))

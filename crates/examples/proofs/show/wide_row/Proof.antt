@@ -1,0 +1,15 @@
+-- `examples::show::wide_row` meets its contract. Assumes nothing.
+use mir.Syntax.{w32}
+use mir.Facts.{toZ-ofZ}
+use Rattle.integers.proofs.Machine.{widen}
+use Rattle.examples.proofs.show.wide_row.Statement.{statement}
+use Rattle.examples.proofs.show.wide_row.Tie as tie
+
+cast-result : tie.Need-cast-result
+cast-result c = rw (toZ-ofZ (c .fits .x)) (widen {w = w32} (c .fits .x) tt)
+
+returns : tie.Need-returns
+returns c = tt
+
+pub wide-row-spec : {M : Type 1} → statement M
+wide-row-spec = tie.close (tie.spec cast-result returns)

@@ -1,0 +1,22 @@
+-- `examples::table::natural` meets its contract: the number stays below 2^32. Assumes nothing.
+use Prim.Native.Nat.{_-_, _*_, _≤_, _<_}
+use native.Mathlib.Nat.{mul-le-mul}
+use native.Mathlib.Omega.{arith}
+use lib.ListN.{length}
+use Rattle.examples.proofs.table.natural.Statement.{statement}
+use Rattle.examples.proofs.table.natural.Tie as tie
+
+abbrev Inv-loop : tie.InvT-loop
+Inv-loop s at base value₀ i₀ value i = (i ≤ length s) × (value ≤ 4294967295)
+
+abbrev μ-loop : tie.MeasureT-loop
+μ-loop s at base value₀ i₀ value i = length s - i
+
+product : (l : tie.At-loop Inv-loop μ-loop) → let s = l .before .before in s .args .base * l .loop .value ≤ 16 * 4294967295
+product l = mul-le-mul (l .before .before .pre .1) (l .loop .inv .1)
+
+pub natural-spec : {M : Type 1} → statement M
+natural-spec =
+    tie.close (tie.spec Inv-loop μ-loop (λ c. omega arith) (λ c. omega arith) (λ c κs. tt) (λ c. omega arith) (λ c. omega arith)
+    (λ c. omega (arith, product (c .before .before .before .before))) (λ c. omega (arith, product (c .before .before .before .before))) (λ c. omega arith) (λ c. omega arith)
+    (λ c. omega arith) (λ c. omega arith))

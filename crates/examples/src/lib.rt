@@ -1,0 +1,9 @@
+// Tables of examples: what is done with the fields of a line, and what is printed of it. The tables are the program's, `figures`.
+mod codes;
+mod example;
+mod show;
+mod table;
+
+pub use example::Example;
+pub use show::title;
+pub use table::each;
