@@ -1,12 +1,5 @@
 -- What is written for a frame, and whether the program goes on. Assumes nothing.
-use mathlib.Core.Path.{_≡_, refl, ap, _∙_}
-use mathlib.Core.Bool.{true, false}
-use mathlib.Core.List.{List, []}
-use Prim.Native.Nat.{ℕ, _-_, _≤_}
-use lib.Dec.{eqb}
-use lib.IntN.{ℤ}
-use lib.ListN.{length, take}
-use borrow.Author.Tests.{eq-eqb, ne-eqb}
+use Rattle.integers.proofs.Prelude.{_≡_, refl, ap, _∙_, true, false, List, [], ℕ, _-_, _≤_, eq-eqb, ne-eqb, eqb, ℤ, length, take}
 use Rattle.lists.specs.Entries.{some}
 use Rattle.model.specs.declared.Settings as Model
 use Rattle.model.specs.Code.{Code}

@@ -1,9 +1,6 @@
 -- The size of a cost grows with the bits, so the bits may be limited instead; and a shift works it out. Assumes nothing.
-use mathlib.Core.Path.{_≡_, refl, sym, ap, _∙_}
-use Prim.Native.Nat.{ℕ, zero, suc, _+_, _-_, _*_, _/_, _%_, _^_, _≤_, _<_, min, max}
-use native.Mathlib.Decide.{decLt}
+use Rattle.integers.proofs.Prelude.{_≡_, refl, sym, ap, _∙_, ℕ, zero, suc, _+_, _-_, _*_, _/_, _%_, _^_, _≤_, _<_, min, max, arith, decLt}
 use native.Mathlib.Nat.{le-trans, lt-of-lt-of-le, mul-le-mul-left, mul-le-mul-right, mul-assoc, mul-div-mul-right, pow-suc}
-use native.Mathlib.Omega.{arith}
 use lib.Pow.{pow-pos, pow-mono, pow-add, shl-lt, shl-exact}
 use Rattle.integers.specs.Nearest.{nearest}
 use Rattle.integers.proofs.Nearest.{nearest-mono}

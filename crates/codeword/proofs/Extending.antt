@@ -1,13 +1,8 @@
 -- The extension of a word, an auxiliary at a time and a check at a time. Assumes nothing.
-use mathlib.Core.Path.{_≡_, refl, sym, ap, _∙_}
-use mathlib.Core.List.{List, [], _∷_, _++_}
-use Prim.Native.Nat.{ℕ, zero, suc, _+_, _-_, _*_, _%_, _≤_, _<_}
-use native.Mathlib.Decide.{decLt}
-use native.Mathlib.Numerals.{add-one, add-two}
-use native.Mathlib.Omega.{arith}
-use borrow.Author.Tests.{lt-ltb, le-ltb}
-use lib.ListN.{length, getD, take, drop, set, length-append, take-append-drop}
-use lib.Seq.{take-add, take-all, take-at, drop-cons, drop-drop, drop-append-seam, length-take-le}
+use Rattle.integers.proofs.Prelude.{_≡_, refl, sym, ap, _∙_, List, [], _∷_, _++_, ℕ, zero, suc, _+_, _-_, _*_, _%_, _≤_, _<_, arith, add-one, add-two, decLt}
+use Rattle.integers.proofs.Prelude.{lt-ltb, le-ltb, length, getD, take, drop, set, length-append, take-append-drop, length-take-le, take-at, take-all}
+use Rattle.integers.proofs.Prelude.{take-add, drop-drop, drop-cons}
+use lib.Seq.{drop-append-seam}
 use Rattle.lists.specs.Tabulated.{written}
 use Rattle.lists.specs.Entries.{total}
 use Rattle.lists.proofs.Tabulated.{length-written, written-in}

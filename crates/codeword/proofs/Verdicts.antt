@@ -1,10 +1,5 @@
 -- The answers of the codeword test and of the extension, by their causes in order. Assumes nothing.
-use mathlib.Core.Path.{_≡_, refl, sym, _∙_}
-use mathlib.Core.List.{List, [], _∷_, _++_}
-use Prim.Native.Nat.{ℕ, zero, suc, _≤_, _<_}
-use native.Mathlib.Omega.{arith}
-use borrow.Author.Tests.{lt-ltb, le-ltb, eqb-true, not-false}
-use lib.ListN.{length}
+use Rattle.integers.proofs.Prelude.{_≡_, refl, sym, _∙_, List, [], _∷_, _++_, ℕ, zero, suc, _≤_, _<_, arith, lt-ltb, le-ltb, eqb-true, not-false, length}
 use Rattle.lists.specs.Tabulated.{written}
 use Rattle.model.specs.declared.Verdict.{Verdict}
 use Rattle.model.specs.Causes.{_if_, firstOf, short, accepted}

@@ -1,9 +1,5 @@
 -- The whole answer from its parts. Assumes nothing.
-use mathlib.Core.List.{List}
-use mathlib.Core.Path.{_≡_, sym, ap₂, _∙_}
-use Prim.Native.Nat.{ℕ, zero, suc, _≤_}
-use native.Mathlib.Omega.{arith}
-use lib.IntN.{ℤ}
+use Rattle.integers.proofs.Prelude.{_≡_, sym, ap₂, _∙_, List, ℕ, zero, suc, _≤_, arith, ℤ}
 use Rattle.lists.specs.Tabulated.{written}
 use Rattle.quotient.specs.Quotient.{quotient}
 use Rattle.model.specs.Iteration.{countsOf}

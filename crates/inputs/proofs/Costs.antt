@@ -1,17 +1,7 @@
 -- The cost −32,768, which has no negative of 16 bits. Assumes nothing.
-use mathlib.Core.Path.{_≡_, refl}
-use mathlib.Core.Bool.{Bool, true, false}
-use mathlib.Core.List.{List}
-use Prim.Native.Nat.{ℕ, suc, _-_, _^_, _≤_, _<_}
-use native.Mathlib.Decide.{decLt}
-use native.Mathlib.Omega.{arith}
-use borrow.Author.Tests.{eq-eqb, ne-eqb, eqb-true, eqb-false}
-use lib.Dec.{eqb}
-use lib.IntN.{ℤ, pos, negsuc, natAbs}
-use lib.ListN.{length, List·getD-eq-default}
+use Rattle.integers.proofs.Prelude.{_≡_, refl, Bool, true, false, List, ℕ, suc, _-_, _^_, _≤_, _<_, arith, decLt, eqb-true, eqb-false, eq-eqb, ne-eqb, eqb, ℤ}
+use Rattle.integers.proofs.Prelude.{pos, negsuc, natAbs, length, List·getD-eq-default, w16, ofZ}
 use lib.Signed.{mag}
-use mir.Syntax.{w16}
-use mir.Val.{ofZ}
 use Rattle.lists.specs.Entries.{some}
 use Rattle.lists.proofs.Entries.{some-at}
 use Rattle.model.specs.Limits.{mostCost}

@@ -1,10 +1,6 @@
 -- A goal of each kind, by the method to copy. Assumes nothing.
-use mathlib.Core.Path.{_≡_}
-use Prim.Native.Nat.{_≤_}
+use Rattle.integers.proofs.Prelude.{_≡_, _≤_, arith, ℤ, pos, natAbs, _+ℤ_, _-ℤ_, _*ℤ_, _≤ℤ_, _<ℤ_}
 use native.Mathlib.Nat.{mul-le-mul}
-use native.Mathlib.Omega.{arith}
-use lib.IntN.{ℤ, pos, natAbs, _+ℤ_, _-ℤ_, _*ℤ_}
-use lib.Signed.{_≤ℤ_, _<ℤ_}
 use Rattle.integers.proofs.Linear.{split, toℕ, readℤ, about, abs-mul, abs-add}
 
 -- linear, with its hypotheses in the goal

@@ -10,6 +10,7 @@
 --       rw abs-mul (mul-le-mul h k)          omega (arith, abs-add a b)
 --   a value of a width, and what a signed local holds: `Machine`
 --   sums over a range: `Sums`; rounding: `Nearest`
+pub mod Prelude
 pub mod Linear
 pub mod Machine
 pub mod Sums

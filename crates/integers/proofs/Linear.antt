@@ -1,14 +1,11 @@
 -- An integer is a difference of two natural numbers; so a statement about integers becomes one about natural numbers, which omega proves.
 -- Assumes nothing.
-use mathlib.Core.Path.{_≡_, refl, sym, ap, subst}
+use Rattle.integers.proofs.Prelude.{_≡_, refl, sym, ap, subst, Bool, true, false, not, cond, ℕ, zero, suc, _+_, _-_, _*_, _≤_, _<_, min, arith, lt-ltb}
+use Rattle.integers.proofs.Prelude.{le-ltb, T, ltb, ℤ, pos, negsuc, natAbs, negℤ, _+ℤ_, _-ℤ_, _*ℤ_, ltZ, _≤ℤ_, _<ℤ_}
 use mathlib.Core.Logic.{_↔_}
-use mathlib.Core.Bool.{Bool, true, false, not, cond}
-use Prim.Native.Nat.{ℕ, zero, suc, _+_, _*_, _-_, _<_, _≤_, min}
-use native.Mathlib.Omega.{arith}
-use lib.Dec.{T, ltb, ltb→lt, nltb→le, lt→ltb, leb→le, le→leb}
-use lib.IntN.{ℤ, pos, negsuc, negℤ, subℕ, natAbs, _+ℤ_, _-ℤ_, _*ℤ_, +ℤ-assoc, +ℤ-comm, *ℤ-comm, negℤ-+ℤ, negℤ-negℤ}
-use lib.Signed.{mag, ltZ, ltZ-no, _≤ℤ_, _<ℤ_}
-use borrow.Author.Tests.{lt-ltb, le-ltb}
+use lib.Dec.{ltb→lt, nltb→le, lt→ltb, leb→le, le→leb}
+use lib.IntN.{subℕ, +ℤ-assoc, +ℤ-comm, *ℤ-comm, negℤ-+ℤ, negℤ-negℤ}
+use lib.Signed.{mag, ltZ-no}
 use Rattle.integers.specs.Parts.{up, dn}
 
 -- a − b, shut, so that `simp` meets it as it is written

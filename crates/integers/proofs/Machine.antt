@@ -2,18 +2,16 @@
 -- A signed local is bits; the code's text reads it back as `toZ w (ofZ w z)`. `Worth raw z b` says that what is written so is z, with
 -- a magnitude of at most b. Start with `local`, go on with the operations, close a need with `fits`, and a result with `.is`.
 -- Where a need asks only that a sum, difference or product fits and the magnitudes' bounds stand among the hypotheses: `search signed`.
-use mathlib.Core.Path.{_≡_, refl, ap, ap₂, _∙_}
-use Prim.Native.Nat.{ℕ, _+_, _*_, _^_, _<_, _≤_}
-use native.Mathlib.Omega.{arith}
+use Rattle.integers.proofs.Prelude.{_≡_, refl, ap, ap₂, _∙_, ℕ, _+_, _*_, _^_, _≤_, _<_, arith, needs, T, ltb, leb, ℤ, pos, natAbs, negℤ, _+ℤ_, _-ℤ_}
+use Rattle.integers.proofs.Prelude.{_*ℤ_, toZ, ofZ, toZ-ofZ}
 use native.Mathlib.Nat.{lt-of-lt-of-le, lt-of-le-of-lt, mul-le-mul}
-use lib.Dec.{T, leb, ltb, ltb→lt, leb→le}
-use lib.IntN.{ℤ, pos, negℤ, natAbs, _+ℤ_, _-ℤ_, _*ℤ_, +ℤ-idl}
+use lib.Dec.{ltb→lt, leb→le}
+use lib.IntN.{+ℤ-idl}
 use lib.Signed.{mag, natAbs-le}
 use lib.Pow.{pow-mono}
 use mir.Syntax.{Width}
-use mir.Val.{SFits, toZ, ofZ, hbits}
-use mir.Facts.{toZ-ofZ, toZ-pos}
-use borrow.Author.Needs.{needs}
+use mir.Val.{SFits, hbits}
+use mir.Facts.{toZ-pos}
 use Rattle.integers.proofs.Linear.{about, abs-neg, abs-add, abs-sub, abs-mul}
 
 -- ---- a bound on the magnitude is that the width holds the number

@@ -1,7 +1,6 @@
 -- Rounding. Assumes nothing.
-use mathlib.Core.Path.{_≡_}
-use Prim.Native.Nat.{ℕ, suc, _+_, _*_, _%_, _≤_, _<_}
-use native.Mathlib.Omega.{arith, by-contra}
+use Rattle.integers.proofs.Prelude.{_≡_, ℕ, suc, _+_, _*_, _%_, _≤_, _<_, arith}
+use native.Mathlib.Omega.{by-contra}
 use native.Mathlib.Nat.{div-add-mod', mod-lt, mul-le-mul-left, mul-le-mul-right, le-antisymm}
 use lib.Ieee.Nearest.{div-same, div-mono}
 use Rattle.integers.specs.Nearest.{nearest, Nearest}

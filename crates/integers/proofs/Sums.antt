@@ -1,11 +1,8 @@
 -- Sums over a range. Assumes nothing.
 use mathlib.Core.Logic.{_≢_}
-use mathlib.Core.Path.{_≡_, refl, sym, ap₂}
-use Prim.Native.Nat.{ℕ, zero, suc, _+_, _*_, _≤_, _<_}
-use native.Mathlib.Decide.{decLt}
+use Rattle.integers.proofs.Prelude.{_≡_, refl, sym, ap₂, ℕ, zero, suc, _+_, _*_, _≤_, _<_, arith, decLt, ℤ, pos, natAbs, negℤ, _+ℤ_, _*ℤ_}
 use native.Mathlib.Nat.{add-zero, add-suc}
-use native.Mathlib.Omega.{arith}
-use lib.IntN.{ℤ, pos, negℤ, natAbs, _+ℤ_, _*ℤ_, +ℤ-idr, +ℤ-assoc}
+use lib.IntN.{+ℤ-idr, +ℤ-assoc}
 use Rattle.integers.specs.Sum.{sumℕ, sumℤ}
 use Rattle.integers.proofs.Linear.{split, toℕ, abs-add}
 

@@ -1,13 +1,6 @@
 -- Lists whose entries stand in another order: laws of every permutation. Assumes nothing.
-use mathlib.Core.Bool.{cond}
-use mathlib.Core.List.{List}
+use Rattle.integers.proofs.Prelude.{_≡_, refl, sym, ap, _∙_, cond, List, ℕ, _<_, eq-eqb, ne-eqb, eqb, ℤ, pos, length}
 use mathlib.Core.Logic.{_≢_}
-use mathlib.Core.Path.{_≡_, refl, sym, ap, subst, _∙_}
-use Prim.Native.Nat.{ℕ, _<_}
-use borrow.Author.Tests.{eq-eqb, ne-eqb}
-use lib.Dec.{eqb}
-use lib.IntN.{ℤ, pos}
-use lib.ListN.{length}
 use Rattle.integers.specs.Sum.{sumℕ}
 use Rattle.integers.proofs.Sums.{sumℕ-same, sumℕ-only, sumℕ-swap}
 use Rattle.lists.specs.Tabulated.{tab}

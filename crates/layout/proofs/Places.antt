@@ -1,13 +1,6 @@
 -- Where the rows stand. Assumes nothing.
-use mathlib.Core.Path.{_≡_, refl, ap, subst, _∙_}
-use mathlib.Core.List.{List, []}
-use Prim.Native.Nat.{ℕ, suc, _+_, _-_, _*_, _/_, _%_, _≤_, _<_}
-use native.Mathlib.Omega.{arith}
-use native.Mathlib.Decide.{decLt}
-use borrow.Author.Tests.{lt-ltb, le-ltb}
-use lib.IntN.{ℤ, pos, natAbs}
-use lib.ListN.{length, getD, List·getD-eq-default}
-use lib.Seq.{sets}
+use Rattle.integers.proofs.Prelude.{_≡_, refl, ap, subst, _∙_, List, [], ℕ, suc, _+_, _-_, _*_, _/_, _%_, _≤_, _<_, arith, decLt, lt-ltb, le-ltb, ℤ, pos}
+use Rattle.integers.proofs.Prelude.{natAbs, length, getD, List·getD-eq-default, sets}
 use Rattle.lists.specs.Tabulated.{tab, over}
 use Rattle.lists.proofs.Tabulated.{length-tab, getD-tab, tab-same, over-sets}
 use Rattle.model.specs.Limits.{mostRow}

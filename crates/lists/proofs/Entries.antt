@@ -1,14 +1,7 @@
 -- Tests and sums of a list's entries, and the first index that passes. Assumes nothing.
-use mathlib.Core.Path.{_≡_, refl, sym, ap, subst, _∙_}
-use mathlib.Core.Bool.{Bool, true, false, not, cond, _&&_, _||_, or-assoc, or-false}
-use mathlib.Core.List.{List, [], _∷_, _++_}
-use Prim.Native.Nat.{ℕ, zero, suc, _+_, _≤_, _<_}
-use native.Mathlib.Numerals.{add-one}
-use native.Mathlib.Omega.{arith}
-use borrow.Author.Tests.{ltb-true, ltb-false}
-use lib.Dec.{T, ltb}
-use lib.ListN.{length, getD, drop, drop-of-length-le}
-use lib.Seq.{drop-cons}
+use Rattle.integers.proofs.Prelude.{_≡_, refl, sym, ap, subst, _∙_, Bool, true, false, not, cond, _&&_, _||_, List, [], _∷_, _++_, ℕ, zero, suc, _+_, _≤_}
+use Rattle.integers.proofs.Prelude.{_<_, arith, add-one, ltb-true, ltb-false, T, ltb, length, getD, drop, drop-of-length-le, drop-cons}
+use mathlib.Core.Bool.{or-assoc, or-false}
 use Rattle.lists.specs.Tabulated.{tab}
 use Rattle.lists.specs.Entries.{every, some, total, first}
 

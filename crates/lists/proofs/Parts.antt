@@ -1,10 +1,7 @@
 -- Parts of a slice, as a loan gives them, and a list that is written part by part. Assumes nothing.
-use mathlib.Core.Path.{_≡_, sym, ap, _∙_}
-use mathlib.Core.List.{List, [], _++_, append-assoc, append-nil}
-use Prim.Native.Nat.{ℕ, _+_, _-_, _≤_}
-use native.Mathlib.Omega.{arith}
-use lib.ListN.{length, take, drop, length-append, length-drop, drop-of-length-le}
-use lib.Seq.{take-all, take-length, take-at, drop-at, take-add, take-append-seam, drop-drop, length-take-le}
+use Rattle.integers.proofs.Prelude.{_≡_, sym, ap, _∙_, List, [], _++_, append-assoc, append-nil, ℕ, _+_, _-_, _≤_, arith, length, take, drop, length-append}
+use Rattle.integers.proofs.Prelude.{length-drop, drop-of-length-le, length-take-le, take-at, take-all, take-add, drop-at, drop-drop, take-append-seam}
+use lib.Seq.{take-length}
 use Rattle.lists.specs.Tabulated.{written}
 
 module _ {A : Type 0} where

@@ -1,16 +1,12 @@
 -- Lists given by their entries. Assumes nothing.
-use mathlib.Core.List.{List, [], _∷_, _++_, map, append-nil}
+use Rattle.integers.proofs.Prelude.{_≡_, refl, sym, ap, ap₂, _∙_, List, [], _∷_, _++_, map, append-nil, ℕ, zero, suc, _+_, _-_, _≤_, _<_, arith, add-one, ℤ}
+use Rattle.integers.proofs.Prelude.{length, getD, drop, set, length-append, length-drop, length-map, drop-of-length-le, List·getD-append, sets, drop-at}
+use Rattle.integers.proofs.Prelude.{getD-drop, getD-append-add, toZ, ofZ, toZ-ofZ}
 use mathlib.Core.Logic.{_≢_}
-use mathlib.Core.Path.{_≡_, refl, sym, ap, ap₂, _∙_}
-use Prim.Native.Nat.{ℕ, zero, suc, _+_, _-_, _≤_, _<_}
-use native.Mathlib.Numerals.{add-one}
-use native.Mathlib.Omega.{arith}
-use lib.IntN.{ℤ}
-use lib.ListN.{length, getD, drop, set, replicate, length-append, length-drop, length-map, drop-of-length-le, List·getD-append}
-use lib.Seq.{getD-drop, getD-append-add, drop-at, sets, set-append-left}
-use mir.Facts.{toZ-ofZ}
+use lib.ListN.{replicate}
+use lib.Seq.{set-append-left}
 use mir.Syntax.{Width}
-use mir.Val.{toZ, ofZ, SFits}
+use mir.Val.{SFits}
 use Rattle.lists.specs.Tabulated.{tab, over, written}
 
 module _ {ℓ} {A : Type ℓ} where

@@ -1,6 +1,5 @@
 -- Two tests together. Assumes nothing.
-use mathlib.Core.Bool.{Bool, true, false, _&&_}
-use mathlib.Core.Path.{_≡_, refl, sym, _∙_}
+use Rattle.integers.proofs.Prelude.{_≡_, refl, sym, _∙_, Bool, true, false, _&&_}
 
 pub and-left : (s t : Bool) → (s && t) ≡ true → s ≡ true
 and-left true t h = refl

@@ -1,12 +1,6 @@
 -- What an accepted code, header or check record is: the judgement's tests, read backwards. Assumes nothing.
-use mathlib.Core.Path.{_≡_, refl, sym, ap, _∙_}
-use mathlib.Core.Bool.{Bool, true, not}
-use mathlib.Core.List.{List, [], _∷_}
-use Prim.Native.Nat.{ℕ, zero, suc, _+_, _*_, _≤_, _<_}
-use native.Mathlib.Omega.{arith}
-use lib.Dec.{ltb, leb, eqb}
-use lib.ListN.{length, drop, length-drop}
-use borrow.Author.Tests.{ltb-false, leb-false, eqb-true, not-false}
+use Rattle.integers.proofs.Prelude.{_≡_, refl, sym, ap, _∙_, Bool, true, not, List, [], _∷_, ℕ, zero, suc, _+_, _*_, _≤_, _<_, arith, ltb-false, leb-false}
+use Rattle.integers.proofs.Prelude.{eqb-true, not-false, eqb, ltb, leb, length, drop, length-drop}
 use Rattle.lists.specs.Tabulated.{tab}
 use Rattle.lists.specs.Entries.{some}
 use Rattle.lists.proofs.Tabulated.{length-tab, getD-tab}

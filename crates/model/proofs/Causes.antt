@@ -1,12 +1,6 @@
 -- Lists of causes: the first that holds, and what the number 0 says. Assumes nothing.
-use mathlib.Core.Path.{_≡_, refl, subst}
-use mathlib.Core.Bool.{Bool, true, false, _||_}
-use mathlib.Core.List.{List, [], _∷_, _++_}
+use Rattle.integers.proofs.Prelude.{_≡_, refl, subst, Bool, true, false, _||_, List, [], _∷_, _++_, ℕ, zero, suc, _≤_, arith, ltb-false, le-ltb, T, ltb}
 use mathlib.Core.Logic.{_↔_}
-use Prim.Native.Nat.{ℕ, zero, suc, _≤_}
-use native.Mathlib.Omega.{arith}
-use lib.Dec.{T, ltb}
-use borrow.Author.Tests.{ltb-false, le-ltb}
 use Rattle.model.specs.declared.Settings.{Settings}
 use Rattle.model.specs.Limits.{mostWeight, mostRatio, mostIterations}
 use Rattle.model.specs.Causes.{_if_, firstOf, outside, accepted}

@@ -1,11 +1,6 @@
 -- What document 01 claims of the channel front holds. Assumes nothing.
-use mathlib.Core.Path.{_≡_, refl, ap, ap₂, _∙_, subst}
-use mathlib.Core.Bool.{Bool, true, false, not}
-use mathlib.Core.List.{List, [], _∷_, map}
-use lib.Dec.{T}
-use lib.IntN.{ℤ, pos, negℤ}
+use Rattle.integers.proofs.Prelude.{_≡_, refl, ap, ap₂, subst, _∙_, Bool, true, false, not, List, [], _∷_, map, T, ℤ, pos, negℤ, length, length-map}
 use lib.Ieee.{Float, nan, inf, fin, binary32, fits, isNan, neg, toBits}
-use lib.ListN.{length, length-map}
 use Rattle.lists.proofs.Tests.{and-left, and-right}
 use Rattle.lists.specs.Tabulated.{written}
 use Rattle.lists.specs.Entries.{every, some}

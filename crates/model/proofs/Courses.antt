@@ -1,12 +1,7 @@
 -- The iterates of a run, and the lists that a call leaves. Assumes nothing.
-use mathlib.Core.Bool.{Bool, true, false, _&&_}
-use mathlib.Core.List.{List}
-use mathlib.Core.Path.{_≡_, refl, sym, ap, ap₂, _∙_, subst}
-use Prim.Native.Nat.{ℕ, zero, suc, _*_, _≤_, _<_}
-use native.Mathlib.Omega.{arith}
-use lib.Dec.{leb}
-use lib.IntN.{ℤ, pos, natAbs}
-use lib.ListN.{length, length-replicate}
+use Rattle.integers.proofs.Prelude.{_≡_, refl, sym, ap, ap₂, subst, _∙_, Bool, true, false, _&&_, List, ℕ, zero, suc, _*_, _≤_, _<_, arith, leb, ℤ, pos}
+use Rattle.integers.proofs.Prelude.{natAbs, length}
+use lib.ListN.{length-replicate}
 use Rattle.lists.specs.Tabulated.{written}
 use Rattle.lists.proofs.Tabulated.{length-tab, written-in}
 use Rattle.quotient.specs.Quotient.{unit, quotient}

@@ -1,14 +1,6 @@
 -- A call of the decoder: its causes, and what it leaves. Assumes nothing.
-use mathlib.Core.Bool.{Bool}
-use mathlib.Core.List.{List, [], _∷_, _++_}
+use Rattle.integers.proofs.Prelude.{_≡_, refl, sym, ap, subst, _∙_, Bool, List, [], _∷_, _++_, ℕ, zero, suc, _+_, arith, ltb, ℤ, length, take, take-at}
 use mathlib.Core.Logic.{_⊎_, inl, inr}
-use mathlib.Core.Path.{_≡_, refl, sym, ap, _∙_, subst}
-use Prim.Native.Nat.{ℕ, zero, suc, _+_}
-use native.Mathlib.Omega.{arith}
-use lib.Dec.{ltb}
-use lib.IntN.{ℤ}
-use lib.ListN.{length, take}
-use lib.Seq.{take-at}
 use Rattle.lists.specs.Entries.{some}
 use Rattle.lists.specs.Tabulated.{written}
 use Rattle.model.specs.declared.Settings.{Settings}

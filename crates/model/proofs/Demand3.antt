@@ -1,15 +1,6 @@
 -- Demand 3, for every accepted code. Assumes nothing.
-use mathlib.Core.Path.{_≡_, refl, sym, ap, _∙_}
-use mathlib.Core.Bool.{Bool, true, false, cond}
-use mathlib.Core.List.{List, [], _∷_}
-use Prim.Native.Nat.{ℕ, zero, suc, _+_, _%_, _≤_, _<_}
-use native.Mathlib.Decide.{decLt}
-use native.Mathlib.Omega.{arith}
-use lib.Dec.{ltb, eqb}
-use lib.IntN.{ℤ, pos, negsuc, natAbs}
-use lib.ListN.{length, getD, List·getD-eq-default}
-use lib.Signed.{ltZ}
-use borrow.Author.Tests.{ltb-false, lt-ltb, eqb-false}
+use Rattle.integers.proofs.Prelude.{_≡_, refl, sym, ap, _∙_, Bool, true, false, cond, List, [], _∷_, ℕ, zero, suc, _+_, _%_, _≤_, _<_, arith, decLt}
+use Rattle.integers.proofs.Prelude.{ltb-false, lt-ltb, eqb-false, eqb, ltb, ℤ, pos, negsuc, natAbs, ltZ, length, getD, List·getD-eq-default}
 use Rattle.integers.proofs.Linear.{abs-neg}
 use Rattle.lists.specs.Tabulated.{tab}
 use Rattle.lists.specs.Entries.{total}

@@ -1,13 +1,9 @@
 -- Floats: comparisons with zero, and what `round` and `mul` make of a sign. Assumes nothing.
-use mathlib.Core.Path.{_≡_, refl, sym, _∙_}
-use mathlib.Core.Bool.{Bool, true, false, not, cond, _&&_}
-use Prim.Native.Nat.{ℕ, zero, suc, _+_, _-_, _*_, _/_, _%_, _^_, compare}
+use Rattle.integers.proofs.Prelude.{_≡_, refl, sym, _∙_, Bool, true, false, not, cond, _&&_, ℕ, zero, suc, _+_, _-_, _*_, _/_, _%_, _^_, arith, le-ltb, ltb}
+use Rattle.integers.proofs.Prelude.{ℤ}
+use Prim.Native.Nat.{compare}
 use native.Mathlib.Nat.{zero-mul, mul-one, add-zero}
-use native.Mathlib.Omega.{arith}
-use lib.Dec.{ltb}
-use lib.IntN.{ℤ}
 use lib.Ieee.{Float, nan, inf, fin, Format, prec, emax, low, up, nearest, size, odd, units, round, neg, lt, isNan}
-use borrow.Author.Tests.{le-ltb}
 use Rattle.model.specs.Channel.{finite, zeroFloat, sizeOf}
 
 -- ---- comparisons with zero

@@ -1,13 +1,6 @@
 -- The number of a call is that of its first cause, and one of its entry's own. Assumes nothing.
-use mathlib.Core.Path.{_≡_, refl, sym, _∙_, subst}
-use mathlib.Core.Bool.{Bool, true, false, not, cond}
-use mathlib.Core.List.{List, [], _∷_, _++_}
-use Prim.Native.Nat.{ℕ, zero, suc, _≤_, _<_}
-use native.Mathlib.Omega.{arith}
-use borrow.Author.Tests.{eqb-true, leb-true, le-leb}
-use lib.Dec.{leb, ltb, eqb}
-use lib.IntN.{ℤ}
-use lib.ListN.{length, getD, drop}
+use Rattle.integers.proofs.Prelude.{_≡_, refl, sym, subst, _∙_, Bool, true, false, not, cond, List, [], _∷_, _++_, ℕ, zero, suc, _≤_, _<_, arith, leb-true}
+use Rattle.integers.proofs.Prelude.{le-leb, eqb-true, eqb, ltb, leb, ℤ, length, getD, drop}
 use Rattle.lists.specs.Entries.{every, some}
 use Rattle.lists.proofs.Tests.{and-left, and-right}
 use Rattle.lists.proofs.Entries.{some-every}

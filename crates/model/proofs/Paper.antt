@@ -1,11 +1,5 @@
 -- The update is the paper's. Assumes nothing.
-use mathlib.Core.Path.{_≡_, refl, ap, ap₂, _∙_}
-use mathlib.Core.Bool.{Bool, true, false}
-use mathlib.Core.List.{List}
-use Prim.Native.Nat.{ℕ, _+_, _*_, _<_}
-use native.Mathlib.Omega.{arith}
-use lib.Dec.{eqb}
-use lib.IntN.{ℤ, pos, negsuc, negℤ, _+ℤ_, _-ℤ_, _*ℤ_}
+use Rattle.integers.proofs.Prelude.{_≡_, refl, ap, ap₂, _∙_, Bool, true, false, List, ℕ, _+_, _*_, _<_, arith, eqb, ℤ, pos, negsuc, negℤ, _+ℤ_, _-ℤ_, _*ℤ_}
 use Rattle.integers.specs.Parts.{up, dn}
 use Rattle.integers.specs.Sum.{sumℕ, sumℤ}
 use Rattle.integers.proofs.Linear.{split, toℕ, about-neg, *ℤ-add}

@@ -1,16 +1,11 @@
 -- Codewords and points. Assumes nothing.
-use mathlib.Core.Path.{_≡_, refl, sym, ap, ap₂, _∙_, subst}
-use mathlib.Core.Bool.{Bool, true, false, cond}
-use mathlib.Core.List.{List, [], _∷_, _++_}
-use Prim.Native.Nat.{ℕ, zero, suc, _+_, _%_, _≤_, _<_}
+use Rattle.integers.proofs.Prelude.{_≡_, refl, sym, ap, ap₂, subst, _∙_, Bool, true, false, cond, List, [], _∷_, _++_, ℕ, zero, suc, _+_, _%_, _≤_, _<_}
+use Rattle.integers.proofs.Prelude.{arith, eq-eqb, ne-eqb, T, eqb, pos, _≤ℤ_, length, getD, take, length-append, List·getD-append, length-take-le, take-all}
+use Rattle.integers.proofs.Prelude.{take-suc, getD-take}
 use native.Mathlib.Nat.{add-zero}
-use native.Mathlib.Omega.{arith}
-use lib.Dec.{T, eqb, lit<}
-use lib.IntN.{pos}
-use lib.ListN.{length, getD, take, length-append, List·getD-append}
-use lib.Seq.{take-suc, take-all, length-take-le, getD-take, getD-append-seam, ext-getD}
-use lib.Signed.{leZ, _≤ℤ_}
-use borrow.Author.Tests.{eq-eqb, ne-eqb}
+use lib.Dec.{lit<}
+use lib.Seq.{getD-append-seam, ext-getD}
+use lib.Signed.{leZ}
 use Rattle.lists.specs.Entries.{total}
 use Rattle.lists.proofs.Entries.{total-append}
 use Rattle.quotient.specs.Quotient.{unit}

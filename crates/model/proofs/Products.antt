@@ -1,14 +1,10 @@
 -- Products of samples and their costs. Assumes nothing.
-use mathlib.Core.Path.{_≡_, refl, sym, ap, subst, _∙_}
-use mathlib.Core.Bool.{Bool, true, false, not, cond, _&&_}
-use Prim.Native.Nat.{ℕ, _+_, _*_, _%_, _<_}
-use native.Mathlib.Omega.{arith}
-use lib.Dec.{T, ltb}
-use lib.IntN.{ℤ, negℤ, negℤ-negℤ}
+use Rattle.integers.proofs.Prelude.{_≡_, refl, sym, ap, subst, _∙_, Bool, true, false, not, cond, _&&_, ℕ, _+_, _*_, _%_, _<_, arith, lt-leb, le-leb, T, ltb}
+use Rattle.integers.proofs.Prelude.{ℤ, negℤ}
+use lib.IntN.{negℤ-negℤ}
 use lib.Ieee.{Float, nan, inf, fin, Format, binary32, up, down, unlike, neg, mul, lt, fits, isNan, toBits}
 use lib.Ieee.Bits.{toBits-lt, is-true}
 use lib.Ieee.Fits.{mul-fits, neg-fits}
-use borrow.Author.Tests.{le-leb, lt-leb}
 use Rattle.lists.proofs.Tests.{and-right}
 use Rattle.model.specs.declared.Erasure.{Erasure}
 use Rattle.model.specs.declared.Channel.{Channel}

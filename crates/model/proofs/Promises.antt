@@ -1,15 +1,7 @@
 -- What each entry promises of a call follows from the equation with its definition. Assumes nothing.
-use mathlib.Core.Path.{_≡_, refl, sym, ap, _∙_, subst}
-use mathlib.Core.Bool.{Bool, true, false, not, _||_}
-use mathlib.Core.List.{List, [], _∷_, _++_, map}
-use Prim.Native.Nat.{ℕ, zero, suc, _*_, _≤_, _<_}
-use native.Mathlib.Omega.{arith}
-use borrow.Author.Tests.{ltb-false, le-ltb, not-false}
-use lib.Dec.{ltb}
+use Rattle.integers.proofs.Prelude.{_≡_, refl, sym, ap, subst, _∙_, Bool, true, false, not, _||_, List, [], _∷_, _++_, map, ℕ, zero, suc, _*_, _≤_, _<_}
+use Rattle.integers.proofs.Prelude.{arith, ltb-false, le-ltb, not-false, ltb, ℤ, pos, length, getD, take, drop, take-at}
 use lib.Ieee.{Float, nan}
-use lib.IntN.{ℤ, pos}
-use lib.ListN.{length, getD, take, drop}
-use lib.Seq.{take-at}
 use Rattle.lists.specs.Entries.{some}
 use Rattle.lists.specs.Tabulated.{written}
 use Rattle.lists.proofs.Tabulated.{over-in, over-map}

@@ -1,14 +1,8 @@
 -- The accepted bytes are the records of the sound codes: reading what was written, writing what was read, and the judgement. Assumes nothing.
-use mathlib.Core.Path.{_≡_, refl, sym, ap, ap₂, _∙_}
-use mathlib.Core.Bool.{true, false, not}
-use mathlib.Core.List.{List, [], _∷_, _++_, append-assoc, append-nil}
+use Rattle.integers.proofs.Prelude.{_≡_, refl, sym, ap, ap₂, _∙_, true, false, not, List, [], _∷_, _++_, append-assoc, append-nil, ℕ, zero, suc, _+_, _*_}
+use Rattle.integers.proofs.Prelude.{_/_, _%_, _≤_, _<_, arith, ltb-false, le-ltb, leb-false, lt-leb, not-false, eqb, ltb, leb, length, drop, length-append}
+use Rattle.integers.proofs.Prelude.{length-drop, drop-at, drop-drop, drop-cons, getD-drop}
 use mathlib.Core.Logic.{_↔_}
-use Prim.Native.Nat.{ℕ, zero, suc, _+_, _*_, _/_, _%_, _≤_, _<_}
-use native.Mathlib.Omega.{arith}
-use lib.Dec.{leb, ltb, eqb}
-use lib.ListN.{length, drop, length-append, length-drop}
-use lib.Seq.{getD-drop, drop-cons, drop-drop, drop-at}
-use borrow.Author.Tests.{ltb-false, leb-false, le-ltb, lt-leb, not-false}
 use Rattle.lists.specs.Entries.{some, total}
 use Rattle.model.specs.Causes.{_if_, firstOf, short, outside}
 use Rattle.model.specs.Code.{Code, triples}

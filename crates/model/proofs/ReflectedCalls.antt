@@ -1,14 +1,6 @@
 -- Two calls, the second with reflected costs. Assumes nothing.
-use mathlib.Core.Bool.{Bool, false, not}
-use mathlib.Core.List.{List, [], _∷_}
-use mathlib.Core.Path.{_≡_, refl, sym, ap, ap₂, _∙_}
-use Prim.Native.Nat.{ℕ, zero, suc, _+_, _*_, _≤_}
-use native.Mathlib.Omega.{arith}
-use borrow.Author.Tests.{eqb-true, ne-eqb, not-false}
-use lib.Dec.{eqb}
-use lib.IntN.{ℤ, pos, negsuc, natAbs}
-use lib.ListN.{length, take, drop}
-use lib.Seq.{take-at}
+use Rattle.integers.proofs.Prelude.{_≡_, refl, sym, ap, ap₂, _∙_, Bool, false, not, List, [], _∷_, ℕ, zero, suc, _+_, _*_, _≤_, arith, eqb-true, ne-eqb}
+use Rattle.integers.proofs.Prelude.{not-false, eqb, ℤ, pos, negsuc, natAbs, length, take, drop, take-at}
 use Rattle.lists.specs.Entries.{some}
 use Rattle.lists.specs.Tabulated.{written}
 use Rattle.lists.proofs.Tabulated.{length-tab}

@@ -1,13 +1,8 @@
 -- A point that is even on every triple reflects the run. Assumes nothing.
-use mathlib.Core.Path.{_≡_, refl, sym, ap, ap₂, _∙_}
-use mathlib.Core.Bool.{Bool, true, false}
-use mathlib.Core.List.{List, [], _∷_}
-use Prim.Native.Nat.{ℕ, zero, suc, _+_, _*_, _%_, _<_}
-use native.Mathlib.Omega.{arith}
-use lib.Dec.{eqb, lit<}
-use lib.IntN.{ℤ, pos, negℤ, natAbs, _+ℤ_, _*ℤ_, negℤ-negℤ}
-use lib.ListN.{getD}
-use borrow.Author.Tests.{eqb-true}
+use Rattle.integers.proofs.Prelude.{_≡_, refl, sym, ap, ap₂, _∙_, Bool, true, false, List, [], _∷_, ℕ, zero, suc, _+_, _*_, _%_, _<_, arith, eqb-true, eqb, ℤ}
+use Rattle.integers.proofs.Prelude.{pos, natAbs, negℤ, _+ℤ_, _*ℤ_, getD}
+use lib.Dec.{lit<}
+use lib.IntN.{negℤ-negℤ}
 use Rattle.integers.specs.Parts.{up}
 use Rattle.integers.specs.Sum.{sumℕ, sumℤ}
 use Rattle.integers.proofs.Linear.{split, toℕ, neg-*ℤ}

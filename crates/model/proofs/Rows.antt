@@ -1,12 +1,7 @@
 -- What holds of each of four rows, of each of three positions, and of three entries 0 or 1; the entries of the lists of an iteration.
 -- Assumes nothing.
-use mathlib.Core.Path.{_≡_, refl, _∙_}
-use mathlib.Core.List.{List}
-use Prim.Native.Nat.{ℕ, zero, suc, _+_, _*_, _/_, _%_, _<_}
-use native.Mathlib.Decide.{decLt}
-use native.Mathlib.Omega.{arith}
-use lib.IntN.{ℤ, pos, natAbs, _*ℤ_}
-use lib.ListN.{replicate, List·getD-eq-default}
+use Rattle.integers.proofs.Prelude.{_≡_, refl, _∙_, List, ℕ, zero, suc, _+_, _*_, _/_, _%_, _<_, arith, decLt, ℤ, pos, natAbs, _*ℤ_, List·getD-eq-default}
+use lib.ListN.{replicate}
 use Rattle.integers.proofs.Linear.{abs-mul}
 use Rattle.lists.specs.Tabulated.{tab}
 use Rattle.lists.proofs.Tabulated.{length-tab, getD-tab}

@@ -1,8 +1,5 @@
 -- How a run goes on. Assumes nothing.
-use mathlib.Core.Path.{_≡_}
-use mathlib.Core.List.{List}
-use Prim.Native.Nat.{ℕ, suc}
-use lib.IntN.{ℤ}
+use Rattle.integers.proofs.Prelude.{_≡_, List, ℕ, suc, ℤ}
 use Rattle.model.specs.declared.Settings.{Settings}
 use Rattle.model.specs.Splitting.{System}
 use Rattle.model.specs.Iteration.{State, iterate}

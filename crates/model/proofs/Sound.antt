@@ -1,9 +1,5 @@
 -- The checks of a sound code, one by one, and its sizes. Assumes nothing.
-use mathlib.Core.Path.{_≡_, refl}
-use mathlib.Core.List.{List, [], _∷_}
-use Prim.Native.Nat.{ℕ, zero, suc, _+_, _≤_, _<_}
-use native.Mathlib.Omega.{arith}
-use lib.ListN.{length, getD}
+use Rattle.integers.proofs.Prelude.{_≡_, refl, List, [], _∷_, ℕ, zero, suc, _+_, _≤_, _<_, arith, length, getD}
 use Rattle.lists.specs.Entries.{total}
 use Rattle.model.specs.Code.{Code, turns, tripleCount, triples, variables}
 use Rattle.model.specs.Sound.{Rising, SoundCheck, SoundChecks, Sound}

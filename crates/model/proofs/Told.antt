@@ -1,7 +1,5 @@
 -- Answers are determined by what they tell. Assumes nothing.
-use mathlib.Core.Path.{_≡_, refl, ap, ap₂, _∙_}
-use Prim.Native.Nat.{ℕ}
-use native.Mathlib.Omega.{arith}
+use Rattle.integers.proofs.Prelude.{_≡_, refl, ap, ap₂, _∙_, ℕ, arith}
 use Rattle.model.specs.declared.Reading.{Reading}
 use Rattle.model.specs.declared.Verdict.{Verdict}
 use Rattle.model.specs.declared.Ending.{Ending}

@@ -1,14 +1,9 @@
 -- The triple rule, for all degrees together, and how often each variable of a code occurs. Assumes nothing.
-use mathlib.Core.Path.{_≡_, refl, sym, ap, _∙_, subst}
-use mathlib.Core.Bool.{Bool, true, false, cond, _||_}
-use mathlib.Core.List.{List, [], _∷_, _++_, append-assoc}
-use Prim.Native.Nat.{ℕ, zero, suc, _+_, _*_, _≤_, _<_}
-use native.Mathlib.Decide.{decLt}
-use native.Mathlib.Omega.{arith}
-use lib.Dec.{T, ltb, eqb, leb·suc-suc}
-use lib.ListN.{length, getD, drop, length-append}
-use lib.Seq.{getD-drop, drop-append-le, getD-append-add}
-use borrow.Author.Tests.{eqb-true, eqb-false, eq-eqb, ne-eqb, lt-ltb, le-ltb}
+use Rattle.integers.proofs.Prelude.{_≡_, refl, sym, ap, subst, _∙_, Bool, true, false, cond, _||_, List, [], _∷_, _++_, append-assoc, ℕ, zero, suc, _+_, _*_}
+use Rattle.integers.proofs.Prelude.{_≤_, _<_, arith, decLt, lt-ltb, le-ltb, eqb-true, eqb-false, eq-eqb, ne-eqb, T, eqb, ltb, length, getD, drop}
+use Rattle.integers.proofs.Prelude.{length-append, getD-drop, getD-append-add}
+use lib.Dec.{leb·suc-suc}
+use lib.Seq.{drop-append-le}
 use Rattle.integers.specs.Sum.{sumℕ}
 use Rattle.lists.specs.Tabulated.{tab}
 use Rattle.lists.specs.Entries.{some, total}

@@ -1,10 +1,6 @@
 -- The magnitude that a float's bits stand for is the float's value. Assumes nothing.
-use mathlib.Core.Path.{_≡_, sym, subst, ap}
-use mathlib.Core.Bool.{Bool, true, false, cond}
-use Prim.Native.Nat.{ℕ, zero, suc, _+_, _*_, _/_, _%_, _^_}
+use Rattle.integers.proofs.Prelude.{_≡_, sym, ap, subst, Bool, true, false, cond, ℕ, zero, suc, _+_, _*_, _/_, _%_, _^_, T, eqb, leb, ℤ}
 use native.Mathlib.Nat.{mul-one}
-use lib.Dec.{T, leb, eqb}
-use lib.IntN.{ℤ}
 use lib.Pow.{pow-pos}
 use lib.Ieee.{Float, nan, inf, fin, binary32, up, down, odd, ofFields, ofBits, toBits, fits}
 use lib.Ieee.Bits.{ofBits-toBits}

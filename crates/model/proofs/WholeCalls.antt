@@ -1,16 +1,8 @@
 -- The listed frames as whole calls, at the real quotient. Assumes nothing.
-use mathlib.Core.Path.{_≡_, refl, fun-ext}
-use mathlib.Core.Bool.{Bool, true, false}
-use mathlib.Core.List.{List, [], _∷_}
-use Prim.Native.Nat.{ℕ, suc, _*_}
-use native.Mathlib.Omega.{arith}
-use lib.Dec.{ltb}
-use lib.IntN.{ℤ, pos}
-use lib.ListN.{length}
+use Rattle.integers.proofs.Prelude.{_≡_, refl, fun-ext, Bool, true, false, List, [], _∷_, ℕ, suc, _*_, arith, lt-ltb, le-ltb, ltb, ℤ, pos, length}
 use lib.Ieee.{inf, fin, up, lt}
 use lib.Ieee.Fits.{up-pos}
 use native.Mathlib.Nat.{mul-pos, zero-lt-suc}
-use borrow.Author.Tests.{le-ltb, lt-ltb}
 use Rattle.lists.specs.Entries.{some}
 use Rattle.quotient.specs.Quotient.{quotient}
 use Rattle.model.specs.Code.{triples}

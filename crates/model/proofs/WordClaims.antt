@@ -1,17 +1,8 @@
 -- Codewords, joined to what is tested and written, and the point of a codeword. Assumes nothing.
-use mathlib.Core.Path.{_≡_, refl, sym, ap, _∙_, subst}
-use mathlib.Core.Bool.{Bool, true, false, cond}
+use Rattle.integers.proofs.Prelude.{_≡_, refl, sym, ap, subst, _∙_, Bool, true, false, cond, List, [], _∷_, _++_, ℕ, zero, suc, _+_, _*_, _%_, _≤_, _<_}
+use Rattle.integers.proofs.Prelude.{arith, decLt, ltb-true, ltb-false, lt-ltb, le-ltb, eqb-true, eqb-false, eq-eqb, not-false, T, eqb, ltb, ℤ, pos, negsuc}
+use Rattle.integers.proofs.Prelude.{natAbs, ltZ, _<ℤ_, length, getD, take, List·getD-append, List·getD-eq-default, getD-append-add}
 use mathlib.Core.Logic.{_⊎_, inl, inr}
-use mathlib.Core.List.{List, [], _∷_, _++_}
-use Prim.Native.Nat.{ℕ, zero, suc, _+_, _*_, _%_, _≤_, _<_}
-use native.Mathlib.Decide.{decLt}
-use native.Mathlib.Omega.{arith}
-use lib.Dec.{T, ltb, eqb}
-use lib.IntN.{ℤ, pos, negsuc, natAbs}
-use lib.ListN.{length, getD, take, List·getD-append, List·getD-eq-default}
-use lib.Seq.{getD-append-add}
-use lib.Signed.{ltZ, _<ℤ_}
-use borrow.Author.Tests.{ltb-true, ltb-false, eqb-true, eqb-false, lt-ltb, le-ltb, eq-eqb, not-false}
 use Rattle.lists.specs.Tabulated.{tab}
 use Rattle.lists.specs.Entries.{total, some, first}
 use Rattle.lists.proofs.Tabulated.{length-tab, getD-tab}

@@ -1,12 +1,7 @@
 -- The worked table holds, at the real quotient. Assumes nothing.
-use mathlib.Core.Path.{_≡_, refl, ap, ap₂, _∙_, fun-ext}
-use mathlib.Core.Bool.{Bool, _&&_}
-use mathlib.Core.List.{List, [], _∷_}
-use Prim.Native.Nat.{ℕ, zero, suc, min}
-use native.Mathlib.Omega.{arith}
+use Rattle.integers.proofs.Prelude.{_≡_, refl, ap, ap₂, _∙_, fun-ext, Bool, _&&_, List, [], _∷_, ℕ, zero, suc, min, arith, lt-leb, le-leb, ℤ, pos, negsuc}
+use Rattle.integers.proofs.Prelude.{negℤ}
 use lib.Dec.{leb·zero}
-use lib.IntN.{ℤ, pos, negsuc, negℤ}
-use borrow.Author.Tests.{lt-leb, le-leb}
 use Rattle.integers.specs.Nearest.{nearest}
 use Rattle.quotient.specs.Quotient.{unit, quotient}
 use Rattle.quotient.specs.Quotient.Laws.{quotient-odd, quotient-is, rounded-by}

@@ -1,10 +1,5 @@
 -- What is found decides the outcome. Assumes nothing.
-use mathlib.Core.List.{List}
-use mathlib.Core.Path.{_≡_, sym, ap, _∙_}
-use Prim.Native.Nat.{ℕ, _≤_, _<_}
-use borrow.Author.Tests.{lt-ltb, le-ltb}
-use lib.IntN.{ℤ}
-use lib.ListN.{length}
+use Rattle.integers.proofs.Prelude.{_≡_, sym, ap, _∙_, List, ℕ, _≤_, _<_, lt-ltb, le-ltb, ℤ, length}
 use Rattle.model.specs.Calls.{Answer}
 use Rattle.model.specs.Causes.{accepted}
 use Rattle.model.specs.Words.{wordOf, firstUndecided, firstOdd, Outcome, tested, outcome}

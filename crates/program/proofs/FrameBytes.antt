@@ -1,14 +1,9 @@
 -- A record of the frame program is judged and read by its own bytes. Assumes nothing.
-use mathlib.Core.Path.{_≡_, refl, sym, ap, _∙_}
-use mathlib.Core.Bool.{Bool, true, false, not}
-use mathlib.Core.List.{List, [], _∷_}
-use Prim.Native.Nat.{ℕ, zero, suc, _+_, _-_, _*_, _≤_, _<_}
+use Rattle.integers.proofs.Prelude.{_≡_, refl, sym, ap, _∙_, Bool, true, false, not, List, [], _∷_, ℕ, zero, suc, _+_, _-_, _*_, _≤_, _<_, arith, ltb-true}
+use Rattle.integers.proofs.Prelude.{ltb-false, lt-ltb, le-ltb, eqb, ltb, length, take, drop, length-take, length-drop, length-take-le, take-all, drop-drop}
+use Rattle.integers.proofs.Prelude.{getD-take, getD-drop}
 use native.Mathlib.Nat.{zero-add, suc-add}
-use native.Mathlib.Omega.{arith}
-use lib.Dec.{ltb, eqb}
-use lib.ListN.{length, take, drop, length-take, length-drop}
-use lib.Seq.{take-nil, take-all, length-take-le, getD-take, getD-drop, drop-drop}
-use borrow.Author.Tests.{ltb-true, ltb-false, lt-ltb, le-ltb}
+use lib.Seq.{take-nil}
 use Rattle.model.specs.Causes.{_if_, firstOf, short, outside}
 use Rattle.model.specs.Code.{tripleCount}
 use Rattle.model.specs.Records.{twoBytes, numbers, degree, indices, judgeHeader, judgeIndices, judgeCheck}

@@ -1,13 +1,7 @@
 -- The code records that the frame program keeps: one more check, and the whole code. Assumes nothing.
-use mathlib.Core.Path.{_≡_, refl, sym, ap, _∙_}
-use mathlib.Core.Bool.{false, not}
-use mathlib.Core.List.{List, [], _∷_, _++_, append-nil, append-assoc}
-use Prim.Native.Nat.{ℕ, zero, suc, _+_, _-_, _*_, _≤_}
-use native.Mathlib.Omega.{arith}
-use lib.Dec.{ltb}
-use lib.ListN.{length, drop, length-append}
-use lib.Seq.{take-append-seam, drop-append-le, drop-at}
-use borrow.Author.Tests.{le-ltb}
+use Rattle.integers.proofs.Prelude.{_≡_, refl, sym, ap, _∙_, false, not, List, [], _∷_, _++_, append-assoc, append-nil, ℕ, zero, suc, _+_, _-_, _*_, _≤_}
+use Rattle.integers.proofs.Prelude.{arith, le-ltb, ltb, length, drop, length-append, drop-at, take-append-seam}
+use lib.Seq.{drop-append-le}
 use Rattle.lists.specs.Entries.{total}
 use Rattle.model.specs.Causes.{_if_}
 use Rattle.model.specs.Code.{tripleCount, triples}

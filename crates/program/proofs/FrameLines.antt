@@ -1,14 +1,7 @@
 -- The call that the frame program makes for a sound frame, and its line. Assumes nothing.
-use mathlib.Core.Path.{_≡_, refl, sym, ap, _∙_}
-use mathlib.Core.Bool.{Bool, true, false}
-use mathlib.Core.List.{List, _++_, append-nil}
-use Prim.Native.Nat.{ℕ, _*_, _≤_}
-use native.Mathlib.Omega.{arith}
-use lib.Dec.{eqb}
-use lib.IntN.{ℤ}
-use lib.ListN.{length, take, drop}
-use lib.Seq.{take-at, drop-nil}
-use borrow.Author.Tests.{le-ltb, eq-eqb, eqb-true}
+use Rattle.integers.proofs.Prelude.{_≡_, refl, sym, ap, _∙_, Bool, true, false, List, _++_, append-nil, ℕ, _*_, _≤_, arith, le-ltb, eqb-true, eq-eqb, eqb, ℤ}
+use Rattle.integers.proofs.Prelude.{length, take, drop, take-at}
+use lib.Seq.{drop-nil}
 use Rattle.lists.specs.Entries.{some}
 use Rattle.lists.proofs.Tabulated.{length-tab}
 use Rattle.quotient.specs.Quotient.{quotient}

@@ -1,14 +1,8 @@
 -- What the frame program is yet to write, by the bytes that it keeps: nothing but a refusal where the next record is refused, and frame by frame once code and
 -- settings are accepted. Assumes nothing.
-use mathlib.Core.Path.{_≡_, refl, sym, _∙_}
-use mathlib.Core.Bool.{Bool, true, false, cond, not, _&&_, _||_}
-use mathlib.Core.List.{List, [], _∷_, _++_, append-nil}
-use Prim.Native.Nat.{ℕ, zero, suc, _+_, _≤_, _<_}
-use native.Mathlib.Omega.{arith}
-use lib.Dec.{ltb, eqb}
-use lib.ListN.{length, take, drop, length-take, length-drop, length-append}
-use lib.Seq.{take-at, drop-at}
-use borrow.Author.Tests.{lt-ltb, eq-eqb, ne-eqb, eqb-true, eqb-false}
+use Rattle.integers.proofs.Prelude.{_≡_, refl, sym, _∙_, Bool, true, false, not, cond, _&&_, _||_, List, [], _∷_, _++_, append-nil, ℕ, zero, suc, _+_, _≤_}
+use Rattle.integers.proofs.Prelude.{_<_, arith, lt-ltb, eqb-true, eqb-false, eq-eqb, ne-eqb, eqb, ltb, length, take, drop, length-append, length-take}
+use Rattle.integers.proofs.Prelude.{length-drop, take-at, drop-at}
 use Rattle.model.specs.declared.Settings.{Settings}
 use Rattle.model.specs.Causes.{_if_, firstOf, accepted}
 use Rattle.model.specs.Code.{Code}

@@ -1,13 +1,5 @@
 -- What the records are that the frame program accepts, and the costs of a frame. Assumes nothing.
-use mathlib.Core.Path.{_≡_, _∙_}
-use mathlib.Core.Bool.{false, not}
-use mathlib.Core.List.{List, [], _∷_}
-use Prim.Native.Nat.{ℕ, _+_, _≤_}
-use lib.Dec.{ltb, eqb}
-use lib.IntN.{ℤ}
-use lib.ListN.{length, take, drop, length-map}
-use lib.Seq.{take-at}
-use borrow.Author.Tests.{ltb-false}
+use Rattle.integers.proofs.Prelude.{_≡_, _∙_, false, not, List, [], _∷_, ℕ, _+_, _≤_, ltb-false, eqb, ltb, ℤ, length, take, drop, length-map, take-at}
 use Rattle.lists.specs.Entries.{some}
 use Rattle.lists.specs.Tabulated.{written}
 use Rattle.model.specs.Causes.{_if_, short, outside, accepted}

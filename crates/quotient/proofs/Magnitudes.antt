@@ -1,10 +1,10 @@
 -- Magnitudes: the limited quotient, and its sign; the division that gives it. Assumes nothing.
-use mathlib.Core.Path.{_≡_, refl, sym, ap, _∙_}
-use Prim.Native.Nat.{ℕ, zero, suc, _+_, _*_, _/_, _≤_, _<_, min}
-use native.Mathlib.Omega.{arith, by-contra}
+use Rattle.integers.proofs.Prelude.{_≡_, refl, sym, ap, _∙_, ℕ, zero, suc, _+_, _*_, _/_, _≤_, _<_, min, arith, ℤ, pos, negsuc, natAbs, negℤ, _+ℤ_, _*ℤ_}
+use Rattle.integers.proofs.Prelude.{_≤ℤ_, _<ℤ_}
+use native.Mathlib.Omega.{by-contra}
 use native.Mathlib.Nat.{mul-le-mul-left, zero-div}
-use lib.IntN.{ℤ, pos, negsuc, negℤ, natAbs, _+ℤ_, _*ℤ_, negℤ-+ℤ}
-use lib.Signed.{quotZ, _≤ℤ_, _<ℤ_}
+use lib.IntN.{negℤ-+ℤ}
+use lib.Signed.{quotZ}
 use Rattle.integers.specs.Parts.{up, dn}
 use Rattle.integers.specs.Nearest.{nearest}
 use Rattle.integers.proofs.Nearest.{nearest-is}

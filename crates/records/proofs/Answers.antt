@@ -1,9 +1,5 @@
 -- The reader's answer: from the judgement to the answer, and back for whoever calls the reader. Assumes nothing.
-use mathlib.Core.Path.{_≡_, refl, sym, ap, _∙_, subst}
-use mathlib.Core.List.{List}
-use Prim.Native.Nat.{ℕ, zero, suc, _+_, _-_, _≤_}
-use native.Mathlib.Omega.{arith}
-use lib.ListN.{length, drop}
+use Rattle.integers.proofs.Prelude.{_≡_, refl, sym, ap, subst, _∙_, List, ℕ, zero, suc, _+_, _-_, _≤_, arith, length, drop}
 use Rattle.model.specs.declared.Reading.{Reading}
 use Rattle.model.specs.Limits.{mostBits, mostTriples}
 use Rattle.model.specs.Code.{triples, variables}

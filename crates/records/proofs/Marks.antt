@@ -1,12 +1,6 @@
 -- Marks and the bits of checks. Assumes nothing.
-use mathlib.Core.Path.{_≡_, refl}
-use mathlib.Core.Bool.{Bool, true, false, _||_}
-use mathlib.Core.List.{List, [], _∷_, _++_}
-use Prim.Native.Nat.{ℕ, _<_}
-use lib.Dec.{eqb}
-use lib.ListN.{length, set}
+use Rattle.integers.proofs.Prelude.{_≡_, refl, Bool, true, false, _||_, List, [], _∷_, _++_, ℕ, _<_, eqb-true, eqb-false, eqb, length, set}
 use lib.Seq.{getD-set-same, getD-set-other}
-use borrow.Author.Tests.{eqb-true, eqb-false}
 use Rattle.lists.specs.Entries.{some}
 use Rattle.records.specs.Marks.{marked}
 

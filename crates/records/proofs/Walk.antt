@@ -1,12 +1,7 @@
 -- The check records of s one after another. A loop over them keeps `Walk s j rest`, and what it says of `checksIn j s`, so that it is done where j is
 -- their number: `walk-start`, `walk-next`; of the check at hand `walk-check`, `walk-judged`; of what it makes `walk-checks`, `walk-total`. Assumes nothing.
-use mathlib.Core.Path.{_≡_, refl, sym, ap, _∙_}
-use mathlib.Core.List.{List, [], _∷_, _++_}
-use Prim.Native.Nat.{ℕ, zero, suc, _+_, _-_, _*_, _≤_, _<_}
-use native.Mathlib.Numerals.{add-one}
-use native.Mathlib.Omega.{arith}
-use lib.ListN.{getD, drop}
-use lib.Seq.{drop-drop}
+use Rattle.integers.proofs.Prelude.{_≡_, refl, sym, ap, _∙_, List, [], _∷_, _++_, ℕ, zero, suc, _+_, _-_, _*_, _≤_, _<_, arith, add-one, getD, drop}
+use Rattle.integers.proofs.Prelude.{drop-drop}
 use Rattle.lists.specs.Entries.{total}
 use Rattle.lists.proofs.Entries.{total-append}
 use Rattle.model.specs.Causes.{firstOf}

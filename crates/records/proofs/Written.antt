@@ -1,10 +1,5 @@
 -- Records that are written: how long they are, and how the records of a code grow. Assumes nothing.
-use mathlib.Core.Path.{_≡_, refl, sym}
-use mathlib.Core.List.{List, [], _∷_, _++_, append-assoc, append-nil}
-use Prim.Native.Nat.{ℕ, suc, _*_, _<_}
-use native.Mathlib.Omega.{arith}
-use lib.ListN.{length, take, getD}
-use lib.Seq.{take-suc}
+use Rattle.integers.proofs.Prelude.{_≡_, refl, sym, List, [], _∷_, _++_, append-assoc, append-nil, ℕ, suc, _*_, _<_, arith, length, getD, take, take-suc}
 use Rattle.model.specs.Code.{Code}
 use Rattle.model.specs.Records.{two, bytesOf, recordOf, checkRecords, recordsOf}
 use Rattle.model.proofs.RecordClaims.{length-record}

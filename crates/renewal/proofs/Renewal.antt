@@ -1,17 +1,9 @@
 -- The rows of T triples, as one triple or four triples after the other are renewed with the values c. Assumes nothing.
-use mathlib.Core.Bool.{Bool, cond, true, false, _&&_}
+use Rattle.integers.proofs.Prelude.{_≡_, refl, sym, ap, ap₂, _∙_, Bool, true, false, cond, _&&_, List, [], _∷_, ℕ, _+_, _-_, _*_, _/_, _%_, _^_, _≤_, _<_}
+use Rattle.integers.proofs.Prelude.{arith, decLt, ltb-true, ltb-false, lt-ltb, le-ltb, leb-true, leb-false, lt-leb, le-leb, ltb, leb, ℤ, pos, negsuc, natAbs}
+use Rattle.integers.proofs.Prelude.{_*ℤ_, length, getD, sets}
 use mathlib.Core.Bool as bools
-use mathlib.Core.List.{List, [], _∷_}
-use mathlib.Core.Path.{_≡_, refl, sym, ap, ap₂, _∙_}
-use Prim.Native.Nat.{ℕ, _+_, _-_, _*_, _/_, _%_, _^_, _≤_, _<_}
-use native.Mathlib.Decide.{decLt}
 use native.Mathlib.Nat.{mul-le-mul}
-use native.Mathlib.Omega.{arith}
-use borrow.Author.Tests.{ltb-true, ltb-false, leb-true, leb-false, le-leb, lt-leb, lt-ltb, le-ltb}
-use lib.Dec.{leb, ltb}
-use lib.IntN.{ℤ, pos, negsuc, natAbs, _*ℤ_}
-use lib.ListN.{length, getD}
-use lib.Seq.{sets}
 use Rattle.integers.specs.Sum.{sumℕ}
 use Rattle.integers.proofs.Sums.{sumℕ-same, sumℕ-split, sumℕ-bound, sumℕ-swap, sumℕ-fours}
 use Rattle.integers.proofs.Linear.{about, abs-difference}

@@ -1,10 +1,6 @@
 -- Four of a kind: an array by its entries, a sum, and the squares of changes. Assumes nothing.
-use mathlib.Core.List.{[], _∷_}
-use mathlib.Core.Path.{_≡_, ap, _∙_}
-use Prim.Native.Nat.{ℕ, _+_, _*_, _≤_, _<_}
+use Rattle.integers.proofs.Prelude.{_≡_, ap, _∙_, [], _∷_, ℕ, _+_, _*_, _≤_, _<_, arith, ℤ, pos, negsuc, natAbs, negℤ, _-ℤ_, _*ℤ_}
 use native.Mathlib.Nat.{le-refl, mul-le-mul}
-use native.Mathlib.Omega.{arith}
-use lib.IntN.{ℤ, pos, negsuc, negℤ, natAbs, _-ℤ_, _*ℤ_}
 use Rattle.integers.specs.Sum.{sumℕ}
 use Rattle.integers.proofs.Linear.{split, toℕ, about, about-neg, abs-mul, abs-difference}
 use Rattle.lists.specs.Tabulated.{tab}

@@ -1,13 +1,6 @@
 -- An operand as the code reads it; what the table of signs says where it is tested. Assumes nothing.
-use mathlib.Core.Bool.{true, false}
-use mathlib.Core.Path.{_≡_, ap, _∙_}
-use Prim.Native.Nat.{ℕ, _<_}
+use Rattle.integers.proofs.Prelude.{_≡_, ap, _∙_, true, false, ℕ, _<_, arith, ℤ, pos, negsuc, natAbs, ltZ, w32, toZ, ofZ}
 use native.Mathlib.Nat.{le-of-eq}
-use native.Mathlib.Omega.{arith}
-use lib.IntN.{ℤ, pos, negsuc, natAbs}
-use lib.Signed.{ltZ}
-use mir.Syntax.{w32}
-use mir.Val.{toZ, ofZ}
 use Rattle.integers.proofs.Linear.{readℤ, above-abs}
 use Rattle.integers.proofs.Machine.{held}
 use Rattle.model.specs.Iteration.{sign}

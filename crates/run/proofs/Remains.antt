@@ -1,11 +1,6 @@
 -- What remains of a run, as a loop sees it: the state as it is, k iterations done, stopped or not. Assumes nothing.
-use mathlib.Core.List.{List, []}
-use mathlib.Core.Path.{_≡_, refl, sym, ap, _∙_}
-use Prim.Native.Nat.{ℕ, zero, suc, _+_, _-_, _*_, _≤_, _<_}
-use native.Mathlib.Numerals.{add-one}
-use native.Mathlib.Omega.{arith}
-use lib.IntN.{ℤ, pos}
-use lib.ListN.{length, replicate}
+use Rattle.integers.proofs.Prelude.{_≡_, refl, sym, ap, _∙_, List, [], ℕ, zero, suc, _+_, _-_, _*_, _≤_, _<_, arith, add-one, ℤ, pos, length}
+use lib.ListN.{replicate}
 use Rattle.lists.proofs.Tabulated.{length-tab, getD-tab, tab-same, tab-replicate}
 use Rattle.lists.specs.Tabulated.{tab}
 use Rattle.quotient.specs.Quotient.{quotient}

@@ -1,11 +1,6 @@
 -- What the bytes of a frame lead to. Assumes nothing.
-use mathlib.Core.Path.{_≡_, sym, ap, subst, _∙_}
-use mathlib.Core.Bool.{true, false, cond}
-use mathlib.Core.List.{List, [], _++_, append-assoc}
-use Prim.Native.Nat.{ℕ, _+_, _-_, _≤_}
-use native.Mathlib.Omega.{arith}
-use lib.ListN.{length, take, drop, length-drop, take-append-drop}
-use lib.Seq.{length-take-le, take-take}
+use Rattle.integers.proofs.Prelude.{_≡_, sym, ap, subst, _∙_, true, false, cond, List, [], _++_, append-assoc, ℕ, _+_, _-_, _≤_, arith, length, take, drop}
+use Rattle.integers.proofs.Prelude.{length-drop, take-append-drop, length-take-le, take-take}
 use Rattle.model.specs.Records.{bitCount, codeOf}
 use Rattle.model.specs.Calls.{outOfRange}
 use Rattle.program.specs.Frames.{settingsOf, frameSize, frames}

@@ -1,13 +1,8 @@
 -- What the bytes of a header, a check and the settings lead to, each judged by the contract of its function. Assumes nothing.
-use mathlib.Core.Path.{_≡_, refl, sym, ap, subst, _∙_}
-use mathlib.Core.Bool.{true, false, not, _||_}
-use mathlib.Core.List.{List, _++_, append-assoc}
-use Prim.Native.Nat.{ℕ, zero, suc, _+_, _-_, _*_, _≤_, _<_}
-use native.Mathlib.Omega.{arith}
-use lib.Dec.{ltb, eqb}
-use lib.ListN.{length, take, drop, length-append, length-take, length-drop, take-append-drop}
-use lib.Seq.{length-take-le, take-take, take-add, take-append-add, drop-drop, drop-at, take-append-seam}
-use borrow.Author.Tests.{ltb-true, ltb-false, eqb-true, not-false}
+use Rattle.integers.proofs.Prelude.{_≡_, refl, sym, ap, subst, _∙_, true, false, not, _||_, List, _++_, append-assoc, ℕ, zero, suc, _+_, _-_, _*_, _≤_, _<_}
+use Rattle.integers.proofs.Prelude.{arith, ltb-true, ltb-false, eqb-true, not-false, eqb, ltb, length, take, drop, length-append, length-take, length-drop}
+use Rattle.integers.proofs.Prelude.{take-append-drop, length-take-le, take-take, take-add, drop-at, drop-drop, take-append-seam}
+use lib.Seq.{take-append-add}
 use Rattle.model.specs.Code.{tripleCount}
 use Rattle.model.specs.Records.{bitCount, checkCount, degree, indices, judge}
 use Rattle.program.specs.Frames.{judgeHeldHeader, judgeHeldCheck, judgeSettings, frameSize, refusal, frames}

@@ -1,11 +1,6 @@
 -- From one state to the next: a refusal, and bytes that are kept. Assumes nothing.
-use mathlib.Core.Path.{_≡_, refl, sym, ap}
-use mathlib.Core.Bool.{Bool, true, false, cond}
-use mathlib.Core.List.{List, _++_, append-nil, append-assoc}
-use Prim.Native.Nat.{ℕ, _+_}
-use native.Mathlib.Omega.{arith}
-use lib.ListN.{take, drop, take-append-drop}
-use lib.Seq.{take-add}
+use Rattle.integers.proofs.Prelude.{_≡_, refl, sym, ap, Bool, true, false, cond, List, _++_, append-assoc, append-nil, ℕ, _+_, arith, take, drop}
+use Rattle.integers.proofs.Prelude.{take-append-drop, take-add}
 use Rattle.program.specs.Frames.{refusal, frames}
 use Rattle.session.specs.declared.State.{State}
 use Rattle.session.specs.declared.Step.{Step}

@@ -1,12 +1,6 @@
 -- The turns of the program's loop write what document 01 says. Assumes nothing.
-use mathlib.Core.Path.{_≡_, refl, sym, ap, _∙_}
-use mathlib.Core.Bool.{Bool, true, false}
-use mathlib.Core.List.{List, [], _++_, append-nil, append-assoc}
-use Prim.Native.Nat.{ℕ, _+_, _≤_, _<_}
-use native.Mathlib.Omega.{arith}
-use lib.Dec.{ltb}
-use lib.ListN.{length, take, drop, length-take, length-drop}
-use borrow.Author.Tests.{ltb-true, ltb-false}
+use Rattle.integers.proofs.Prelude.{_≡_, refl, sym, ap, _∙_, Bool, true, false, List, [], _++_, append-assoc, append-nil, ℕ, _+_, _≤_, _<_, arith, ltb-true}
+use Rattle.integers.proofs.Prelude.{ltb-false, ltb, length, take, drop, length-take, length-drop}
 use Rattle.program.specs.Frames.{frames}
 use Rattle.program.proofs.FrameBytes.{opened-degree}
 use Rattle.session.specs.declared.State.{State}

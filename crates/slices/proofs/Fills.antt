@@ -1,10 +1,5 @@
 -- A list whose first i entries have become x, as a loop sees it. Assumes nothing.
-use mathlib.Core.List.{List}
-use mathlib.Core.Path.{_≡_, refl, ap, _∙_}
-use Prim.Native.Nat.{ℕ, _+_, _≤_, _<_}
-use native.Mathlib.Numerals.{add-one}
-use native.Mathlib.Omega.{arith}
-use lib.ListN.{length, set}
+use Rattle.integers.proofs.Prelude.{_≡_, refl, ap, _∙_, List, ℕ, _+_, _≤_, _<_, arith, add-one, length, set}
 use Rattle.lists.specs.Tabulated.{tab, over}
 use Rattle.lists.proofs.Tabulated.{length-over, over-next, over-whole}
 

@@ -1,9 +1,7 @@
 -- A parameter of a signed type, as it is read. Assumes nothing.
-use Prim.Native.Nat.{_^_}
-use lib.IntN.{ℤ}
-use mir.Facts.{toZ-ofZ}
+use Rattle.integers.proofs.Prelude.{_^_, ℤ, toZ, ofZ, toZ-ofZ}
 use mir.Syntax.{Width}
-use mir.Val.{SFits, toZ, ofZ, hbits}
+use mir.Val.{SFits, hbits}
 use Rattle.integers.proofs.Machine.{Worth, abs-fits}
 
 pub read : (w : Width) {x : ℤ} → SFits w x → Worth (toZ w (ofZ w x)) x (2 ^ hbits w)

@@ -1,14 +1,7 @@
 -- The costs of a frame record, one by one. Assumes nothing.
-use mathlib.Core.Path.{_≡_, refl, sym, ap, _∙_}
-use mathlib.Core.Bool.{not}
-use mathlib.Core.List.{List, [], _∷_}
-use Prim.Native.Nat.{ℕ, zero, suc, _+_, _*_, _≤_}
+use Rattle.integers.proofs.Prelude.{_≡_, refl, sym, ap, _∙_, not, List, [], _∷_, ℕ, zero, suc, _+_, _*_, _≤_, ltb-false, eqb, ℤ, pos, negsuc, _-ℤ_, length}
+use Rattle.integers.proofs.Prelude.{getD, drop, drop-drop}
 use native.Mathlib.Nat.{zero-add}
-use lib.IntN.{ℤ, pos, negsuc, _-ℤ_}
-use lib.Dec.{eqb}
-use lib.ListN.{length, getD, drop}
-use lib.Seq.{drop-drop}
-use borrow.Author.Tests.{ltb-false}
 use Rattle.lists.specs.Tabulated.{over, written}
 use Rattle.lists.specs.Entries.{some}
 use Rattle.lists.proofs.Tabulated.{over-same, over-map}

@@ -1,17 +1,8 @@
 -- The shares of triples, by the rows as they stand while a run goes. Assumes nothing.
-use mathlib.Core.Bool.{Bool, true, false}
-use mathlib.Core.List.{List}
+use Rattle.integers.proofs.Prelude.{_≡_, refl, sym, ap, _∙_, Bool, true, false, List, ℕ, zero, suc, _+_, _-_, _*_, _%_, _≤_, _<_, arith, ltb-true, ltb-false}
+use Rattle.integers.proofs.Prelude.{eqb-true, eqb-false, eqb, ltb, ℤ, pos, natAbs, _*ℤ_, length, getD, set, length-set, sets, w32, toZ, ofZ}
 use mathlib.Core.Logic.{_⊎_, inl, inr, _≢_}
-use mathlib.Core.Path.{_≡_, refl, sym, ap, _∙_}
-use Prim.Native.Nat.{ℕ, zero, suc, _+_, _-_, _*_, _%_, _≤_, _<_}
-use native.Mathlib.Omega.{arith}
-use borrow.Author.Tests.{eqb-true, eqb-false, ltb-true, ltb-false}
-use lib.Dec.{eqb, ltb}
-use lib.IntN.{ℤ, pos, natAbs, _*ℤ_}
-use lib.ListN.{length, getD, set, length-set}
-use lib.Seq.{sets, length-sets, getD-set-same, getD-set-other}
-use mir.Syntax.{w32}
-use mir.Val.{toZ, ofZ}
+use lib.Seq.{length-sets, getD-set-same, getD-set-other}
 use Rattle.integers.specs.Sum.{sumℤ}
 use Rattle.integers.proofs.Sums.{sumℤ-same}
 use Rattle.integers.proofs.Machine.{held}

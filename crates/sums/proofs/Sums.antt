@@ -1,16 +1,8 @@
 -- S, as the shares of one triple after another are added. Assumes nothing.
-use mathlib.Core.Bool.{Bool, true, false}
-use mathlib.Core.List.{List, [], _∷_}
-use mathlib.Core.Path.{_≡_, refl, sym, ap, _∙_}
-use Prim.Native.Nat.{ℕ, suc, _+_, _*_, _^_, _≤_, _<_}
+use Rattle.integers.proofs.Prelude.{_≡_, refl, sym, ap, _∙_, Bool, true, false, List, [], _∷_, ℕ, suc, _+_, _*_, _^_, _≤_, _<_, arith, eq-eqb, ne-eqb, eqb, ℤ}
+use Rattle.integers.proofs.Prelude.{pos, natAbs, _+ℤ_, _*ℤ_, length, set, w32, toZ, ofZ}
 use native.Mathlib.Nat.{le-trans}
-use native.Mathlib.Omega.{arith}
-use borrow.Author.Tests.{eq-eqb, ne-eqb}
-use lib.Dec.{eqb}
-use lib.IntN.{ℤ, pos, natAbs, _+ℤ_, _*ℤ_, +ℤ-idr, +ℤ-assoc}
-use lib.ListN.{length, set}
-use mir.Syntax.{w32}
-use mir.Val.{toZ, ofZ}
+use lib.IntN.{+ℤ-idr, +ℤ-assoc}
 use Rattle.integers.specs.Sum.{sumℤ}
 use Rattle.integers.proofs.Sums.{sumℕ-bound, sumℤ-bound}
 use Rattle.integers.proofs.Linear.{about, abs-add}

@@ -1,11 +1,7 @@
 -- Text that is written piece by piece: one piece, and one after another. Assumes nothing.
-use mathlib.Core.Path.{_≡_, refl, sym, ap, _∙_}
-use mathlib.Core.List.{List, [], _∷_, _++_, append-assoc}
-use Prim.Native.Nat.{ℕ, _+_, _≤_, _<_}
-use native.Mathlib.Numerals.{add-one}
-use native.Mathlib.Omega.{arith}
-use lib.ListN.{length, take, drop, set, length-append, length-drop, take-append-drop}
-use lib.Seq.{take-at, drop-at, drop-drop, length-take-le, set-split}
+use Rattle.integers.proofs.Prelude.{_≡_, refl, sym, ap, _∙_, List, [], _∷_, _++_, append-assoc, ℕ, _+_, _≤_, _<_, arith, add-one, length, take, drop, set}
+use Rattle.integers.proofs.Prelude.{length-append, length-drop, take-append-drop, length-take-le, take-at, drop-at, drop-drop}
+use lib.Seq.{set-split}
 use Rattle.text.specs.Appended.{Appended}
 
 pub none : (at : ℕ) (a : List ℕ) → at ≤ length a → Appended at [] a a at

@@ -1,13 +1,7 @@
 -- Decimal digits: the last one and those before it, and how many there are. Assumes nothing.
-use mathlib.Core.Path.{_≡_, refl, ap, _∙_}
-use mathlib.Core.Bool.{Bool, true, false, cond}
-use mathlib.Core.List.{List, [], _∷_, _++_}
-use Prim.Native.Nat.{ℕ, zero, suc, _+_, _/_, _%_, _^_, _≤_, _<_}
-use native.Mathlib.Omega.{arith}
+use Rattle.integers.proofs.Prelude.{_≡_, refl, ap, _∙_, Bool, true, false, cond, List, [], _∷_, _++_, ℕ, zero, suc, _+_, _/_, _%_, _^_, _≤_, _<_, arith}
+use Rattle.integers.proofs.Prelude.{ltb-false, lt-ltb, le-ltb, ltb, length, length-append}
 use native.Mathlib.Nat.{div-lt-self, div-lt-iff-lt-mul}
-use borrow.Author.Tests.{ltb-false, lt-ltb, le-ltb}
-use lib.Dec.{ltb}
-use lib.ListN.{length, length-append}
 use Rattle.model.specs.Text.{digits, decimal}
 
 -- more room changes nothing

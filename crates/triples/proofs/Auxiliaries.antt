@@ -1,9 +1,5 @@
 -- The walk over the checks of an accepted code, with the first auxiliary of the check at hand. Assumes nothing.
-use mathlib.Core.Path.{_≡_}
-use mathlib.Core.List.{List}
-use Prim.Native.Nat.{ℕ, _+_, _≤_, _<_}
-use native.Mathlib.Omega.{arith}
-use lib.ListN.{drop}
+use Rattle.integers.proofs.Prelude.{_≡_, List, ℕ, _+_, _≤_, _<_, arith, drop}
 use Rattle.lists.specs.Entries.{total}
 use Rattle.model.specs.Limits.{mostVariables}
 use Rattle.model.specs.Code.{turns, variables}

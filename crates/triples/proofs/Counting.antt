@@ -1,12 +1,5 @@
 -- Counts that grow with the triples. Assumes nothing.
-use mathlib.Core.Path.{_≡_, refl, sym}
-use mathlib.Core.List.{List}
-use Prim.Native.Nat.{ℕ, zero, suc, _+_, _*_, _≤_, _<_}
-use native.Mathlib.Omega.{arith}
-use native.Mathlib.Numerals.{add-one, add-two}
-use lib.Dec.{eqb}
-use lib.ListN.{getD}
-use borrow.Author.Tests.{eq-eqb, ne-eqb}
+use Rattle.integers.proofs.Prelude.{_≡_, refl, sym, List, ℕ, zero, suc, _+_, _*_, _≤_, _<_, arith, add-one, add-two, eq-eqb, ne-eqb, eqb, getD}
 use Rattle.integers.specs.Sum.{sumℕ}
 use Rattle.integers.proofs.Sums.{sumℕ-bound}
 use Rattle.lists.specs.Tabulated.{over}

@@ -1,10 +1,5 @@
 -- What ever waits in the queue, by its place, and the triples from it. Assumes nothing.
-use mathlib.Core.Path.{_≡_, ap, _∙_}
-use mathlib.Core.List.{List}
-use Prim.Native.Nat.{ℕ, _+_, _-_, _*_, _≤_, _<_}
-use native.Mathlib.Omega.{arith}
-use lib.ListN.{length, getD, set, List·getD-append}
-use lib.Seq.{getD-append-add}
+use Rattle.integers.proofs.Prelude.{_≡_, ap, _∙_, List, ℕ, _+_, _-_, _*_, _≤_, _<_, arith, length, getD, set, List·getD-append, getD-append-add}
 use Rattle.lists.specs.Tabulated.{tab, over}
 use Rattle.lists.proofs.Tabulated.{getD-tab, over-three}
 use Rattle.model.specs.Code.{turns, tripleCount}

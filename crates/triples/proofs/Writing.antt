@@ -1,10 +1,7 @@
 -- The triples that the walk over the checks of an accepted code writes. Assumes nothing.
-use mathlib.Core.Path.{_≡_, sym, ap, _∙_}
-use mathlib.Core.List.{List, [], _++_, append-nil, append-assoc}
-use Prim.Native.Nat.{ℕ, _+_, _-_, _*_, _≤_, _<_}
-use native.Mathlib.Omega.{arith}
-use lib.ListN.{length, take, drop, length-append, length-drop, drop-of-length-le}
-use lib.Seq.{drop-drop, take-append-seam, drop-append-seam}
+use Rattle.integers.proofs.Prelude.{_≡_, sym, ap, _∙_, List, [], _++_, append-assoc, append-nil, ℕ, _+_, _-_, _*_, _≤_, _<_, arith, length, take, drop}
+use Rattle.integers.proofs.Prelude.{length-append, length-drop, drop-of-length-le, drop-drop, take-append-seam}
+use lib.Seq.{drop-append-seam}
 use Rattle.lists.specs.Tabulated.{written}
 use Rattle.lists.specs.Entries.{total}
 use Rattle.lists.proofs.Tabulated.{length-written}

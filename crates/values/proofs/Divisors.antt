@@ -1,17 +1,10 @@
 -- The divisors of counts, and the lists that stand for them. Assumes nothing.
-use mathlib.Core.List.{List}
+use Rattle.integers.proofs.Prelude.{_≡_, ap, _∙_, List, ℕ, suc, _+_, _-_, _*_, _^_, _≤_, _<_, arith, add-one, ℤ, pos, length, set, w64, toZ, ofZ}
 use mathlib.Core.Logic.{_≢_}
-use mathlib.Core.Path.{_≡_, ap, _∙_}
-use Prim.Native.Nat.{ℕ, suc, _+_, _-_, _*_, _^_, _≤_, _<_}
-use native.Mathlib.Numerals.{add-one}
-use native.Mathlib.Omega.{arith}
 use borrow.Author.Count.{below-more}
-use lib.IntN.{ℤ, pos}
-use lib.ListN.{length, set}
 use lib.Seq.{getD-set-same, getD-set-other}
 use lib.Signed.{mag}
-use mir.Syntax.{w64}
-use mir.Val.{toZ, ofZ, hbits}
+use mir.Val.{hbits}
 use Rattle.integers.proofs.Machine.{read-back}
 use Rattle.quotient.specs.Prepared.{Prepared}
 use Rattle.model.specs.Iteration.{at, divisor}

@@ -1,14 +1,7 @@
 -- How large a value is; a range of a list, as its entries are written one by one. Assumes nothing.
-use mathlib.Core.List.{List}
-use mathlib.Core.Path.{_≡_, ap, _∙_}
-use Prim.Native.Nat.{ℕ, zero, suc, _+_, _-_, _*_, _≤_}
-use native.Mathlib.Omega.{arith}
-use lib.IntN.{ℤ, natAbs}
-use lib.ListN.{length, getD, set}
-use lib.Seq.{sets}
-use mir.Facts.{toZ-ofZ}
+use Rattle.integers.proofs.Prelude.{_≡_, ap, _∙_, List, ℕ, zero, suc, _+_, _-_, _*_, _≤_, arith, ℤ, natAbs, length, getD, set, sets, toZ, ofZ, toZ-ofZ}
 use mir.Syntax.{Width}
-use mir.Val.{SFits, toZ, ofZ}
+use mir.Val.{SFits}
 use Rattle.lists.specs.Tabulated.{tab}
 use Rattle.lists.proofs.Tabulated.{tab-same, over-sets, over-whole}
 use Rattle.quotient.specs.Quotient.{unit}

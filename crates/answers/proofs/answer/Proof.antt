@@ -1,11 +1,8 @@
 -- `answers::answer` meets its contract: the decoder refuses nothing, and its answer makes the line. Assumes nothing.
-use mathlib.Core.Path.{_∙_}
-use native.Mathlib.Omega.{arith}
-use lib.ListN.{length-take}
+use Rattle.integers.proofs.Prelude.{_∙_, arith, needs, length-take}
 use Rattle.text.proofs.Appended.{lent, counted}
 use Rattle.program.specs.FrameClaims.{Room}
 use Rattle.answers.proofs.Answers.{answered}
-use borrow.Author.Needs.{needs}
 use Rattle.answers.proofs.answer.Statement.{statement}
 use Rattle.answers.proofs.answer.Tie as tie
 

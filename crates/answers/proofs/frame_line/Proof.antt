@@ -1,14 +1,11 @@
 -- `answers::frame_line` meets its contract: nothing, a refusal, or the frame's line. Assumes nothing.
-use mathlib.Core.Path.{_≡_, sym, ap, _∙_}
-use native.Mathlib.Omega.{arith}
-use lib.ListN.{length, take, length-take}
+use Rattle.integers.proofs.Prelude.{_≡_, sym, ap, _∙_, arith, needs, length, take, length-take}
 use Rattle.text.proofs.Appended.{lent, counted}
 use Rattle.model.specs.Records.{codeOf}
 use Rattle.program.specs.Frames.{costsOf, judgeFrame, frameLine}
 use Rattle.program.proofs.Frames as Frames
 use Rattle.program.proofs.Frames.{length-costs, costs-left}
 use Rattle.answers.proofs.Answers.{none, frame-refused, frame-sound, bits-of, code-long}
-use borrow.Author.Needs.{needs}
 use Rattle.answers.proofs.frame_line.Statement.{statement}
 use Rattle.answers.proofs.frame_line.Tie as tie
 

@@ -1,5 +1,5 @@
 -- `c_api::widagbe_decode` meets its contract: what the decoder found, told. Assumes nothing.
-use borrow.Author.Needs.{needs}
+use Rattle.integers.proofs.Prelude.{needs}
 use Rattle.c_api.proofs.widagbe_decode.Statement.{statement}
 use Rattle.c_api.proofs.widagbe_decode.Tie as tie
 
@@ -8,5 +8,5 @@ returns c = rw (c .decode-answer .ensures) (c .before .before .before .before .b
 
 pub widagbe-decode-spec : {M : Type 1} → statement M
 widagbe-decode-spec =
-    tie.close (tie.spec (λ c κs. search needs) (λ c κs. search needs) (λ c. search needs) (λ c. search needs) (λ c. search needs) (λ c. search needs)
-    (λ c. search needs) (λ c. search needs) returns)
+    tie.close (tie.spec (λ c κs. search needs) (λ c κs. search needs) (λ c. search needs) (λ c. search needs) (λ c. search needs) (λ c. search needs) (λ c.
+    search needs) (λ c. search needs) returns)

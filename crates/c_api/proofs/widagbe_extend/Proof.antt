@@ -1,5 +1,5 @@
 -- `c_api::widagbe_extend` meets its contract: what the extension found, told. Assumes nothing.
-use borrow.Author.Needs.{needs}
+use Rattle.integers.proofs.Prelude.{needs}
 use Rattle.c_api.proofs.widagbe_extend.Statement.{statement}
 use Rattle.c_api.proofs.widagbe_extend.Tie as tie
 

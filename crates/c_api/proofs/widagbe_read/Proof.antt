@@ -1,5 +1,5 @@
 -- `c_api::widagbe_read` meets its contract: what the reader found, told. Assumes nothing.
-use borrow.Author.Needs.{needs}
+use Rattle.integers.proofs.Prelude.{needs}
 use Rattle.c_api.proofs.widagbe_read.Statement.{statement}
 use Rattle.c_api.proofs.widagbe_read.Tie as tie
 

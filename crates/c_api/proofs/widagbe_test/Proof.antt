@@ -1,5 +1,5 @@
 -- `c_api::widagbe_test` meets its contract: what the test found, told. Assumes nothing.
-use borrow.Author.Needs.{needs}
+use Rattle.integers.proofs.Prelude.{needs}
 use Rattle.c_api.proofs.widagbe_test.Statement.{statement}
 use Rattle.c_api.proofs.widagbe_test.Tie as tie
 

@@ -1,6 +1,5 @@
 -- `c_api::word_answer` meets its contract: case by case. Assumes nothing.
-use mathlib.Core.Path.{sym, ap}
-use borrow.Author.Needs.{needs}
+use Rattle.integers.proofs.Prelude.{sym, ap, needs}
 use Rattle.model.specs.Calls.{verdictTold}
 use Rattle.c_api.proofs.word_answer.Statement.{statement}
 use Rattle.c_api.proofs.word_answer.Tie as tie

@@ -1,11 +1,6 @@
 -- `channel::cost` meets its contract: the sign bit decides the sign. Assumes nothing.
-use mathlib.Core.Path.{ap, _∙_}
+use Rattle.integers.proofs.Prelude.{ap, _∙_, needs, lt-leb, le-leb, pos, w16, toZ}
 use native.Mathlib.Nat.{min-le-right}
-use borrow.Author.Needs.{needs}
-use borrow.Author.Tests.{le-leb, lt-leb}
-use lib.IntN.{pos}
-use mir.Syntax.{w16}
-use mir.Val.{toZ}
 use Rattle.integers.proofs.Machine.{Worth, unsigned, negative, fits, stored, fits-abs}
 use Rattle.model.specs.Channel.{costOfBits}
 use Rattle.channel.proofs.cost.Statement.{statement}

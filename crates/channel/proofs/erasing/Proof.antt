@@ -1,13 +1,6 @@
 -- `channel::erasing` meets its contract: the weight's two costs and 0 are all that a sample can cost. Assumes nothing.
-use mathlib.Core.Path.{_≡_, refl, sym, _∙_}
-use mathlib.Core.Bool.{Bool, true, false, cond}
-use Prim.Native.Nat.{_≤_, _-_}
-use native.Mathlib.Omega.{arith}
-use borrow.Author.Needs.{needs}
+use Rattle.integers.proofs.Prelude.{_≡_, refl, sym, _∙_, Bool, true, false, cond, _-_, _≤_, arith, needs, ℤ, pos, length, getD, w16}
 use lib.Ieee.{Float, nan, binary32, isNan, lt, neg, toBits}
-use lib.IntN.{ℤ, pos}
-use lib.ListN.{length, getD}
-use mir.Syntax.{w16}
 use Rattle.integers.proofs.Machine.{kept}
 use Rattle.lists.specs.Tabulated.{over}
 use Rattle.lists.proofs.Tabulated.{length-over, over-stored, over-map}

@@ -1,6 +1,5 @@
 -- `channel::fill` meets its contract: a call for each kind; hard is erasing with a floor of 0. Assumes nothing.
-use mathlib.Core.Path.{_≡_, sym, ap, fun-ext}
-use borrow.Author.Needs.{needs}
+use Rattle.integers.proofs.Prelude.{_≡_, sym, ap, fun-ext, needs}
 use lib.Ieee.{Float, binary32, lt, toBits, ofBits}
 use Rattle.model.specs.declared.Channel.the-variants.{Hard, Erasing}
 use Rattle.model.specs.Channel.{inRange, costOfBits, costOf}

@@ -1,5 +1,5 @@
 -- `channel::floor_in_range` meets its contract. Assumes nothing.
-use borrow.Author.Needs.{needs}
+use Rattle.integers.proofs.Prelude.{needs}
 use lib.Ieee.{ofBits}
 use Rattle.channel.proofs.floor_in_range.Statement.{statement}
 use Rattle.channel.proofs.floor_in_range.Tie as tie

@@ -1,8 +1,5 @@
 -- `channel::front` meets its contract: each answer by the tests that led to it. Assumes nothing.
-use mathlib.Core.Path.{_≡_, sym, _∙_}
-use mathlib.Core.Bool.{true, false, not}
-use borrow.Author.Needs.{needs}
-use borrow.Author.Tests.{not-true, not-false, lt-ltb, le-ltb}
+use Rattle.integers.proofs.Prelude.{_≡_, sym, _∙_, true, false, not, needs, lt-ltb, le-ltb, not-false, not-true}
 use Rattle.lists.specs.Entries.{some}
 use Rattle.model.specs.Channel.{finite, inRange}
 use Rattle.model.specs.Calls.{channelFront}

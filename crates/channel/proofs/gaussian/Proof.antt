@@ -1,13 +1,6 @@
 -- `channel::gaussian` meets its contract: after i turns the first i entries are the costs of the first i samples. Assumes nothing.
-use mathlib.Core.Path.{_≡_, refl, _∙_}
-use mathlib.Core.Bool.{true, not}
-use Prim.Native.Nat.{_≤_, _-_}
-use native.Mathlib.Omega.{arith}
-use borrow.Author.Needs.{needs}
-use borrow.Author.Tests.{not-false}
+use Rattle.integers.proofs.Prelude.{_≡_, refl, _∙_, true, not, _-_, _≤_, arith, needs, not-false, length, getD, w16}
 use lib.Ieee.{nan}
-use lib.ListN.{length, getD}
-use mir.Syntax.{w16}
 use Rattle.lists.specs.Tabulated.{over}
 use Rattle.lists.proofs.Tabulated.{length-over, over-stored, over-map}
 use Rattle.lists.proofs.Entries.{some-at}
@@ -63,5 +56,5 @@ returns c =
 
 pub gaussian-spec : {M : Type 1} → statement M
 gaussian-spec =
-    tie.close (tie.spec Inv-loop μ-loop loop-holds (λ c. search needs) (λ c. search needs) cost-requires (λ c. search needs) slice-set-from-costs
-    (λ c. search needs) (λ c. search needs) loop-again same-length returns)
+    tie.close (tie.spec Inv-loop μ-loop loop-holds (λ c. search needs) (λ c. search needs) cost-requires (λ c. search needs) slice-set-from-costs (λ c. search
+    needs) (λ c. search needs) loop-again same-length returns)

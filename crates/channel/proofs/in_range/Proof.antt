@@ -1,5 +1,5 @@
 -- `channel::in_range` meets its contract, kind by kind. Assumes nothing.
-use borrow.Author.Needs.{needs}
+use Rattle.integers.proofs.Prelude.{needs}
 use Rattle.model.specs.Channel.{inRange}
 use Rattle.channel.proofs.in_range.Statement.{statement}
 use Rattle.channel.proofs.in_range.Tie as tie
@@ -21,5 +21,5 @@ returns-3 c =
 
 pub in-range-spec : {M : Type 1} → statement M
 in-range-spec =
-    tie.close (tie.spec (λ c. search needs) (λ c κs. search needs) (λ c. search needs) (λ c κs. search needs) (λ c. search needs) (λ c κs. search needs)
-    (λ c κs. search needs) returns returns-2 returns-3)
+    tie.close (tie.spec (λ c. search needs) (λ c κs. search needs) (λ c. search needs) (λ c κs. search needs) (λ c. search needs) (λ c κs. search needs) (λ c
+    κs. search needs) returns returns-2 returns-3)

@@ -1,5 +1,5 @@
 -- `channel::is_finite` meets its contract: a size is below infinity where the sample is finite. Assumes nothing.
-use borrow.Author.Needs.{needs}
+use Rattle.integers.proofs.Prelude.{needs}
 use lib.Ieee.{ofBits, nanBits}
 use Rattle.model.proofs.Floats.{size-finite}
 use Rattle.channel.proofs.is_finite.Statement.{statement}

@@ -1,8 +1,5 @@
 -- `channel::rounded` meets its contract: the shift loses nothing, and its quotient is the limited size. Assumes nothing.
-use mathlib.Core.Path.{_≡_}
-use Prim.Native.Nat.{_%_, _^_, _<_}
-use native.Mathlib.Omega.{arith}
-use borrow.Author.Needs.{needs}
+use Rattle.integers.proofs.Prelude.{_≡_, _%_, _^_, _<_, arith, needs}
 use Rattle.channel.proofs.Rounding.{shifted, shift-fits, size-is}
 use Rattle.channel.proofs.rounded.Statement.{statement}
 use Rattle.channel.proofs.rounded.Tie as tie

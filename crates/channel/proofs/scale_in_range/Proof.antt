@@ -1,5 +1,5 @@
 -- `channel::scale_in_range` meets its contract. Assumes nothing.
-use borrow.Author.Needs.{needs}
+use Rattle.integers.proofs.Prelude.{needs}
 use lib.Ieee.{ofBits}
 use Rattle.channel.proofs.scale_in_range.Statement.{statement}
 use Rattle.channel.proofs.scale_in_range.Tie as tie

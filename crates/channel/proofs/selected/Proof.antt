@@ -1,8 +1,6 @@
 -- `channel::selected` meets its contract, test by test. Assumes nothing.
-use borrow.Author.Needs.{needs}
-use mathlib.Core.Path.{_≡_, sym, ap, _∙_}
+use Rattle.integers.proofs.Prelude.{_≡_, sym, ap, _∙_, needs, toZ-ofZ}
 use lib.Ieee.{Float, ofBits, lt}
-use mir.Facts.{toZ-ofZ}
 use Rattle.model.specs.Channel.{sizeOf}
 use Rattle.channel.proofs.selected.Statement.{statement}
 use Rattle.channel.proofs.selected.Tie as tie

@@ -1,10 +1,6 @@
 -- `channel::some_not_finite` meets its contract: what was found, or is still to be found, decides. Assumes nothing.
-use mathlib.Core.Path.{refl}
-use mathlib.Core.Bool.{not}
-use Prim.Native.Nat.{_-_}
-use borrow.Author.Needs.{needs}
+use Rattle.integers.proofs.Prelude.{refl, not, _-_, needs, length}
 use lib.Ieee.{nan}
-use lib.ListN.{length}
 use Rattle.lists.proofs.Entries.{Found, found-next, found-end}
 use Rattle.model.specs.Channel.{finite}
 use Rattle.channel.proofs.some_not_finite.Statement.{statement}

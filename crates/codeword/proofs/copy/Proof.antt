@@ -1,9 +1,5 @@
 -- `codeword::copy` meets its contract: what is copied so far. Assumes nothing.
-use mathlib.Core.Path.{_≡_, refl, ap, _∙_}
-use Prim.Native.Nat.{_-_, _≤_}
-use native.Mathlib.Numerals.{add-one}
-use native.Mathlib.Omega.{arith}
-use lib.ListN.{length}
+use Rattle.integers.proofs.Prelude.{_≡_, refl, ap, _∙_, _-_, _≤_, arith, add-one, length}
 use Rattle.lists.specs.Tabulated.{over}
 use Rattle.lists.proofs.Tabulated.{over-next, over-all, length-over}
 use Rattle.model.specs.Words.{bitAt}
@@ -33,5 +29,5 @@ returns c =
 
 pub copy-spec : {M : Type 1} → statement M
 copy-spec =
-    tie.close (tie.spec Inv-loop μ-loop (λ c. (omega arith, refl)) (λ c. omega arith) (λ c. omega (arith, long (c .before .before))) (λ c. omega arith)
-    (λ c. omega arith) loop-again (λ c. long (c .before)) returns)
+    tie.close (tie.spec Inv-loop μ-loop (λ c. (omega arith, refl)) (λ c. omega arith) (λ c. omega (arith, long (c .before .before))) (λ c. omega arith) (λ c.
+    omega arith) loop-again (λ c. long (c .before)) returns)

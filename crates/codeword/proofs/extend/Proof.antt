@@ -1,10 +1,5 @@
 -- `codeword::extend` meets its contract: the causes in their order, then the first odd check, then the point. Assumes nothing.
-use mathlib.Core.Path.{_≡_, refl, sym, _∙_}
-use Prim.Native.Nat.{_≤_}
-use native.Mathlib.Omega.{arith}
-use borrow.Author.Needs.{needs}
-use borrow.Author.Tests.{lt-ltb, le-ltb}
-use lib.ListN.{length}
+use Rattle.integers.proofs.Prelude.{_≡_, refl, sym, _∙_, _≤_, arith, needs, lt-ltb, le-ltb, length}
 use Rattle.model.specs.declared.Verdict.{Verdict}
 use Rattle.model.specs.Code.{variables}
 use Rattle.model.specs.Records.{codeOf}
@@ -91,6 +86,9 @@ returns-5 c =
 
 pub extend-spec : {M : Type 1} → statement M
 extend-spec =
-    tie.close (tie.spec (λ c κs. search needs) (λ c. search needs) (λ c. search needs) (λ c κs. search needs) returns
-    (λ c. omega (arith, read (c .before .before .before))) (λ c. omega (arith, read (c .before .before .before))) returns-2 first-odd-requires returns-3
-    write-point-requires returns-4 (λ c. search needs) returns-5)
+    tie.close (tie.spec (λ c κs. search needs) (λ c. search needs) (λ c. search needs) (λ c κs. search needs) returns (λ c. omega (
+      arith,
+      read (c .before
+          .before .before),
+    )) (λ c. omega (arith, read (c .before .before .before))) returns-2 first-odd-requires returns-3 write-point-requires returns-4 (λ c.
+    search needs) returns-5)

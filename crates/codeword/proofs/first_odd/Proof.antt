@@ -1,11 +1,5 @@
 -- `codeword::first_odd` meets its contract: the checks so far are even. Assumes nothing.
-use mathlib.Core.Path.{_≡_, sym, ap, _∙_}
-use mathlib.Core.Bool.{Bool, false}
-use mathlib.Core.List.{List, []}
-use Prim.Native.Nat.{ℕ, _-_, _≤_, _<_}
-use native.Mathlib.Omega.{arith}
-use borrow.Author.Needs.{needs}
-use lib.ListN.{length, getD}
+use Rattle.integers.proofs.Prelude.{_≡_, sym, ap, _∙_, Bool, false, List, [], ℕ, _-_, _≤_, _<_, arith, needs, length, getD}
 use Rattle.lists.proofs.Entries.{below-next, first-at, first-none}
 use Rattle.model.specs.Records.{bitCount, checkCount, indices, checksIn, afterChecks, codeOf}
 use Rattle.model.specs.Words.{odd, firstOdd}
@@ -85,5 +79,5 @@ returns-2 c =
 
 pub first-odd-spec : {M : Type 1} → statement M
 first-odd-spec =
-    tie.close (tie.spec Inv-loop μ-loop (λ c κs. sound (c .before .before) .header .room) loop-holds is-odd-requires returns
-    (λ c κs. check (c .before .before) .room) (λ c. search needs) (λ c. search needs) loop-again returns-2)
+    tie.close (tie.spec Inv-loop μ-loop (λ c κs. sound (c .before .before) .header .room) loop-holds is-odd-requires returns (λ c κs. check (c .before
+    .before) .room) (λ c. search needs) (λ c. search needs) loop-again returns-2)

@@ -1,13 +1,5 @@
 -- `codeword::is_odd` meets its contract: the sum over the indices so far. Assumes nothing.
-use mathlib.Core.Path.{_≡_, refl, ap, _∙_}
-use mathlib.Core.List.{[], _∷_}
-use Prim.Native.Nat.{ℕ, _-_, _*_, _≤_, _%_}
-use native.Mathlib.Numerals.{add-one}
-use native.Mathlib.Omega.{arith}
-use borrow.Author.Needs.{needs}
-use lib.Dec.{eqb}
-use lib.ListN.{getD, take}
-use lib.Seq.{take-suc, take-all}
+use Rattle.integers.proofs.Prelude.{_≡_, refl, ap, _∙_, [], _∷_, ℕ, _-_, _*_, _%_, _≤_, arith, add-one, needs, eqb, getD, take, take-all, take-suc}
 use Rattle.lists.specs.Entries.{total}
 use Rattle.lists.proofs.Entries.{total-append}
 use Rattle.model.specs.Records.{indices}
@@ -44,5 +36,5 @@ returns c =
 
 pub is-odd-spec : {M : Type 1} → statement M
 is-odd-spec =
-    tie.close (tie.spec Inv-loop μ-loop (λ c κs. search needs) (λ c. (omega arith, omega arith, refl)) (λ c κs. search needs) shared-slice-read-wide
-    (λ c κs. search needs) (λ c. search needs) (λ c. search needs) (λ c. search needs) loop-again returns)
+    tie.close (tie.spec Inv-loop μ-loop (λ c κs. search needs) (λ c. (omega arith, omega arith, refl)) (λ c κs. search needs) shared-slice-read-wide (λ c κs.
+    search needs) (λ c. search needs) (λ c. search needs) (λ c. search needs) loop-again returns)

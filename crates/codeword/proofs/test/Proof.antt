@@ -1,8 +1,5 @@
 -- `codeword::test` meets its contract: the causes in their order, then the first odd check. Assumes nothing.
-use mathlib.Core.Path.{_≡_, sym, _∙_}
-use mathlib.Core.List.{[]}
-use native.Mathlib.Omega.{arith}
-use borrow.Author.Needs.{needs}
+use Rattle.integers.proofs.Prelude.{_≡_, sym, _∙_, [], arith, needs}
 use Rattle.model.specs.declared.Verdict.{Verdict}
 use Rattle.records.proofs.Answers.{Read, told-code, told-refused}
 use Rattle.codeword.proofs.Verdicts.{word-cause, word-long, causes, by-code, by-word, by-rest, odd-told, even-told, test-refused, test-passed}

@@ -1,11 +1,5 @@
 -- `codeword::write_auxiliaries` meets its contract: the auxiliaries so far. Assumes nothing.
-use mathlib.Core.Path.{_≡_, ap, _∙_}
-use mathlib.Core.List.{List}
-use Prim.Native.Nat.{ℕ, _+_, _-_, _*_, _≤_, _<_}
-use native.Mathlib.Omega.{arith}
-use borrow.Author.Needs.{needs}
-use lib.ListN.{length, getD, take}
-use lib.Seq.{length-take-le}
+use Rattle.integers.proofs.Prelude.{_≡_, ap, _∙_, List, ℕ, _+_, _-_, _*_, _≤_, _<_, arith, needs, length, getD, take, length-take-le}
 use Rattle.lists.specs.Tabulated.{written}
 use Rattle.lists.proofs.Tabulated.{length-written}
 use Rattle.model.specs.Code.{turns}

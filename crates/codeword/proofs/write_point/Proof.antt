@@ -1,9 +1,5 @@
 -- `codeword::write_point` meets its contract: the checks so far, and their auxiliaries. Assumes nothing.
-use mathlib.Core.Path.{_≡_}
-use Prim.Native.Nat.{_-_, _<_}
-use native.Mathlib.Omega.{arith}
-use borrow.Author.Needs.{needs}
-use lib.ListN.{length}
+use Rattle.integers.proofs.Prelude.{_≡_, _-_, _<_, arith, needs, length}
 use Rattle.lists.specs.Tabulated.{written}
 use Rattle.model.specs.Records.{checkCount, codeOf}
 use Rattle.model.proofs.Accepted.{SoundHeader, bytes-sound}
@@ -81,5 +77,5 @@ returns c =
 pub write-point-spec : {M : Type 1} → statement M
 write-point-spec =
     tie.close (tie.spec Inv-loop μ-loop (λ c κs. search needs) two-bytes-requires after-header-requires loop-holds write-auxiliaries-requires turns-requires
-    add-next (λ c κs. check-at (c .before .before .before .before .before) .whole) (λ c. search needs) (λ c. search needs) loop-again
-    (λ c. long (c .before)) returns)
+    add-next (λ c κs. check-at (c .before .before .before .before .before) .whole) (λ c. search needs) (λ c. search needs) loop-again (λ c. long (c .before))
+    returns)

@@ -1,12 +1,5 @@
 -- `decoder::cause` meets its contract: the first test that passes. Assumes nothing.
-use mathlib.Core.Bool.{Bool, false, not}
-use mathlib.Core.List.{[], _∷_}
-use mathlib.Core.Path.{_≡_, refl, sym, ap, ap₂, _∙_}
-use Prim.Native.Nat.{ℕ}
-use native.Mathlib.Omega.{arith}
-use borrow.Author.Needs.{needs}
-use borrow.Author.Tests.{eq-eqb, ne-eqb}
-use lib.ListN.{length}
+use Rattle.integers.proofs.Prelude.{_≡_, refl, sym, ap, ap₂, _∙_, Bool, false, not, [], _∷_, ℕ, arith, needs, eq-eqb, ne-eqb, length}
 use Rattle.lists.specs.Entries.{some}
 use Rattle.model.specs.Calls.{outOfRange, unequal, forbidden}
 use Rattle.model.specs.Causes.{_if_, firstOf}
@@ -33,9 +26,6 @@ module _ (s : tie.Start) where
       → found s′ t′ u′ v′ ≡ found is-out is-unequal is-forbidden (s .args .short)
   right = by is-out is-unequal is-forbidden (s .args .short)
 
-out-of-range-requires : tie.Need-out-of-range-requires
-out-of-range-requires c κs = search needs
-
 returns : tie.Need-returns
 returns c = (right (c .before .before) (sym (c .if1 .taken) ∙ c .before .out-of-range .ensures) refl refl refl, λ e. absurd (omega arith))
 
@@ -49,9 +39,6 @@ returns-2 : tie.Need-returns-2
 returns-2 c =
     let s = c .before .before .before in
     (right s (tame (c .before)) (sym (ap not (ne-eqb (length (s .args .costs .now)) (s .args .bits) (c .if2 .taken)))) refl refl, λ e. absurd (omega arith))
-
-some-forbidden-requires : tie.Need-some-forbidden-requires
-some-forbidden-requires c κs = search needs
 
 returns-3 : tie.Need-returns-3
 returns-3 c =
@@ -72,12 +59,4 @@ returns-5 c =
 
 pub cause-spec : {M : Type 1} → statement M
 cause-spec =
-    tie.close
-    (tie.spec
-    out-of-range-requires
-    returns
-    returns-2
-    some-forbidden-requires
-    returns-3
-    returns-4
-    returns-5)
+    tie.close (tie.spec (λ c κs. search needs) returns returns-2 (λ c κs. search needs) returns-3 returns-4 returns-5)

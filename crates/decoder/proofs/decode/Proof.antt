@@ -1,13 +1,6 @@
 -- `decoder::decode` meets its contract: the causes in their order, then the run. Assumes nothing.
-use mathlib.Core.Bool.{Bool, false, _||_}
-use mathlib.Core.List.{List, [], _∷_}
-use mathlib.Core.Path.{_≡_, sym, ap, ap₂, _∙_}
-use Prim.Native.Nat.{ℕ, _+_, _-_, _*_}
-use native.Mathlib.Omega.{arith}
-use borrow.Author.Needs.{needs}
-use borrow.Author.Tests.{ltb-false, eqb-true, not-false}
-use lib.Dec.{eqb}
-use lib.ListN.{length}
+use Rattle.integers.proofs.Prelude.{_≡_, sym, ap, ap₂, _∙_, Bool, false, _||_, List, [], _∷_, ℕ, _+_, _-_, _*_, arith, needs, ltb-false, eqb-true, not-false}
+use Rattle.integers.proofs.Prelude.{eqb, length}
 use Rattle.lists.specs.Entries.{some}
 use Rattle.model.specs.Calls.{outOfRange, unequal, forbidden, Lists, noRoom}
 use Rattle.model.specs.Causes.{_if_, firstOf, short}
@@ -18,15 +11,6 @@ use Rattle.records.proofs.Answers.{Read, told-code, told-refused}
 use Rattle.decoder.proofs.Decoded.{after-judgement, unsound, refused, accepted-is}
 use Rattle.decoder.proofs.decode.Statement.{statement}
 use Rattle.decoder.proofs.decode.Tie as tie
-
-read-requires : tie.Need-read-requires
-read-requires c κs = search needs
-
-enum-known-reading : tie.Need-enum-known-reading
-enum-known-reading c = search needs
-
-enum-known-reading-2 : tie.Need-enum-known-reading-2
-enum-known-reading-2 c = search needs
 
 -- ---- a sound code
 module _ (c : tie.After-reading2) where
@@ -63,9 +47,6 @@ sub-variables c = omega (arith, read (c .before))
 
 no-room-requires : tie.Need-no-room-requires
 no-room-requires c κs = read (c .before) .triples-most
-
-cause-requires : tie.Need-cause-requires
-cause-requires c κs = search needs
 
 -- ---- the causes after the judgement
 module _ (q : tie.After-cause) where
@@ -151,24 +132,6 @@ returns-2 c =
     (record { triples = a .triples .now; counts = a .counts .now; sums = a .sums .now; values = a .values .now; rows = a .rows .now; word = a .word .now })
     (g .0 .0) (e .0) (e .1 .0)
 
-same-length : tie.Need-same-length
-same-length c = search needs
-
-same-length-2 : tie.Need-same-length-2
-same-length-2 c = search needs
-
-same-length-3 : tie.Need-same-length-3
-same-length-3 c = search needs
-
-same-length-4 : tie.Need-same-length-4
-same-length-4 c = search needs
-
-same-length-5 : tie.Need-same-length-5
-same-length-5 c = search needs
-
-same-length-6 : tie.Need-same-length-6
-same-length-6 c = search needs
-
 returns-3 : tie.Need-returns-3
 returns-3 c =
     let d = c .before .before .before .before .before .before .before .before .before in
@@ -181,22 +144,6 @@ returns-3 c =
 
 pub decode-spec : {M : Type 1} → statement M
 decode-spec =
-    tie.close
-    (tie.spec
-    read-requires
-    enum-known-reading
-    enum-known-reading-2
-    add-variables
-    sub-variables
-    no-room-requires
-    cause-requires
-    returns
-    decode-accepted-requires
-    returns-2
-    same-length
-    same-length-2
-    same-length-3
-    same-length-4
-    same-length-5
-    same-length-6
-    returns-3)
+    tie.close (tie.spec (λ c κs. search needs) (λ c. search needs) (λ c. search needs) add-variables sub-variables no-room-requires (λ c κs. search needs)
+    returns decode-accepted-requires returns-2 (λ c. search needs) (λ c. search needs) (λ c. search needs) (λ c. search needs) (λ c. search needs)
+    (λ c. search needs) returns-3)

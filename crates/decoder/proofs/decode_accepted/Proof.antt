@@ -1,12 +1,5 @@
 -- `decoder::decode_accepted` meets its contract: the parts of the answer are those of the run. Assumes nothing.
-use mathlib.Core.List.{List}
-use mathlib.Core.Path.{_≡_, sym, ap, ap₂, _∙_}
-use Prim.Native.Nat.{ℕ}
-use native.Mathlib.Omega.{arith}
-use borrow.Author.Needs.{needs}
-use lib.IntN.{ℤ}
-use lib.ListN.{length, take, drop}
-use lib.Seq.{take-at}
+use Rattle.integers.proofs.Prelude.{_≡_, sym, ap, ap₂, _∙_, List, ℕ, arith, needs, ℤ, length, take, drop, take-at}
 use Rattle.lists.specs.Tabulated.{written}
 use Rattle.quotient.specs.Quotient.{quotient}
 use Rattle.model.specs.Calls.{Lists, Answer}
@@ -48,9 +41,6 @@ module _ (r : tie.After-run-system) where
   part-long : length (take (s .args .variables) (r .run-system .last .1 .1 .1 .1 .1 .1 .1 .1 .0)) ≡ s .args .variables
   part-long = ap length part-is ∙ r .run-system .ensures .1 .5
 
-slice-reshare-prefix-conclude : tie.Need-slice-reshare-prefix-conclude
-slice-reshare-prefix-conclude c = search needs
-
 slice-aggregate-conclude : tie.Need-slice-aggregate-conclude
 slice-aggregate-conclude c = sym (part-long (c .before .before .before .before .before .before .before .before))
 
@@ -60,24 +50,6 @@ conclude-requires c κs =
     let p = s r .pre .0 in
     let bits-most = accepted (s r .args .code .now) (p .0) .bits-most in
     ((p .0, p .1, p .2), (omega (arith, p .1, bits-most), omega (arith, part-long r, p .1, p .4), s r .pre .1 .1 .1 .3))
-
-same-length : tie.Need-same-length
-same-length c = search needs
-
-same-length-2 : tie.Need-same-length-2
-same-length-2 c = search needs
-
-same-length-3 : tie.Need-same-length-3
-same-length-3 c = search needs
-
-same-length-4 : tie.Need-same-length-4
-same-length-4 c = search needs
-
-same-length-5 : tie.Need-same-length-5
-same-length-5 c = search needs
-
-same-length-6 : tie.Need-same-length-6
-same-length-6 c = search needs
 
 returns : tie.Need-returns
 returns c =
@@ -96,16 +68,5 @@ returns c =
 
 pub decode-accepted-spec : {M : Type 1} → statement M
 decode-accepted-spec =
-    tie.close
-    (tie.spec
-    run-system-requires
-    slice-reshare-prefix-conclude
-    slice-aggregate-conclude
-    conclude-requires
-    same-length
-    same-length-2
-    same-length-3
-    same-length-4
-    same-length-5
-    same-length-6
-    returns)
+    tie.close (tie.spec run-system-requires (λ c. search needs) slice-aggregate-conclude conclude-requires (λ c. search needs) (λ c. search needs)
+    (λ c. search needs) (λ c. search needs) (λ c. search needs) (λ c. search needs) returns)

@@ -1,11 +1,5 @@
 -- `decoder::run_system` meets its contract: the parts that are lent hold the code's system. Assumes nothing.
-use mathlib.Core.List.{List}
-use mathlib.Core.Path.{_≡_, sym, ap, ap₂, _∙_, subst}
-use Prim.Native.Nat.{ℕ, _*_}
-use borrow.Author.Needs.{needs}
-use lib.Dec.{ltb}
-use lib.ListN.{length, take, drop}
-use lib.Seq.{length-take-le, take-at}
+use Rattle.integers.proofs.Prelude.{_≡_, sym, ap, ap₂, subst, _∙_, List, ℕ, _*_, needs, ltb, length, take, drop, length-take-le, take-at}
 use Rattle.lists.proofs.Parts.{lent-back}
 use Rattle.lists.proofs.Tabulated.{length-tab}
 use Rattle.quotient.specs.Quotient.{quotient}
@@ -143,6 +137,6 @@ returns c =
 
 pub run-system-spec : {M : Type 1} → statement M
 run-system-spec =
-    tie.close (tie.spec write-system-requires (λ c. search needs) (λ c. search needs) slice-aggregate-run (λ c. search needs) slice-aggregate-run-2
-    (λ c. search needs) slice-aggregate-run-3 (λ c. search needs) slice-aggregate-run-4 (λ c. search needs) (λ c. search needs) slice-aggregate-run-5
-    run-requires (λ c. search needs) (λ c. search needs) (λ c. search needs) (λ c. search needs) (λ c. search needs) returns)
+    tie.close (tie.spec write-system-requires (λ c. search needs) (λ c. search needs) slice-aggregate-run (λ c. search needs) slice-aggregate-run-2 (λ c.
+    search needs) slice-aggregate-run-3 (λ c. search needs) slice-aggregate-run-4 (λ c. search needs) (λ c. search needs) slice-aggregate-run-5 run-requires
+    (λ c. search needs) (λ c. search needs) (λ c. search needs) (λ c. search needs) (λ c. search needs) returns)

@@ -1,9 +1,5 @@
 -- `frames::main` is safe and ends: before each read the state holds what `session::advance` requires of it. Assumes nothing.
-use mathlib.Core.Path.{_≡_, sym}
-use native.Mathlib.Omega.{arith}
-use lib.Seq.{length-take-le}
-use lib.ListN.{length, take}
-use borrow.Author.Needs.{needs}
+use Rattle.integers.proofs.Prelude.{_≡_, sym, arith, needs, length, take, length-take-le}
 use Rattle.session.specs.Session.{Held}
 use Rattle.session.proofs.Turns.{start-held}
 use Rattle.session.proofs.Steps.{sent-held}

@@ -1,8 +1,6 @@
 -- `frames::read` meets its contract: what stands before `at` stays. Assumes nothing.
-use Prim.Native.Nat.{_+_, _-_}
-use native.Mathlib.Omega.{arith}
+use Rattle.integers.proofs.Prelude.{_+_, _-_, arith, needs}
 use borrow.Rule.Slice.PartMut.{take-put}
-use borrow.Author.Needs.{needs}
 use Rattle.frames.proofs.read.Statement.{statement}
 use Rattle.frames.proofs.read.Tie as tie
 

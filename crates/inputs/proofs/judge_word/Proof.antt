@@ -1,10 +1,5 @@
 -- `inputs::judge_word` meets its contract: the tests in order. Assumes nothing.
-use mathlib.Core.Bool.{true}
-use mathlib.Core.Path.{_≡_, sym, _∙_}
-use borrow.Author.Needs.{needs}
-use borrow.Author.Tests.{eq-eqb, ne-eqb}
-use lib.Dec.{eqb}
-use lib.ListN.{length}
+use Rattle.integers.proofs.Prelude.{_≡_, sym, _∙_, true, needs, eq-eqb, ne-eqb, eqb, length}
 use Rattle.inputs.proofs.judge_word.Statement.{statement}
 use Rattle.inputs.proofs.judge_word.Tie as tie
 

@@ -1,12 +1,6 @@
 -- `inputs::some_forbidden` meets its contract: what was found, or is still to be found, decides. Assumes nothing.
-use mathlib.Core.Path.{_≡_, refl, sym, ap, _∙_}
-use Prim.Native.Nat.{ℕ, _-_, _^_, _<_}
-use native.Mathlib.Omega.{arith}
-use borrow.Author.Needs.{needs}
-use lib.IntN.{pos}
-use lib.ListN.{length, getD}
+use Rattle.integers.proofs.Prelude.{_≡_, refl, sym, ap, _∙_, ℕ, _-_, _^_, _<_, arith, needs, pos, length, getD, w16}
 use lib.Signed.{mag}
-use mir.Syntax.{w16}
 use Rattle.integers.proofs.Machine.{kept}
 use Rattle.lists.proofs.Entries.{Found, found-next, found-end, below-next}
 use Rattle.model.specs.Iteration.{at}

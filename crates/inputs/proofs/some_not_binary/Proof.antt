@@ -1,8 +1,5 @@
 -- `inputs::some_not_binary` meets its contract: what was found, or is still to be found, decides. Assumes nothing.
-use mathlib.Core.Path.{refl}
-use Prim.Native.Nat.{_-_}
-use borrow.Author.Needs.{needs}
-use lib.ListN.{length}
+use Rattle.integers.proofs.Prelude.{refl, _-_, needs, length}
 use Rattle.lists.proofs.Entries.{Found, found-next, found-end}
 use Rattle.model.specs.Calls.{notBinary}
 use Rattle.inputs.proofs.some_not_binary.Statement.{statement}

@@ -1,10 +1,9 @@
 -- `layout::column` meets its contract. Assumes nothing.
-use mir.Syntax.{w32}
+use Rattle.integers.proofs.Prelude.{needs, w32}
 use Rattle.integers.proofs.Machine.{held}
 use Rattle.model.specs.Limits.{mostRow}
 use Rattle.rows.proofs.Four.{four-are}
 use Rattle.layout.specs.Transposed.{cell}
-use borrow.Author.Needs.{needs}
 use Rattle.layout.proofs.column.Statement.{statement}
 use Rattle.layout.proofs.column.Tie as tie
 
@@ -21,5 +20,5 @@ returns c =
 
 pub column-spec : {M : Type 1} → statement M
 column-spec =
-    tie.close (tie.spec (λ c. search needs) (λ c. search needs) (λ c. search needs) (λ c. search needs) (λ c. search needs) (λ c. search needs)
-    (λ c. search needs) (λ c. search needs) (λ c. search needs) (λ c. search needs) (λ c. search needs) (λ c. search needs) returns)
+    tie.close (tie.spec (λ c. search needs) (λ c. search needs) (λ c. search needs) (λ c. search needs) (λ c. search needs) (λ c. search needs) (λ c. search
+    needs) (λ c. search needs) (λ c. search needs) (λ c. search needs) (λ c. search needs) (λ c. search needs) returns)

@@ -1,13 +1,8 @@
 -- `layout::load_all` meets its contract. Assumes nothing.
-use mathlib.Core.List.{List}
-use mathlib.Core.Path.{_≡_, ap, _∙_}
-use Prim.Native.Nat.{ℕ, _+_}
-use native.Mathlib.Omega.{arith}
-use lib.IntN.{ℤ}
+use Rattle.integers.proofs.Prelude.{_≡_, ap, _∙_, List, ℕ, _+_, arith, needs, ℤ}
 use Rattle.lists.specs.Tabulated.{tab}
 use Rattle.model.specs.Iteration.{row}
 use Rattle.rows.proofs.Four.{four-are}
-use borrow.Author.Needs.{needs}
 use Rattle.layout.proofs.load_all.Statement.{statement}
 use Rattle.layout.proofs.load_all.Tie as tie
 
@@ -21,5 +16,5 @@ returns c =
 
 pub load-all-spec : {M : Type 1} → statement M
 load-all-spec =
-    tie.close (tie.spec (λ c κs. search needs) (λ c. search needs) (λ c κs. search needs) (λ c. search needs) (λ c κs. search needs) (λ c. search needs)
-    (λ c κs. search needs) returns)
+    tie.close (tie.spec (λ c κs. search needs) (λ c. search needs) (λ c κs. search needs) (λ c. search needs) (λ c κs. search needs) (λ c. search needs) (λ c
+    κs. search needs) returns)

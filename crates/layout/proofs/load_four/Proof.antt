@@ -1,14 +1,9 @@
 -- `layout::load_four` meets its contract. Assumes nothing.
-use mathlib.Core.List.{List}
-use mathlib.Core.Path.{ap, _∙_}
-use Prim.Native.Nat.{_+_, _*_}
-use native.Mathlib.Omega.{arith}
-use lib.IntN.{ℤ}
+use Rattle.integers.proofs.Prelude.{ap, _∙_, List, _+_, _*_, arith, needs, ℤ}
 use Rattle.lists.specs.Tabulated.{tab}
 use Rattle.model.specs.Iteration.{row}
 use Rattle.layout.specs.Transposed.{cell}
 use Rattle.layout.proofs.Places.{fours-are}
-use borrow.Author.Needs.{needs}
 use Rattle.layout.proofs.load_four.Statement.{statement}
 use Rattle.layout.proofs.load_four.Tie as tie
 

@@ -1,16 +1,9 @@
 -- `layout::store_all` meets its contract. Assumes nothing.
-use mathlib.Core.List.{List, []}
-use mathlib.Core.Path.{ap, _∙_}
-use Prim.Native.Nat.{ℕ, _+_, _*_, _≤_}
-use native.Mathlib.Omega.{arith}
-use lib.IntN.{ℤ, natAbs}
-use lib.ListN.{getD}
-use lib.Seq.{sets}
+use Rattle.integers.proofs.Prelude.{ap, _∙_, List, [], ℕ, _+_, _*_, _≤_, arith, needs, ℤ, natAbs, getD, sets}
 use Rattle.lists.specs.Tabulated.{tab}
 use Rattle.model.specs.Limits.{mostRow}
 use Rattle.model.specs.Iteration.{at}
 use Rattle.layout.specs.Transposed.{cell}
-use borrow.Author.Needs.{needs}
 use Rattle.layout.proofs.Places.{sets-fours}
 use Rattle.layout.proofs.store_all.Statement.{statement}
 use Rattle.layout.proofs.store_all.Tie as tie
@@ -38,7 +31,13 @@ returns c =
 
 pub store-all-spec : {M : Type 1} → statement M
 store-all-spec =
-    tie.close (tie.spec (λ c. search needs) (λ c κs. (search needs, small (c .before .before) 0)) (λ c. search needs) (λ c. search needs)
-    (λ c κs. (search needs, small (start (c .before .before .before)) 1)) (λ c. search needs) (λ c. search needs)
-    (λ c κs. (search needs, small (start (first (c .before .before .before))) 2)) (λ c. search needs) (λ c. search needs)
-    (λ c κs. (search needs, small (start (first (second (c .before .before .before)))) 3)) (λ c. search needs) returns)
+    tie.close (tie.spec (λ c. search needs) (λ c κs. (search needs, small (c .before .before) 0)) (λ c. search needs) (λ c. search needs) (λ c κs. (
+      search
+          needs,
+      small (start (c .before .before .before)) 1,
+    )) (λ c. search needs) (λ c. search needs) (λ c κs. (
+      search needs,
+      small (start (first (c .before
+          .before .before))) 2,
+    )) (λ c. search needs) (λ c. search needs) (λ c κs. (search needs, small (start (first (second (c .before .before .before)))) 3)) (λ
+    c. search needs) returns)

@@ -1,14 +1,8 @@
 -- `layout::store_four` meets its contract. Assumes nothing.
-use mathlib.Core.List.{List}
-use mathlib.Core.Path.{ap, _∙_}
-use Prim.Native.Nat.{_*_, _/_, _%_}
-use native.Mathlib.Omega.{arith}
-use lib.IntN.{ℤ}
-use lib.Seq.{sets}
+use Rattle.integers.proofs.Prelude.{ap, _∙_, List, _*_, _/_, _%_, arith, needs, ℤ, sets}
 use Rattle.lists.specs.Tabulated.{tab}
 use Rattle.layout.specs.Transposed.{cell}
 use Rattle.layout.proofs.Places.{fours-are}
-use borrow.Author.Needs.{needs}
 use Rattle.layout.proofs.store_four.Statement.{statement}
 use Rattle.layout.proofs.store_four.Tie as tie
 

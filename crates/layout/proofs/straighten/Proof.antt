@@ -1,10 +1,5 @@
 -- `layout::straighten` meets its contract: the rows of the triples before t are straight. Assumes nothing.
-use mathlib.Core.List.{List}
-use mathlib.Core.Path.{_≡_, sym, ap, _∙_}
-use Prim.Native.Nat.{ℕ, _+_, _-_, _*_, _%_, _≤_}
-use native.Mathlib.Omega.{arith}
-use lib.IntN.{ℤ, pos}
-use lib.ListN.{length}
+use Rattle.integers.proofs.Prelude.{_≡_, sym, ap, _∙_, List, ℕ, _+_, _-_, _*_, _%_, _≤_, arith, ℤ, pos, length}
 use Rattle.lists.specs.Tabulated.{over}
 use Rattle.lists.proofs.Tabulated.{tab-same, length-over, over-out, over-same, over-self, over-whole}
 use Rattle.model.specs.Iteration.{at, row}
@@ -94,5 +89,5 @@ returns c =
 
 pub straighten-spec : {M : Type 1} → statement M
 straighten-spec =
-    tie.close (tie.spec Inv-loop μ-loop loop-holds load-all-requires store-four-requires (λ c. omega (arith, start (at-loop c) .pre .0, below c))
-    (λ c. omega (arith, below c)) loop-again (λ c. long (c .before) ∙ start (c .before) .pre .1) returns)
+    tie.close (tie.spec Inv-loop μ-loop loop-holds load-all-requires store-four-requires (λ c. omega (arith, start (at-loop c) .pre .0, below c)) (λ c. omega
+    (arith, below c)) loop-again (λ c. long (c .before) ∙ start (c .before) .pre .1) returns)

@@ -1,7 +1,5 @@
 -- `lines::begin` meets its contract: a letter and two fields. Assumes nothing.
-use mathlib.Core.List.{[], _∷_, _++_, append-assoc}
-use native.Mathlib.Omega.{arith}
-use borrow.Author.Needs.{needs}
+use Rattle.integers.proofs.Prelude.{[], _∷_, _++_, append-assoc, arith, needs}
 use Rattle.model.specs.Text.{decimal}
 use Rattle.program.specs.Frames.{opening}
 use Rattle.text.proofs.Appended.{then}

@@ -1,5 +1,5 @@
 -- `lines::glyph` meets its contract: the definition's own test. Assumes nothing.
-use borrow.Author.Tests.{ne-eqb}
+use Rattle.integers.proofs.Prelude.{ne-eqb}
 use Rattle.lines.proofs.glyph.Statement.{statement}
 use Rattle.lines.proofs.glyph.Tie as tie
 

@@ -1,10 +1,5 @@
 -- `lines::line` meets its contract: each case has its letter, and a refusal's number is none of an outcome. Assumes nothing.
-use mathlib.Core.Path.{_≡_, subst}
-use mathlib.Core.List.{List}
-use Prim.Native.Nat.{ℕ}
-use native.Mathlib.Omega.{arith}
-use borrow.Author.Needs.{needs}
-use borrow.Author.Tests.{ne-eqb}
+use Rattle.integers.proofs.Prelude.{_≡_, subst, List, ℕ, arith, needs, ne-eqb}
 use Rattle.model.specs.declared.Decoding.{Decoding}
 use Rattle.model.specs.Calls.{decodingTold}
 use Rattle.program.specs.Frames.{refusal, spaced, line}
@@ -37,5 +32,5 @@ returns-4 c =
 
 pub line-spec : {M : Type 1} → statement M
 line-spec =
-    tie.close (tie.spec (λ c. search needs) (λ c κs. search needs) (λ c. search needs) (λ c κs. search needs) (λ c. search needs) (λ c κs. search needs)
-    (λ c. search needs) (λ c κs. search needs) (λ c. search needs) returns (λ c. search needs) returns-2 (λ c. search needs) returns-3 (λ c. search needs) returns-4)
+    tie.close (tie.spec (λ c. search needs) (λ c κs. search needs) (λ c. search needs) (λ c κs. search needs) (λ c. search needs) (λ c κs. search needs) (λ c.
+    search needs) (λ c κs. search needs) (λ c. search needs) returns (λ c. search needs) returns-2 (λ c. search needs) returns-3 (λ c. search needs) returns-4)

@@ -1,5 +1,5 @@
 -- `lines::place_line` meets its contract: the opening, then the place. Assumes nothing.
-use borrow.Author.Needs.{needs}
+use Rattle.integers.proofs.Prelude.{needs}
 use Rattle.text.proofs.Appended.{then}
 use Rattle.lines.proofs.place_line.Statement.{statement}
 use Rattle.lines.proofs.place_line.Tie as tie

@@ -1,12 +1,7 @@
 -- `lines::put_bits` meets its contract: after i turns the first i bits are written. Assumes nothing.
-use mathlib.Core.Path.{_≡_, _∙_}
-use mathlib.Core.List.{[], _∷_, _++_, map, map-append}
-use Prim.Native.Nat.{_+_, _-_, _≤_}
-use native.Mathlib.Numerals.{add-one}
-use native.Mathlib.Omega.{arith}
-use borrow.Author.Needs.{needs}
-use lib.ListN.{length, take, getD, length-map}
-use lib.Seq.{take-suc, take-all, length-take-le}
+use Rattle.integers.proofs.Prelude.{_≡_, _∙_, [], _∷_, _++_, map, _+_, _-_, _≤_, arith, add-one, needs, length, getD, take, length-map, length-take-le}
+use Rattle.integers.proofs.Prelude.{take-all, take-suc}
+use mathlib.Core.List.{map-append}
 use Rattle.program.specs.Frames.{glyph}
 use Rattle.text.specs.Appended.{Appended}
 use Rattle.text.proofs.Appended.{none, long, then}

@@ -1,6 +1,5 @@
 -- `lines::put_letter` meets its contract: two pieces. Assumes nothing.
-use native.Mathlib.Omega.{arith}
-use borrow.Author.Needs.{needs}
+use Rattle.integers.proofs.Prelude.{arith, needs}
 use Rattle.text.proofs.Appended.{then}
 use Rattle.lines.proofs.put_letter.Statement.{statement}
 use Rattle.lines.proofs.put_letter.Tie as tie

@@ -1,5 +1,5 @@
 -- `lines::refusal` meets its contract: the letter, then the number. Assumes nothing.
-use borrow.Author.Needs.{needs}
+use Rattle.integers.proofs.Prelude.{needs}
 use Rattle.program.specs.Frames.{refusal}
 use Rattle.text.proofs.Appended.{then}
 use Rattle.lines.proofs.refusal.Statement.{statement}

@@ -1,9 +1,5 @@
 -- `lines::word_line` meets its contract: the opening, the bits, a line feed. Assumes nothing.
-use mathlib.Core.List.{List, [], _∷_, _++_, map, append-assoc}
-use Prim.Native.Nat.{ℕ, _+_, _≤_}
-use native.Mathlib.Omega.{arith}
-use borrow.Author.Needs.{needs}
-use lib.ListN.{length, length-map}
+use Rattle.integers.proofs.Prelude.{List, [], _∷_, _++_, map, append-assoc, ℕ, _+_, _≤_, arith, needs, length, length-map}
 use Rattle.program.specs.Frames.{glyph, opening}
 use Rattle.text.specs.Appended.{Appended}
 use Rattle.text.proofs.Appended.{long, then}

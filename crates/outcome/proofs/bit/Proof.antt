@@ -1,11 +1,5 @@
 -- `outcome::bit` meets its contract. Assumes nothing.
-use mathlib.Core.Bool.{Bool, true, false}
-use mathlib.Core.Path.{_≡_, sym, ap, _∙_}
-use lib.IntN.{pos}
-use lib.Signed.{ltZ}
-use mir.Facts.{toZ-ofZ}
-use mir.Syntax.{w16}
-use mir.Val.{toZ, ofZ}
+use Rattle.integers.proofs.Prelude.{_≡_, sym, ap, _∙_, Bool, true, false, pos, ltZ, w16, toZ, ofZ, toZ-ofZ}
 use Rattle.model.specs.Causes.{_if_}
 use Rattle.model.specs.Words.{bitOf}
 use Rattle.outcome.proofs.bit.Statement.{statement}

@@ -1,11 +1,5 @@
 -- `outcome::conclude` meets its contract: the first thing found decides. Assumes nothing.
-use mathlib.Core.List.{List}
-use mathlib.Core.Path.{_≡_, refl, ap, _∙_}
-use Prim.Native.Nat.{ℕ}
-use native.Mathlib.Omega.{arith}
-use borrow.Author.Needs.{needs}
-use lib.Dec.{eqb}
-use lib.IntN.{ℤ, natAbs}
+use Rattle.integers.proofs.Prelude.{_≡_, refl, ap, _∙_, List, ℕ, arith, needs, eqb, ℤ, natAbs}
 use Rattle.lists.specs.Entries.{first}
 use Rattle.lists.specs.Tabulated.{over, written}
 use Rattle.lists.proofs.Tabulated.{over-tab}

@@ -1,11 +1,5 @@
 -- `outcome::first_odd_in` meets its contract: the first entries of `aside` are the word. Assumes nothing.
-use mathlib.Core.List.{_++_}
-use mathlib.Core.Path.{_≡_, sym, ap, _∙_}
-use Prim.Native.Nat.{ℕ}
-use native.Mathlib.Omega.{arith}
-use borrow.Author.Needs.{needs}
-use lib.ListN.{length, take, drop}
-use lib.Seq.{length-take-le, take-at}
+use Rattle.integers.proofs.Prelude.{_≡_, sym, ap, _∙_, _++_, ℕ, arith, needs, length, take, drop, length-take-le, take-at}
 use Rattle.lists.specs.Tabulated.{tab}
 use Rattle.lists.proofs.Tabulated.{length-tab, over-whole}
 use Rattle.model.specs.Iteration.{at}
@@ -59,5 +53,5 @@ returns c = let w = c .before .before .before .before in c .first-odd .ensures �
 
 pub first-odd-in-spec : {M : Type 1} → statement M
 first-odd-in-spec =
-    tie.close (tie.spec (λ c. search needs) slice-aggregate-write-word write-word-requires (λ c. search needs) slice-aggregate-first-odd first-odd-requires
-    (λ c. search needs) returns)
+    tie.close (tie.spec (λ c. search needs) slice-aggregate-write-word write-word-requires (λ c. search needs) slice-aggregate-first-odd first-odd-requires (λ
+    c. search needs) returns)

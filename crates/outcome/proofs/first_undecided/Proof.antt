@@ -1,12 +1,5 @@
 -- `outcome::first_undecided` meets its contract: no value before v is 0. Assumes nothing.
-use mathlib.Core.Bool.{Bool, false}
-use mathlib.Core.Path.{_≡_, sym, ap, _∙_}
-use Prim.Native.Nat.{ℕ, _-_, _≤_, _<_}
-use native.Mathlib.Omega.{arith}
-use borrow.Author.Needs.{needs}
-use lib.Dec.{eqb}
-use lib.IntN.{ℤ, natAbs}
-use mir.Syntax.{w16}
+use Rattle.integers.proofs.Prelude.{_≡_, sym, ap, _∙_, Bool, false, ℕ, _-_, _≤_, _<_, arith, needs, eqb, ℤ, natAbs, w16}
 use Rattle.integers.proofs.Machine.{kept}
 use Rattle.lists.proofs.Entries.{below-next, first-at, first-none}
 use Rattle.model.specs.Iteration.{at}
@@ -51,5 +44,5 @@ returns-2 c =
 
 pub first-undecided-spec : {M : Type 1} → statement M
 first-undecided-spec =
-    tie.close (tie.spec Inv-loop μ-loop loop-holds (λ c. search needs) (λ c. search needs) (λ c κs. search needs) returns (λ c. search needs)
-    (λ c. search needs) loop-again returns-2)
+    tie.close (tie.spec Inv-loop μ-loop loop-holds (λ c. search needs) (λ c. search needs) (λ c κs. search needs) returns (λ c. search needs) (λ c. search
+    needs) loop-again returns-2)

@@ -1,13 +1,6 @@
 -- `outcome::is_zero` meets its contract: the test is one of bits. Assumes nothing.
-use mathlib.Core.Path.{_≡_, refl, sym, _∙_}
-use Prim.Native.Nat.{suc, _-_, _^_, _<_}
-use native.Mathlib.Omega.{arith}
-use borrow.Author.Tests.{ne-eqb}
-use lib.Dec.{eqb}
-use lib.IntN.{ℤ, pos, negsuc, natAbs}
+use Rattle.integers.proofs.Prelude.{_≡_, refl, sym, _∙_, suc, _-_, _^_, _<_, arith, ne-eqb, eqb, ℤ, pos, negsuc, natAbs, w16, ofZ}
 use lib.Signed.{mag}
-use mir.Syntax.{w16}
-use mir.Val.{ofZ}
 use Rattle.outcome.proofs.is_zero.Statement.{statement}
 use Rattle.outcome.proofs.is_zero.Tie as tie
 

@@ -1,11 +1,5 @@
 -- `outcome::write_word` meets its contract: the first v entries are written. Assumes nothing.
-use mathlib.Core.Path.{_≡_, refl, sym, ap, _∙_}
-use Prim.Native.Nat.{ℕ, _-_, _≤_}
-use native.Mathlib.Numerals.{add-one}
-use native.Mathlib.Omega.{arith}
-use borrow.Author.Needs.{needs}
-use lib.ListN.{length}
-use mir.Syntax.{w16}
+use Rattle.integers.proofs.Prelude.{_≡_, refl, sym, ap, _∙_, ℕ, _-_, _≤_, arith, add-one, needs, length, w16}
 use Rattle.integers.proofs.Machine.{kept}
 use Rattle.lists.specs.Tabulated.{over}
 use Rattle.lists.proofs.Tabulated.{length-over, over-next}
@@ -56,5 +50,5 @@ returns c =
 
 pub write-word-spec : {M : Type 1} → statement M
 write-word-spec =
-    tie.close (tie.spec Inv-loop μ-loop loop-holds (λ c. search needs) (λ c. search needs) (λ c κs. search needs) slice-write-word (λ c. search needs)
-    (λ c. search needs) loop-again same-length returns)
+    tie.close (tie.spec Inv-loop μ-loop loop-holds (λ c. search needs) (λ c. search needs) (λ c κs. search needs) slice-write-word (λ c. search needs) (λ c.
+    search needs) loop-again same-length returns)

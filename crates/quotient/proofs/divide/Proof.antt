@@ -1,11 +1,5 @@
 -- `quotient::divide` meets its contract: what is cut off changes no quotient. Assumes nothing.
-use mathlib.Core.Path.{_≡_, sym, ap, ap₂, _∙_}
-use Prim.Native.Nat.{ℕ, _*_, _≤_, _<_, min}
-use native.Mathlib.Omega.{arith}
-use lib.IntN.{ℤ, pos, natAbs, _*ℤ_}
-use mir.Syntax.{w16, w64}
-use mir.Val.{toZ, ofZ}
-use mir.Facts.{toZ-ofZ}
+use Rattle.integers.proofs.Prelude.{_≡_, sym, ap, ap₂, _∙_, ℕ, _*_, _≤_, _<_, min, arith, ℤ, pos, natAbs, _*ℤ_, w16, w64, toZ, ofZ, toZ-ofZ}
 use Rattle.integers.proofs.Linear.{readℤ}
 use Rattle.integers.proofs.Machine.{Worth, held, literal, also, times, fits, stored, read-back}
 use Rattle.quotient.specs.Quotient.{unit, quotient, signed}

@@ -1,11 +1,5 @@
 -- `quotient::divide_opposite` meets its contract. Assumes nothing.
-use mathlib.Core.Path.{_≡_, ap, ap₂, _∙_}
-use Prim.Native.Nat.{_*_, _/_, _^_}
-use native.Mathlib.Omega.{arith}
-use lib.IntN.{ℤ, pos, negℤ, natAbs, _+ℤ_, _-ℤ_, _*ℤ_}
-use mir.Syntax.{w16, w64}
-use mir.Val.{toZ, ofZ}
-use mir.Facts.{toZ-ofZ}
+use Rattle.integers.proofs.Prelude.{_≡_, ap, ap₂, _∙_, _*_, _/_, _^_, arith, ℤ, pos, natAbs, negℤ, _+ℤ_, _-ℤ_, _*ℤ_, w16, w64, toZ, ofZ, toZ-ofZ}
 use Rattle.integers.proofs.Linear.{split, toℕ, abs-add}
 use Rattle.integers.proofs.Machine.{Worth, unsigned, fits, fits-one, stored, read-back}
 use Rattle.quotient.specs.Quotient.{unit, quotient}

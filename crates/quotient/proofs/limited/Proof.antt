@@ -1,12 +1,6 @@
 -- `quotient::limited` meets its contract. Assumes nothing.
 use mathlib.Core.Logic.{inl, inr}
-use mathlib.Core.Path.{_≡_, ap, _∙_}
-use Prim.Native.Nat.{_*_, min}
-use native.Mathlib.Omega.{arith}
-use lib.IntN.{pos, negℤ, natAbs, _-ℤ_}
-use mir.Syntax.{w64}
-use mir.Val.{toZ, ofZ}
-use mir.Facts.{toZ-ofZ}
+use Rattle.integers.proofs.Prelude.{_≡_, ap, _∙_, _*_, min, arith, pos, natAbs, negℤ, _-ℤ_, w64, toZ, ofZ, toZ-ofZ}
 use Rattle.integers.specs.Parts.{up, dn}
 use Rattle.integers.proofs.Linear.{readℤ, ltZ-true, ltZ-false, about, about-neg}
 use Rattle.integers.proofs.Machine.{Worth, held, negative, fits, stored}

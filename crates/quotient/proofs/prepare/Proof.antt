@@ -1,12 +1,7 @@
 -- `quotient::prepare` meets its contract. Assumes nothing.
-use mathlib.Core.Path.{_≡_, ap}
-use Prim.Native.Nat.{ℕ, _+_, _*_, _/_, _^_, _≤_, _<_}
-use native.Mathlib.Omega.{arith}
+use Rattle.integers.proofs.Prelude.{_≡_, ap, ℕ, _+_, _*_, _/_, _^_, _≤_, _<_, arith, pos, natAbs, _+ℤ_, _*ℤ_, w64, toZ, ofZ}
 use native.Mathlib.Nat.{div-le-self}
-use lib.IntN.{pos, natAbs, _+ℤ_, _*ℤ_}
 use lib.Signed.{quotZ}
-use mir.Syntax.{w64}
-use mir.Val.{toZ, ofZ}
 use Rattle.integers.proofs.Machine.{Worth, held, literal, also, plus, times, fits, stored}
 use Rattle.quotient.specs.Quotient.{unit}
 use Rattle.quotient.proofs.Magnitudes.{positive}

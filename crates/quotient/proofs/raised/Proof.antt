@@ -1,12 +1,5 @@
 -- `quotient::raised` meets its contract. Assumes nothing.
-use mathlib.Core.Path.{_≡_, ap, ap₂, _∙_}
-use Prim.Native.Nat.{ℕ, _+_, _/_, _^_, _≤_}
-use native.Mathlib.Omega.{arith}
-use borrow.Author.Needs.{needs}
-use lib.IntN.{ℤ, pos, negℤ, natAbs, _-ℤ_, _*ℤ_}
-use mir.Syntax.{w64}
-use mir.Val.{toZ, ofZ}
-use mir.Facts.{toZ-ofZ}
+use Rattle.integers.proofs.Prelude.{_≡_, ap, ap₂, _∙_, ℕ, _+_, _/_, _^_, _≤_, arith, needs, ℤ, pos, natAbs, negℤ, _-ℤ_, _*ℤ_, w64, toZ, ofZ, toZ-ofZ}
 use Rattle.integers.proofs.Linear.{about, about-neg, about-sum, above-abs, false-ltZ}
 use Rattle.integers.proofs.Machine.{Worth, literal, minus, fits, stored}
 use Rattle.quotient.proofs.Products.{raise}
@@ -34,15 +27,9 @@ sub-result c = fits (difference-is c) w64 tt
 cast-result : tie.Need-cast-result
 cast-result c = rw (stored (difference-is c) w64 tt .is ∙ not-negative raise (c .args .x *ℤ c .args .inverse) (c .pre)) (tt, record { fits = omega (arith, difference-is c .within) })
 
-cast-result-2 : tie.Need-cast-result-2
-cast-result-2 c = search needs
-
-div-result : tie.Need-div-result
-div-result c = search needs
-
 returns : tie.Need-returns
 returns c = ap (λ (z : ℤ). natAbs z / 2 ^ 47) (stored (difference-is c) w64 tt .is)
 
 pub raised-spec : {M : Type 1} → statement M
 raised-spec =
-    tie.close (tie.spec mul-result sub-result cast-result cast-result-2 div-result returns)
+    tie.close (tie.spec mul-result sub-result cast-result (λ c. search needs) (λ c. search needs) returns)

@@ -1,11 +1,6 @@
 -- `quotient::rounded` meets its contract. Assumes nothing.
-use mathlib.Core.Path.{_≡_, sym, ap, ap₂, _∙_}
-use Prim.Native.Nat.{ℕ, _+_, _*_, _<_, _≤_}
-use native.Mathlib.Omega.{arith}
-use lib.IntN.{ℤ, pos, natAbs, _+ℤ_, _*ℤ_}
+use Rattle.integers.proofs.Prelude.{_≡_, sym, ap, ap₂, _∙_, ℕ, _+_, _*_, _≤_, _<_, arith, ℤ, pos, natAbs, _+ℤ_, _*ℤ_, w16, w64, toZ, ofZ}
 use lib.Signed.{quotZ}
-use mir.Syntax.{w16, w64}
-use mir.Val.{toZ, ofZ}
 use Rattle.integers.proofs.Linear.{readℤ}
 use Rattle.integers.proofs.Machine.{Worth, held, literal, local, also, plus, times, fits, stored}
 use Rattle.quotient.specs.Quotient.{unit, quotient, signed}
@@ -75,5 +70,4 @@ returns c = stored (stored (result c) w64 tt) w16 tt .is
 
 pub rounded-spec : {M : Type 1} → statement M
 rounded-spec =
-    tie.close
-    (tie.spec mul-result with-sign-requires add-result mul-result-2 div-result cast-result returns)
+    tie.close (tie.spec mul-result with-sign-requires add-result mul-result-2 div-result cast-result returns)

@@ -1,10 +1,5 @@
 -- `quotient::with_sign` meets its contract. Assumes nothing.
-use mathlib.Core.Path.{_≡_}
-use native.Mathlib.Omega.{arith}
-use lib.IntN.{pos, natAbs}
-use mir.Syntax.{w64}
-use mir.Val.{toZ, ofZ}
-use mir.Facts.{toZ-ofZ}
+use Rattle.integers.proofs.Prelude.{_≡_, arith, pos, natAbs, w64, toZ, ofZ, toZ-ofZ}
 use Rattle.integers.proofs.Linear.{readℤ, above-abs, false-ltZ}
 use Rattle.integers.proofs.Machine.{Worth, held, negative, also, fits, stored}
 use Rattle.quotient.proofs.with_sign.Statement.{statement}

@@ -1,7 +1,5 @@
 -- `records::after_check` meets its contract. Assumes nothing.
-use mathlib.Core.Path.{_∙_}
-use Prim.Native.Nat.{_+_, _*_}
-use borrow.Author.Needs.{needs}
+use Rattle.integers.proofs.Prelude.{_∙_, _+_, _*_, needs}
 use Rattle.lists.proofs.Parts.{part-from}
 use Rattle.records.proofs.after_check.Statement.{statement}
 use Rattle.records.proofs.after_check.Tie as tie

@@ -1,5 +1,5 @@
 -- `records::after_header` meets its contract. Assumes nothing.
-use borrow.Author.Needs.{needs}
+use Rattle.integers.proofs.Prelude.{needs}
 use Rattle.lists.proofs.Parts.{part-from}
 use Rattle.records.proofs.after_header.Statement.{statement}
 use Rattle.records.proofs.after_header.Tie as tie

@@ -1,11 +1,6 @@
 -- `records::covers` meets its contract: the bits of the checks so far are marked. Assumes nothing.
-use mathlib.Core.Path.{_≡_, refl, sym, _∙_}
-use mathlib.Core.List.{List}
-use Prim.Native.Nat.{ℕ, _-_, _≤_, _<_}
-use native.Mathlib.Omega.{arith}
-use borrow.Author.Needs.{needs}
-use lib.Dec.{eqb}
-use lib.ListN.{length, getD-replicate}
+use Rattle.integers.proofs.Prelude.{_≡_, refl, sym, _∙_, List, ℕ, _-_, _≤_, _<_, arith, needs, eqb, length}
+use lib.ListN.{getD-replicate}
 use Rattle.lists.specs.Entries.{some}
 use Rattle.lists.proofs.Entries.{every-same}
 use Rattle.model.specs.Limits.{mostBits}
@@ -59,5 +54,5 @@ returns c =
 
 pub covers-spec : {M : Type 1} → statement M
 covers-spec =
-    tie.close (tie.spec Inv-loop μ-loop loop-holds (λ c κs. (c .before .before .before .before .pre .0, judged (c .before)))
-    (λ c κs. record-sound _ _ (judged (c .before .before)) .room) (λ c. search needs) (λ c. search needs) loop-again (λ c κs. search needs) returns)
+    tie.close (tie.spec Inv-loop μ-loop loop-holds (λ c κs. (c .before .before .before .before .pre .0, judged (c .before))) (λ c κs. record-sound _ _ (judged
+    (c .before .before)) .room) (λ c. search needs) (λ c. search needs) loop-again (λ c κs. search needs) returns)

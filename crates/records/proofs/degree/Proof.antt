@@ -1,7 +1,5 @@
 -- `records::degree` meets its contract: a check has as many indices as its degree says. Assumes nothing.
-use mathlib.Core.Path.{sym, _∙_}
-use borrow.Author.Needs.{needs}
-use lib.ListN.{drop}
+use Rattle.integers.proofs.Prelude.{sym, _∙_, needs, drop}
 use Rattle.model.specs.Records.{degree}
 use Rattle.model.proofs.Accepted.{length-numbers}
 use Rattle.records.proofs.degree.Statement.{statement}

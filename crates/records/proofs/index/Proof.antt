@@ -1,6 +1,5 @@
 -- `records::index` meets its contract. Assumes nothing.
-use mathlib.Core.Path.{sym, _∙_}
-use borrow.Author.Needs.{needs}
+use Rattle.integers.proofs.Prelude.{sym, _∙_, needs}
 use Rattle.records.proofs.Walk.{index-at}
 use Rattle.records.proofs.index.Statement.{statement}
 use Rattle.records.proofs.index.Tie as tie

@@ -1,9 +1,5 @@
 -- `records::judge_check` meets its contract: the tests in the definition's order. Assumes nothing.
-use mathlib.Core.Path.{_≡_, sym, _∙_}
-use mathlib.Core.List.{[], _∷_}
-use borrow.Author.Needs.{needs}
-use borrow.Author.Tests.{lt-ltb, le-ltb, ne-eqb}
-use lib.ListN.{drop}
+use Rattle.integers.proofs.Prelude.{_≡_, sym, _∙_, [], _∷_, needs, lt-ltb, le-ltb, ne-eqb, drop}
 use Rattle.lists.proofs.Parts.{part-from}
 use Rattle.model.specs.Limits.{leastDegree, mostDegree}
 use Rattle.model.specs.Causes.{_if_, firstOf, short, outside}
@@ -40,6 +36,5 @@ returns-5 c =
 
 pub judge-check-spec : {M : Type 1} → statement M
 judge-check-spec =
-    tie.close (tie.spec returns (λ c κs. search needs) returns-2 (λ c. rw (opened (c .before), lt-ltb _ 3 (c .if3 .taken))) (λ c κs. search needs)
-    (λ c κs. search needs) (λ c. rw (tested (c .before), c .if4 .taken)) (λ c. search needs) (λ c. search needs) (λ c. search needs) (λ c κs. search needs)
-    returns-5)
+    tie.close (tie.spec returns (λ c κs. search needs) returns-2 (λ c. rw (opened (c .before), lt-ltb _ 3 (c .if3 .taken))) (λ c κs. search needs) (λ c κs.
+    search needs) (λ c. rw (tested (c .before), c .if4 .taken)) (λ c. search needs) (λ c. search needs) (λ c. search needs) (λ c κs. search needs) returns-5)

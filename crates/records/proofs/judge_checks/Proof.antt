@@ -1,9 +1,5 @@
 -- `records::judge_checks` meets its contract: the records so far are sound. Assumes nothing.
-use mathlib.Core.Path.{_≡_, refl, sym, ap, _∙_}
-use Prim.Native.Nat.{_-_, _*_, _≤_}
-use native.Mathlib.Omega.{arith}
-use borrow.Author.Needs.{needs}
-use lib.ListN.{length}
+use Rattle.integers.proofs.Prelude.{_≡_, refl, sym, ap, _∙_, _-_, _*_, _≤_, arith, needs, length}
 use Rattle.lists.specs.Entries.{total}
 use Rattle.model.specs.Code.{tripleCount}
 use Rattle.model.specs.Records.{checksIn, judgeCheck, judgeChecks}
@@ -64,5 +60,5 @@ returns-2 c =
 
 pub judge-checks-spec : {M : Type 1} → statement M
 judge-checks-spec =
-    tie.close (tie.spec Inv-loop μ-loop loop-holds (λ c κs. search needs) returns (λ c κs. omega (arith, whole c)) (λ c. search needs)
-    (λ c κs. whole (c .before)) (λ c. search needs) (λ c. search needs) loop-again returns-2)
+    tie.close (tie.spec Inv-loop μ-loop loop-holds (λ c κs. search needs) returns (λ c κs. omega (arith, whole c)) (λ c. search needs) (λ c κs. whole (c
+    .before)) (λ c. search needs) (λ c. search needs) loop-again returns-2)

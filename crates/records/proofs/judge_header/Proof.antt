@@ -1,8 +1,5 @@
 -- `records::judge_header` meets its contract: the tests in the definition's order. Assumes nothing.
-use mathlib.Core.Path.{_≡_, sym, ap, _∙_}
-use mathlib.Core.List.{[], _∷_}
-use borrow.Author.Needs.{needs}
-use borrow.Author.Tests.{lt-ltb, le-ltb, ne-eqb}
+use Rattle.integers.proofs.Prelude.{_≡_, sym, ap, _∙_, [], _∷_, needs, lt-ltb, le-ltb, ne-eqb}
 use Rattle.model.specs.Limits.{mostBits, mostChecks}
 use Rattle.model.specs.Causes.{_if_, firstOf, short, outside}
 use Rattle.model.specs.Records.{bitCount, checkCount, judgeHeader}
@@ -48,6 +45,5 @@ returns-7 c = let e = c .before .before .before in rw (bits-passed (e .before), 
 
 pub judge-header-spec : {M : Type 1} → statement M
 judge-header-spec =
-    tie.close (tie.spec returns (λ c κs. search needs) returns-2 (λ c. rw (marked (c .before), lt-ltb _ 4 (c .if3 .taken))) (λ c κs. search needs)
-    (λ c κs. search needs) returns-4 (λ c. rw (bits-passed (c .before), lt-ltb _ 6 (c .if5 .taken))) (λ c κs. search needs) (λ c κs. search needs) returns-6
-    returns-7)
+    tie.close (tie.spec returns (λ c κs. search needs) returns-2 (λ c. rw (marked (c .before), lt-ltb _ 4 (c .if3 .taken))) (λ c κs. search needs) (λ c κs.
+    search needs) returns-4 (λ c. rw (bits-passed (c .before), lt-ltb _ 6 (c .if5 .taken))) (λ c κs. search needs) (λ c κs. search needs) returns-6 returns-7)

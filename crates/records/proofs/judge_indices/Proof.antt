@@ -1,13 +1,6 @@
 -- `records::judge_indices` meets its contract: what is left to read decides. Assumes nothing.
-use mathlib.Core.Path.{_≡_, refl}
-use mathlib.Core.List.{List, [], _∷_}
-use Prim.Native.Nat.{ℕ, zero, suc, _+_, _-_, _<_}
-use native.Mathlib.Numerals.{add-one}
-use native.Mathlib.Omega.{arith}
-use borrow.Author.Needs.{needs}
-use borrow.Author.Tests.{lt-ltb, le-ltb, le-leb, lt-leb}
-use lib.Dec.{ltb, leb}
-use lib.ListN.{drop}
+use Rattle.integers.proofs.Prelude.{_≡_, refl, List, [], _∷_, ℕ, zero, suc, _+_, _-_, _<_, arith, add-one, needs, lt-ltb, le-ltb, lt-leb, le-leb, ltb, leb}
+use Rattle.integers.proofs.Prelude.{drop}
 use Rattle.lists.proofs.Parts.{part-from}
 use Rattle.model.specs.Causes.{_if_, firstOf, short}
 use Rattle.model.specs.Records.{twoBytes, judgeIndices}
@@ -62,5 +55,5 @@ returns-4 c =
 
 pub judge-indices-spec : {M : Type 1} → statement M
 judge-indices-spec =
-    tie.close (tie.spec Inv-loop μ-loop (λ c. refl) returns (λ c κs. search needs) (λ c. rw (at-index (c .before), le-leb _ _ (c .if2 .taken))) returns-3
-    (λ c. omega arith) (λ c. search needs) (λ c. search needs) (λ c. search needs) (λ c. search needs) (λ c. search needs) loop-again returns-4)
+    tie.close (tie.spec Inv-loop μ-loop (λ c. refl) returns (λ c κs. search needs) (λ c. rw (at-index (c .before), le-leb _ _ (c .if2 .taken))) returns-3 (λ
+    c. omega arith) (λ c. search needs) (λ c. search needs) (λ c. search needs) (λ c. search needs) (λ c. search needs) loop-again returns-4)

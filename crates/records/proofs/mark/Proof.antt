@@ -1,13 +1,6 @@
 -- `records::mark` meets its contract: the indices so far are marked. Assumes nothing.
-use mathlib.Core.Path.{_≡_, refl, sym, _∙_}
-use mathlib.Core.Bool.{_||_, or-assoc}
-use Prim.Native.Nat.{ℕ, _-_, _<_}
-use native.Mathlib.Numerals.{add-one}
-use native.Mathlib.Omega.{arith}
-use borrow.Author.Needs.{needs}
-use lib.Dec.{eqb}
-use lib.ListN.{length, take, length-set}
-use lib.Seq.{take-suc, take-all}
+use Rattle.integers.proofs.Prelude.{_≡_, refl, sym, _∙_, _||_, ℕ, _-_, _<_, arith, add-one, needs, eqb, length, take, length-set, take-all, take-suc}
+use mathlib.Core.Bool.{or-assoc}
 use Rattle.lists.specs.Entries.{some}
 use Rattle.model.specs.Records.{indices}
 use Rattle.model.proofs.Accepted.{SoundRecord, record-sound}
@@ -63,5 +56,5 @@ returns c =
 
 pub mark-spec : {M : Type 1} → statement M
 mark-spec =
-    tie.close (tie.spec Inv-loop μ-loop (λ c κs. omega (arith, sound (c .before) .room)) (λ c. (refl, λ b h. refl)) index-requires element-write-seen
-    (λ c. search needs) (λ c. search needs) loop-again returns)
+    tie.close (tie.spec Inv-loop μ-loop (λ c κs. omega (arith, sound (c .before) .room)) (λ c. (refl, λ b h. refl)) index-requires element-write-seen (λ c.
+    search needs) (λ c. search needs) loop-again returns)

@@ -1,5 +1,5 @@
 -- `records::outside` meets its contract. Assumes nothing.
-use borrow.Author.Tests.{lt-ltb, le-ltb}
+use Rattle.integers.proofs.Prelude.{lt-ltb, le-ltb}
 use Rattle.records.proofs.outside.Statement.{statement}
 use Rattle.records.proofs.outside.Tie as tie
 

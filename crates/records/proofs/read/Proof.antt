@@ -1,13 +1,5 @@
 -- `records::read` meets its contract: the causes in their order, and the answer of an accepted code. Assumes nothing.
-use mathlib.Core.Path.{_≡_, sym, _∙_}
-use mathlib.Core.Bool.{Bool, true, false, not}
-use mathlib.Core.List.{List, [], _∷_}
-use Prim.Native.Nat.{ℕ, suc, _-_}
-use native.Mathlib.Omega.{arith}
-use borrow.Author.Needs.{needs}
-use borrow.Author.Tests.{lt-ltb, le-ltb}
-use lib.Dec.{ltb}
-use lib.ListN.{drop}
+use Rattle.integers.proofs.Prelude.{_≡_, sym, _∙_, Bool, true, false, not, List, [], _∷_, ℕ, suc, _-_, arith, needs, lt-ltb, le-ltb, ltb, drop}
 use Rattle.model.specs.Limits.{mostTriples}
 use Rattle.model.specs.Causes.{_if_, firstOf}
 use Rattle.model.specs.RecordClaims.{Bytes}
@@ -113,5 +105,5 @@ returns-6 c =
 
 pub read-spec : {M : Type 1} → statement M
 read-spec =
-    tie.close (tie.spec (λ c κs. search needs) returns (λ c κs. omega (arith, sound c .room)) (λ c κs. omega (arith, sound (c .before) .room))
-    (λ c κs. sound (c .before .before) .room) judge-checks-requires returns-2 returns-3 returns-4 covers-requires returns-5 returns-6)
+    tie.close (tie.spec (λ c κs. search needs) returns (λ c κs. omega (arith, sound c .room)) (λ c κs. omega (arith, sound (c .before) .room)) (λ c κs. sound
+    (c .before .before) .room) judge-checks-requires returns-2 returns-3 returns-4 covers-requires returns-5 returns-6)

@@ -1,9 +1,7 @@
 -- `records::two_bytes` meets its contract. Assumes nothing.
 use native.Mathlib.Nat.{add-zero}
-use native.Mathlib.Omega.{arith}
-use lib.Seq.{getD-drop}
+use Rattle.integers.proofs.Prelude.{arith, needs, getD-drop}
 use Rattle.model.specs.Records.{twoBytes}
-use borrow.Author.Needs.{needs}
 use Rattle.records.proofs.two_bytes.Statement.{statement}
 use Rattle.records.proofs.two_bytes.Tie as tie
 
@@ -15,5 +13,5 @@ returns c =
 
 pub two-bytes-spec : {M : Type 1} → statement M
 two-bytes-spec =
-    tie.close (tie.spec (λ c. search needs) (λ c κs. search needs) (λ c. search needs) (λ c. search needs) (λ c. search needs) (λ c κs. search needs)
-    (λ c. search needs) returns)
+    tie.close (tie.spec (λ c. search needs) (λ c κs. search needs) (λ c. search needs) (λ c. search needs) (λ c. search needs) (λ c κs. search needs) (λ c.
+    search needs) returns)

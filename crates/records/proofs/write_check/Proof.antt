@@ -1,5 +1,5 @@
 -- `records::write_check` meets its contract: the mark, the degree, the indices. Assumes nothing.
-use borrow.Author.Needs.{needs}
+use Rattle.integers.proofs.Prelude.{needs}
 use Rattle.model.specs.Records.{recordOf}
 use Rattle.text.proofs.Appended.{then}
 use Rattle.records.proofs.write_check.Statement.{statement}

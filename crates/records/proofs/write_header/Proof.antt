@@ -1,5 +1,5 @@
 -- `records::write_header` meets its contract: the mark, the bits, the checks. Assumes nothing.
-use borrow.Author.Needs.{needs}
+use Rattle.integers.proofs.Prelude.{needs}
 use Rattle.text.proofs.Appended.{then}
 use Rattle.records.specs.Written.{headerOf}
 use Rattle.records.proofs.write_header.Statement.{statement}

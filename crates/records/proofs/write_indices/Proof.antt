@@ -1,12 +1,5 @@
 -- `records::write_indices` meets its contract: after i turns the first i indices are written. Assumes nothing.
-use mathlib.Core.Path.{_≡_}
-use mathlib.Core.List.{_++_}
-use Prim.Native.Nat.{_+_, _-_, _≤_}
-use native.Mathlib.Numerals.{add-one}
-use native.Mathlib.Omega.{arith}
-use borrow.Author.Needs.{needs}
-use lib.ListN.{length, take, getD}
-use lib.Seq.{take-all, length-take-le}
+use Rattle.integers.proofs.Prelude.{_≡_, _++_, _+_, _-_, _≤_, arith, add-one, needs, length, getD, take, length-take-le, take-all}
 use Rattle.model.specs.Records.{two, bytesOf}
 use Rattle.text.specs.Appended.{Appended}
 use Rattle.text.proofs.Appended.{none, long, then}

@@ -1,5 +1,5 @@
 -- `records::write_two_bytes` meets its contract: two bytes, one after the other. Assumes nothing.
-use borrow.Author.Needs.{needs}
+use Rattle.integers.proofs.Prelude.{needs}
 use Rattle.text.proofs.Appended.{then}
 use Rattle.records.proofs.write_two_bytes.Statement.{statement}
 use Rattle.records.proofs.write_two_bytes.Tie as tie

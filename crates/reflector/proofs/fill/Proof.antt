@@ -1,10 +1,5 @@
 -- `reflector::fill` meets its contract: after i turns the first i entries are the reflected ones. Assumes nothing.
-use mathlib.Core.Path.{_≡_, refl, ap, _∙_}
-use Prim.Native.Nat.{_-_, _≤_}
-use native.Mathlib.Omega.{arith}
-use borrow.Author.Needs.{needs}
-use lib.ListN.{length}
-use mir.Syntax.{w16}
+use Rattle.integers.proofs.Prelude.{_≡_, refl, ap, _∙_, _-_, _≤_, arith, needs, length, w16}
 use Rattle.integers.proofs.Machine.{kept}
 use Rattle.lists.specs.Tabulated.{over}
 use Rattle.lists.proofs.Tabulated.{length-over, over-stored, over-tab}

@@ -1,9 +1,5 @@
 -- `reflector::negated_if` meets its contract: an allowed cost has a negative. Assumes nothing.
-use mathlib.Core.Path.{_≡_, refl, _∙_}
-use Prim.Native.Nat.{ℕ, zero, suc}
-use lib.IntN.{ℤ, negℤ}
-use mir.Syntax.{w16}
-use mir.Val.{toZ, ofZ}
+use Rattle.integers.proofs.Prelude.{_≡_, refl, _∙_, ℕ, zero, suc, ℤ, negℤ, w16, toZ, ofZ}
 use Rattle.integers.proofs.Machine.{Worth, local, negative, fits, stored}
 use Rattle.model.specs.Limits.{mostCost}
 use Rattle.model.specs.Reflection.{negatedIf}

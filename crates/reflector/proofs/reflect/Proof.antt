@@ -1,10 +1,5 @@
 -- `reflector::reflect` meets its contract: each answer by the tests that led to it. Assumes nothing.
-use mathlib.Core.Path.{_≡_, sym, _∙_}
-use mathlib.Core.Bool.{true, false}
-use borrow.Author.Needs.{needs}
-use borrow.Author.Tests.{eq-eqb, ne-eqb, lt-ltb, le-ltb}
-use lib.Dec.{eqb}
-use lib.ListN.{length}
+use Rattle.integers.proofs.Prelude.{_≡_, sym, _∙_, true, false, needs, lt-ltb, le-ltb, eq-eqb, ne-eqb, eqb, length}
 use Rattle.lists.specs.Entries.{some}
 use Rattle.model.specs.Calls.{forbidden, notBinary, reflector}
 use Rattle.model.proofs.Promises.{reflector-call}
@@ -60,5 +55,4 @@ returns-5 c =
 
 pub reflect-spec : {M : Type 1} → statement M
 reflect-spec =
-    tie.close (tie.spec returns (λ c κs. search needs) returns-2 (λ c κs. search needs) returns-3 returns-4 fill-requires (λ c. search needs)
-    returns-5)
+    tie.close (tie.spec returns (λ c κs. search needs) returns-2 (λ c κs. search needs) returns-3 returns-4 fill-requires (λ c. search needs) returns-5)

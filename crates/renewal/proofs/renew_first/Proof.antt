@@ -1,10 +1,5 @@
 -- `renewal::renew_first` meets its contract: with t triples done the list and the totals will be the same in the end. Assumes nothing.
-use mathlib.Core.List.{List}
-use mathlib.Core.Path.{_≡_, subst, ap, _∙_}
-use Prim.Native.Nat.{ℕ, _-_, _%_, _≤_}
-use native.Mathlib.Omega.{arith}
-use lib.IntN.{ℤ}
-use borrow.Author.Needs.{needs}
+use Rattle.integers.proofs.Prelude.{_≡_, ap, subst, _∙_, List, ℕ, _-_, _%_, _≤_, arith, needs, ℤ}
 use Rattle.lists.specs.Tabulated.{tab}
 use Rattle.model.specs.Iteration.{at, row, sumAt, renewed}
 use Rattle.rows.specs.Sides.{Rows}
@@ -73,9 +68,14 @@ returns c =
 
 pub renew-first-spec : {M : Type 1} → statement M
 renew-first-spec =
-    tie.close (tie.spec Inv-loop μ-loop (λ c. let h = c .before .pre in (omega arith, renewed-none _ _ _ _ _ _ _ (at-first (h .0 .2) (h .1 .1))))
-    (λ c κs. search (needs, left (c .before .before) .long)) (λ c κs. (search needs, (start (c .before .before .before) .pre .1 .0, old-small c)))
-    (λ c κs. (search (needs, left (at-loop (c .before)) .long), λ r. omega (arith, new-small (c .before) r))) with-triple-requires
-    (λ c. omega (arith, made (c .before) .before .before .before .loop-test .taken))
-    (λ c. omega (arith, made (c .before) .before .before .before .loop-test .taken)) loop-again (λ c. left (c .before) .long ∙ start (c .before) .pre .0 .2)
-    returns)
+    tie.close (tie.spec Inv-loop μ-loop (λ c. let h = c .before .pre in (omega arith, renewed-none _ _ _ _ _ _ _ (at-first (h .0 .2) (h .1 .1)))) (λ c κs.
+    search (needs, left (c .before .before) .long)) (λ c κs. (search needs, (start (c .before .before .before) .pre .1 .0, old-small c))) (λ c κs. (
+      search
+          (needs, left (at-loop (c .before)) .long),
+      λ r. omega (arith, new-small (c .before) r),
+    )) with-triple-requires (λ c. omega (
+      arith,
+      made (c .before) .before
+          .before .before .loop-test .taken,
+    )) (λ c. omega (arith, made (c .before) .before .before .before .loop-test .taken)) loop-again (λ c. left (c .before)
+    .long ∙ start (c .before) .pre .0 .2) returns)

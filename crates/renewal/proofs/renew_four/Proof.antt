@@ -1,10 +1,5 @@
 -- `renewal::renew_four` meets its contract. Assumes nothing.
-use mathlib.Core.List.{List, [], _∷_}
-use mathlib.Core.Path.{_≡_, ap, ap₂, _∙_}
-use Prim.Native.Nat.{_+_}
-use native.Mathlib.Omega.{arith}
-use borrow.Author.Needs.{needs}
-use lib.IntN.{ℤ}
+use Rattle.integers.proofs.Prelude.{_≡_, ap, ap₂, _∙_, List, [], _∷_, _+_, arith, needs, ℤ}
 use Rattle.lists.specs.Tabulated.{tab}
 use Rattle.model.specs.Iteration.{at, sumAt, renewed}
 use Rattle.layout.specs.Transposed.{cell, stored}
@@ -29,8 +24,21 @@ returns c =
 
 pub renew-four-spec : {M : Type 1} → statement M
 renew-four-spec =
-    tie.close (tie.spec
-    (λ c κs. let s = c .before .before in (omega (arith, s .pre .0), omega (arith, s .pre .0), λ i h. small-abs (at (s .args .rows .now) i) (s .pre .1 .1 i h)))
-    (λ c κs. let s = start c in (search needs, (s .pre .1 .0, rw (c .load-four .ensures) (old-fours (s .args .rows .now) (s .args .t) (s .pre .1 .1)))))
-    (λ c κs. let s = start (c .before .before) in let a = s .args in (omega (arith, s .pre .0), omega (arith, s .pre .0), rw (new-is (c .before)) (new-fours (a .triples .now) (a .values .now) (s .pre .1 .0 .1) (a .rows .now) (a .t) (s .pre .1 .1))))
-    (λ c. search needs) returns)
+    tie.close (tie.spec (λ c κs. let s = c .before .before in (
+      omega (arith, s .pre .0),
+      omega (arith, s .pre .0),
+      λ i h. small-abs (at (s .args .rows .now)
+          i) (s .pre .1 .1 i h),
+    )) (λ c κs. let s = start c in (
+      search needs,
+      (
+        s .pre .1 .0,
+        rw (c .load-four .ensures) (old-fours (s .args .rows .now) (s .args .t)
+            (s .pre .1 .1)),
+      ),
+    )) (λ c κs. let s = start (c .before .before) in let a = s .args in (
+      omega (arith, s .pre .0),
+      omega (arith, s .pre .0),
+      rw (new-is (c
+          .before)) (new-fours (a .triples .now) (a .values .now) (s .pre .1 .0 .1) (a .rows .now) (a .t) (s .pre .1 .1)),
+    )) (λ c. search needs) returns)

@@ -1,8 +1,5 @@
 -- `renewal::renew_rest` meets its contract: what remains at t comes to the same as what remained at first. Assumes nothing.
-use mathlib.Core.Path.{_≡_, refl, sym, ap, _∙_}
-use Prim.Native.Nat.{ℕ, _+_, _-_, _≤_}
-use native.Mathlib.Omega.{arith}
-use borrow.Author.Needs.{needs}
+use Rattle.integers.proofs.Prelude.{_≡_, refl, sym, ap, _∙_, ℕ, _+_, _-_, _≤_, arith, needs}
 use Rattle.layout.specs.Transposed.{Aligned}
 use Rattle.renewal.specs.InPlace.{Left, renewedFrom}
 use Rattle.renewal.proofs.Renewal.{four-renewed, all-done}
@@ -43,7 +40,17 @@ returns c =
 
 pub renew-rest-spec : {M : Type 1} → statement M
 renew-rest-spec =
-    tie.close (tie.spec Inv-loop μ-loop (λ c. let h = c .before .pre .1 .1 in (h .0, h .1, refl))
-    (λ c κs. let l = c .before .before in (search (needs, room (c .before), l .loop .inv .1 .long), (start l .pre .1 .0, l .loop .inv .1 .small)))
-    (λ c. omega (arith, start (c .before .before .before .before) .pre .0, room (c .before .before .before)))
-    (λ c. omega (arith, room (c .before .before .before))) loop-again (λ c. c .before .loop .inv .1 .long ∙ start (c .before) .pre .0 .2) returns)
+    tie.close (tie.spec Inv-loop μ-loop (λ c. let h = c .before .pre .1 .1 in (h .0, h .1, refl)) (λ c κs. let l = c .before .before in (
+      search (
+        needs,
+        room
+            (c .before),
+        l .loop .inv .1 .long,
+      ),
+      (start l .pre .1 .0, l .loop .inv .1 .small),
+    )) (λ c. omega (
+      arith,
+      start (c .before .before .before .before) .pre .0,
+      room (c .before .before .before),
+    )) (λ c. omega (arith, room (c .before .before .before))) loop-again (λ c. c .before .loop .inv .1 .long ∙ start (c
+    .before) .pre .0 .2) returns)

@@ -1,8 +1,5 @@
 -- `renewal::renew_rows` meets its contract: the rows in two parts, and the totals of the first. Assumes nothing.
-use mathlib.Core.Path.{_≡_, ap, _∙_}
-use Prim.Native.Nat.{_*_}
-use borrow.Author.Needs.{needs}
-use lib.ListN.{length}
+use Rattle.integers.proofs.Prelude.{_≡_, ap, _∙_, _*_, needs, length}
 use Rattle.lists.proofs.Tabulated.{length-tab}
 use Rattle.layout.specs.Transposed.{straight}
 use Rattle.renewal.specs.InPlace.{renewedFrom}

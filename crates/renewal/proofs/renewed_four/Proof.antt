@@ -1,14 +1,9 @@
 -- `renewal::renewed_four` meets its contract. Assumes nothing.
-use mathlib.Core.List.{List}
-use mathlib.Core.Path.{_≡_, ap, _∙_}
-use Prim.Native.Nat.{ℕ, _+_}
-use native.Mathlib.Omega.{arith}
-use lib.IntN.{ℤ}
+use Rattle.integers.proofs.Prelude.{_≡_, ap, _∙_, List, ℕ, _+_, arith, needs, ℤ}
 use Rattle.lists.specs.Tabulated.{tab}
 use Rattle.model.specs.Iteration.{sumAt, renewed}
 use Rattle.rows.proofs.Four.{four-are}
 use Rattle.layout.specs.Transposed.{cell}
-use borrow.Author.Needs.{needs}
 use Rattle.renewal.proofs.renewed_four.Statement.{statement}
 use Rattle.renewal.proofs.renewed_four.Tie as tie
 
@@ -26,7 +21,20 @@ returns c =
 
 pub renewed-four-spec : {M : Type 1} → statement M
 renewed-four-spec =
-    tie.close (tie.spec (λ c. search needs) (λ c κs. let s = c .before .before in (omega (arith, s .pre .0), (s .pre .1 .0, s .pre .1 .1 _))) (λ c. search needs) (λ c. search needs)
-    (λ c κs. let s = c .before .before .before .before in (omega (arith, s .pre .0), (s .pre .1 .0, s .pre .1 .1 _))) (λ c. search needs) (λ c. search needs)
-    (λ c κs. let s = c .before .before .before .before .before .before in (omega (arith, s .pre .0), (s .pre .1 .0, s .pre .1 .1 _))) (λ c. search needs) (λ c. search needs)
-    (λ c κs. let s = c .before .before .before .before .before .before .before .before in (omega (arith, s .pre .0), (s .pre .1 .0, s .pre .1 .1 _))) returns)
+    tie.close (tie.spec (λ c. search needs) (λ c κs. let s = c .before .before in (omega (arith, s .pre .0), (s .pre .1 .0, s .pre .1 .1 _))) (λ c. search
+    needs) (λ c. search needs) (λ c κs. let s = c .before .before .before .before in (omega (arith, s .pre .0), (s .pre .1 .0, s .pre .1 .1 _))) (λ c. search
+    needs) (λ c. search needs) (λ c κs. let s = c .before .before .before .before .before .before in (
+      omega (arith, s .pre .0),
+      (
+        s .pre .1 .0,
+        s .pre .1 .1
+            _,
+      ),
+    )) (λ c. search needs) (λ c. search needs) (λ c κs. let s = c .before .before .before .before .before .before .before .before in (
+      omega (
+        arith,
+        s .pre
+            .0,
+      ),
+      (s .pre .1 .0, s .pre .1 .1 _),
+    )) returns)

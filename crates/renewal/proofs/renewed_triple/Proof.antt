@@ -1,9 +1,5 @@
 -- `renewal::renewed_triple` meets its contract. Assumes nothing.
-use mathlib.Core.List.{List}
-use mathlib.Core.Path.{_≡_, ap, _∙_}
-use borrow.Author.Needs.{needs}
-use lib.IntN.{ℤ}
-use mir.Syntax.{w32}
+use Rattle.integers.proofs.Prelude.{_≡_, ap, _∙_, List, needs, ℤ, w32}
 use Rattle.integers.proofs.Machine.{read-back}
 use Rattle.lists.specs.Tabulated.{tab}
 use Rattle.model.specs.Iteration.{at, sumAt, renewed}

@@ -1,5 +1,5 @@
 -- `renewal::settles` meets its contract. Assumes nothing.
-use mathlib.Core.Path.{sym, ap}
+use Rattle.integers.proofs.Prelude.{sym, ap}
 use Rattle.model.specs.Causes.{_if_}
 use Rattle.renewal.proofs.settles.Statement.{statement}
 use Rattle.renewal.proofs.settles.Tie as tie

@@ -1,10 +1,5 @@
 -- `renewal::value_at` meets its contract. Assumes nothing.
-use mathlib.Core.Path.{ap, _∙_}
-use Prim.Native.Nat.{_+_, _*_, _<_}
-use borrow.Author.Needs.{needs}
-use lib.ListN.{length}
-use mir.Syntax.{w16, w32}
-use mir.Val.{toZ, ofZ}
+use Rattle.integers.proofs.Prelude.{ap, _∙_, _+_, _*_, _<_, needs, length, w16, w32, toZ, ofZ}
 use Rattle.integers.proofs.Machine.{Worth, fits, stored, held, within-raw}
 use Rattle.quotient.specs.Quotient.{unit}
 use Rattle.model.specs.Iteration.{at}

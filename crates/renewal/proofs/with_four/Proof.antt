@@ -1,10 +1,5 @@
 -- `renewal::with_four` meets its contract. Assumes nothing.
-use mathlib.Core.List.{[]}
-use mathlib.Core.Path.{_≡_}
-use Prim.Native.Nat.{ℕ, _+_, _*_, _^_, _≤_}
-use native.Mathlib.Omega.{arith}
-use borrow.Author.Needs.{needs}
-use lib.ListN.{getD}
+use Rattle.integers.proofs.Prelude.{_≡_, [], ℕ, _+_, _*_, _^_, _≤_, arith, needs, getD}
 use Rattle.rows.specs.Sides.{Rows, mostChanges}
 use Rattle.renewal.specs.declared.Totals.{Totals}
 use Rattle.renewal.proofs.with_four.Statement.{statement}
@@ -29,9 +24,12 @@ asked s k r h = (omega (arith, s .pre .0, h), (s .pre .1 .0 k, s .pre .1 .1 k))
 
 pub with-four-spec : {M : Type 1} → statement M
 with-four-spec =
-    tie.close (tie.spec (λ c. search needs) (λ c. search needs) (λ c κs. let s = c .before .before in asked s 0 (s .args .totals) (omega arith)) (λ c. search needs) (λ c. search needs)
-    (λ c κs. let a = c .before .before in asked (a .before .before .before) 1 (a .with-triple .result) (omega (arith, a .with-triple .ensures .1))) (λ c. search needs) (λ c. search needs)
-    (λ c κs. let b = c .before .before in let a = b .before .before .before in
-    asked (a .before .before .before) 2 (b .with-triple2 .result) (omega (arith, a .with-triple .ensures .1, b .with-triple2 .ensures .1))) (λ c. search needs) (λ c. search needs)
-    (λ c κs. let d = c .before .before in let b = d .before .before .before in let a = b .before .before .before in
-    asked (a .before .before .before) 3 (d .with-triple3 .result) (omega (arith, a .with-triple .ensures .1, b .with-triple2 .ensures .1, d .with-triple3 .ensures .1))) returns)
+    tie.close (tie.spec (λ c. search needs) (λ c. search needs) (λ c κs. let s = c .before .before in asked s 0 (s .args .totals) (omega arith)) (λ c. search
+    needs) (λ c. search needs) (λ c κs. let a = c .before .before in asked (a .before .before .before) 1 (a .with-triple .result) (omega (
+      arith,
+      a
+          .with-triple .ensures .1,
+    ))) (λ c. search needs) (λ c. search needs) (λ c κs. let b = c .before .before in let a = b .before .before .before in asked (a
+    .before .before .before) 2 (b .with-triple2 .result) (omega (arith, a .with-triple .ensures .1, b .with-triple2 .ensures .1))) (λ c. search needs) (λ c.
+    search needs) (λ c κs. let d = c .before .before in let b = d .before .before .before in let a = b .before .before .before in asked (a .before .before
+    .before) 3 (d .with-triple3 .result) (omega (arith, a .with-triple .ensures .1, b .with-triple2 .ensures .1, d .with-triple3 .ensures .1))) returns)

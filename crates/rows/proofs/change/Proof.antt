@@ -1,12 +1,5 @@
 -- `rows::change` meets its contract. Assumes nothing.
-use mathlib.Core.Path.{ap, _∙_}
-use Prim.Native.Nat.{_*_}
-use native.Mathlib.Omega.{arith}
-use borrow.Author.Needs.{needs}
-use lib.IntN.{ℤ, pos, natAbs, _-ℤ_}
-use mir.Facts.{toZ-ofZ}
-use mir.Syntax.{w32, w64}
-use mir.Val.{toZ, ofZ}
+use Rattle.integers.proofs.Prelude.{ap, _∙_, _*_, arith, needs, ℤ, pos, natAbs, _-ℤ_, w32, w64, toZ, ofZ, toZ-ofZ}
 use Rattle.integers.proofs.Machine.{Worth, within-raw, fits, stored, read-back, local, minus}
 use Rattle.integers.proofs.Linear.{about}
 use Rattle.model.specs.Limits.{mostRow}
@@ -34,5 +27,5 @@ returns c = c .square .ensures ∙ ap (λ (z : ℤ). natAbs z * natAbs z) (store
 
 pub change-spec : {M : Type 1} → statement M
 change-spec =
-    tie.close (tie.spec (λ c κs. search needs) (λ c κs. search needs) (λ c κs. search needs) (λ c κs. search needs) (λ c. fits (difference c) w64 tt)
-    (λ c κs. within-raw (stored (difference c) w64 tt)) returns)
+    tie.close (tie.spec (λ c κs. search needs) (λ c κs. search needs) (λ c κs. search needs) (λ c κs. search needs) (λ c. fits (difference c) w64 tt) (λ c κs.
+    within-raw (stored (difference c) w64 tt)) returns)

@@ -1,8 +1,5 @@
 -- `rows::change_at` meets its contract. Assumes nothing.
-use mathlib.Core.Path.{ap₂, _∙_}
-use borrow.Author.Needs.{needs}
-use lib.IntN.{ℤ, _*ℤ_}
-use mir.Syntax.{w32}
+use Rattle.integers.proofs.Prelude.{ap₂, _∙_, needs, ℤ, _*ℤ_, w32}
 use Rattle.integers.proofs.Machine.{Worth, within-raw, fits, stored, held, times}
 use Rattle.model.specs.Limits.{mostRow}
 use Rattle.model.specs.Iteration.{at, multiplier}
@@ -31,5 +28,5 @@ returns c =
 
 pub change-at-spec : {M : Type 1} → statement M
 change-at-spec =
-    tie.close (tie.spec (λ c. search needs) (λ c. search needs) (λ c. fits (old (c .before)) w32 tt) (λ c. search needs) (λ c. search needs)
-    (λ c. fits (new (c .before .before)) w32 tt) change-requires returns)
+    tie.close (tie.spec (λ c. search needs) (λ c. search needs) (λ c. fits (old (c .before)) w32 tt) (λ c. search needs) (λ c. search needs) (λ c. fits (new
+    (c .before .before)) w32 tt) change-requires returns)

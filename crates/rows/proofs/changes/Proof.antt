@@ -1,9 +1,5 @@
 -- `rows::changes` meets its contract. Assumes nothing.
-use mathlib.Core.Path.{_≡_, ap, _∙_}
-use Prim.Native.Nat.{ℕ, _+_, _*_, _≤_}
-use native.Mathlib.Omega.{arith}
-use lib.IntN.{ℤ}
-use mir.Syntax.{w32}
+use Rattle.integers.proofs.Prelude.{_≡_, ap, _∙_, ℕ, _+_, _*_, _≤_, arith, ℤ, w32}
 use Rattle.integers.specs.Sum.{sumℕ}
 use Rattle.integers.proofs.Sums.{sumℕ-bound}
 use Rattle.integers.proofs.Machine.{Worth, within-raw, held}
@@ -44,8 +40,11 @@ returns c = (c .added .ensures ∙ summed (c .before), omega (arith, c .added .e
 
 pub changes-spec : {M : Type 1} → statement M
 changes-spec =
-    tie.close (tie.spec (λ s κs. (omega arith, within-raw (side s), s .pre .1 _, s .pre .2 _))
-    (λ c κs. let s = c .before in (omega arith, within-raw (side s), s .pre .1 _, s .pre .2 _))
-    (λ c κs. let s = c .before .before in (omega arith, within-raw (side s), s .pre .1 _, s .pre .2 _))
-    (λ c κs. let s = c .before .before .before in (omega arith, within-raw (side s), s .pre .1 _, s .pre .2 _)) (λ c κs. omega (arith, summed c, small c))
-    returns)
+    tie.close (tie.spec (λ s κs. (omega arith, within-raw (side s), s .pre .1 _, s .pre .2 _)) (λ c κs. let s = c .before in (
+      omega arith,
+      within-raw (side
+          s),
+      s .pre .1 _,
+      s .pre .2 _,
+    )) (λ c κs. let s = c .before .before in (omega arith, within-raw (side s), s .pre .1 _, s .pre .2 _)) (λ c κs. let s = c
+    .before .before .before in (omega arith, within-raw (side s), s .pre .1 _, s .pre .2 _)) (λ c κs. omega (arith, summed c, small c)) returns)

@@ -1,9 +1,5 @@
 -- `rows::plus` meets its contract: a sign is 1 or -1. Assumes nothing.
-use mathlib.Core.Path.{_≡_}
-use native.Mathlib.Omega.{arith}
-use borrow.Author.Needs.{needs}
-use lib.IntN.{ℤ, pos, negsuc, _+ℤ_, _*ℤ_}
-use mir.Syntax.{w32}
+use Rattle.integers.proofs.Prelude.{_≡_, arith, needs, ℤ, pos, negsuc, _+ℤ_, _*ℤ_, w32}
 use Rattle.integers.proofs.Linear.{split, toℕ}
 use Rattle.integers.proofs.Machine.{held}
 use Rattle.quotient.specs.Quotient.{unit}

@@ -1,11 +1,5 @@
 -- `rows::positive` meets its contract. Assumes nothing.
-use mathlib.Core.Path.{_≡_, sym, ap, _∙_}
-use native.Mathlib.Omega.{arith}
-use lib.IntN.{ℤ, pos}
-use lib.Signed.{ltZ}
-use mir.Facts.{toZ-ofZ}
-use mir.Syntax.{w32}
-use mir.Val.{toZ, ofZ}
+use Rattle.integers.proofs.Prelude.{_≡_, sym, ap, _∙_, arith, ℤ, pos, ltZ, w32, toZ, ofZ, toZ-ofZ}
 use Rattle.integers.proofs.Linear.{make-≡, ltZ-true, ltZ-false, about}
 use Rattle.model.specs.Iteration.{multiplier}
 use Rattle.rows.proofs.positive.Statement.{statement}

@@ -1,11 +1,5 @@
 -- `rows::renewed_row` meets its contract. Assumes nothing.
-use mathlib.Core.Path.{_≡_, ap, _∙_}
-use Prim.Native.Nat.{_*_}
-use native.Mathlib.Omega.{arith}
-use borrow.Author.Needs.{needs}
-use lib.IntN.{ℤ, pos, _+ℤ_, _-ℤ_}
-use mir.Syntax.{w32}
-use mir.Val.{toZ, ofZ}
+use Rattle.integers.proofs.Prelude.{_≡_, ap, _∙_, _*_, arith, needs, ℤ, pos, _+ℤ_, _-ℤ_, w32, toZ, ofZ}
 use Rattle.integers.proofs.Machine.{Worth, fits, stored, local, held, literal, plus, minus}
 use Rattle.integers.proofs.Linear.{split, toℕ, about}
 use Rattle.model.specs.Limits.{mostRow}
@@ -44,5 +38,5 @@ add-result c = fits (plus (multiplier-is (c .before)) (stored (lowered (c .befor
 
 pub renewed-row-spec : {M : Type 1} → statement M
 renewed-row-spec =
-    tie.close (tie.spec (λ c. search needs) (λ c. search needs) (λ c κs. search needs) (λ c. search needs) (λ c. search needs)
-    (λ c. fits (lowered (c .before .before .before)) w32 tt) add-result returns)
+    tie.close (tie.spec (λ c. search needs) (λ c. search needs) (λ c κs. search needs) (λ c. search needs) (λ c. search needs) (λ c. fits (lowered (c .before
+    .before .before)) w32 tt) add-result returns)

@@ -1,6 +1,5 @@
 -- `rows::renewed_rows` meets its contract. Assumes nothing.
-use native.Mathlib.Omega.{arith}
-use mir.Syntax.{w32}
+use Rattle.integers.proofs.Prelude.{arith, w32}
 use Rattle.integers.proofs.Machine.{read-back}
 use Rattle.model.specs.Iteration.{at, renewed}
 use Rattle.rows.proofs.Four.{four-are}
@@ -18,6 +17,6 @@ returns c =
 
 pub renewed-rows-spec : {M : Type 1} → statement M
 renewed-rows-spec =
-    tie.close (tie.spec (λ c κs. (omega arith, c .pre .0 _, c .pre .1 _)) (λ c κs. let s = c .before in (omega arith, s .pre .0 _, s .pre .1 _))
-    (λ c κs. let s = c .before .before in (omega arith, s .pre .0 _, s .pre .1 _)) (λ c κs. let s = c .before .before .before in (omega arith, s .pre .0 _, s .pre .1 _))
+    tie.close (tie.spec (λ c κs. (omega arith, c .pre .0 _, c .pre .1 _)) (λ c κs. let s = c .before in (omega arith, s .pre .0 _, s .pre .1 _)) (λ c κs. let
+    s = c .before .before in (omega arith, s .pre .0 _, s .pre .1 _)) (λ c κs. let s = c .before .before .before in (omega arith, s .pre .0 _, s .pre .1 _))
     returns)

@@ -1,12 +1,7 @@
 -- `rows::row_sum` meets its contract. Assumes nothing.
-use mathlib.Core.Path.{_≡_, refl, sym, ap, _∙_}
-use Prim.Native.Nat.{ℕ, _*_, _^_, _≤_, _<_}
-use native.Mathlib.Omega.{arith}
-use borrow.Author.Needs.{needs}
-use lib.IntN.{ℤ, pos, natAbs, _+ℤ_, _-ℤ_, _*ℤ_}
+use Rattle.integers.proofs.Prelude.{_≡_, refl, sym, ap, _∙_, ℕ, _*_, _^_, _≤_, _<_, arith, needs, ℤ, pos, natAbs, _+ℤ_, _-ℤ_, _*ℤ_, w32, toZ, ofZ}
 use lib.Signed.{mag}
-use mir.Syntax.{w32}
-use mir.Val.{toZ, ofZ, hbits}
+use mir.Val.{hbits}
 use Rattle.integers.proofs.Linear.{split, toℕ, abs-add, abs-mul}
 use Rattle.integers.proofs.Machine.{Worth, fits, stored, local, held, literal, plus, minus, times}
 use Rattle.quotient.specs.Quotient.{unit}
@@ -82,5 +77,5 @@ returns c =
 
 pub row-sum-spec : {M : Type 1} → statement M
 row-sum-spec =
-    tie.close (tie.spec (λ c κs. search needs) (λ c κs. search needs) (λ c. fits (plus (first (c .before)) (second c)) w32 tt) (λ c κs. search needs)
-    (λ c. fits (those c) w32 tt) (λ c. fits (twice c) w32 tt) (λ c. fits (two c) w32 tt) (λ c. fits (three c) w32 tt) (λ c. fits (less c) w32 tt) returns)
+    tie.close (tie.spec (λ c κs. search needs) (λ c κs. search needs) (λ c. fits (plus (first (c .before)) (second c)) w32 tt) (λ c κs. search needs) (λ c.
+    fits (those c) w32 tt) (λ c. fits (twice c) w32 tt) (λ c. fits (two c) w32 tt) (λ c. fits (three c) w32 tt) (λ c. fits (less c) w32 tt) returns)

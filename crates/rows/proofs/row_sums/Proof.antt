@@ -1,13 +1,5 @@
 -- `rows::row_sums` meets its contract. Assumes nothing.
-use mathlib.Core.Path.{_≡_, sym, ap, ap₂, subst, _∙_}
-use mathlib.Core.List.{List}
-use Prim.Native.Nat.{ℕ, _*_, _≤_}
-use native.Mathlib.Omega.{arith}
-use borrow.Author.Needs.{needs}
-use lib.IntN.{ℤ, natAbs}
-use mir.Facts.{toZ-ofZ}
-use mir.Syntax.{w32}
-use mir.Val.{toZ, ofZ}
+use Rattle.integers.proofs.Prelude.{_≡_, sym, ap, ap₂, subst, _∙_, List, ℕ, _*_, _≤_, arith, needs, ℤ, natAbs, w32, toZ, ofZ, toZ-ofZ}
 use Rattle.integers.proofs.Machine.{read-back}
 use Rattle.quotient.specs.Quotient.{unit}
 use Rattle.model.specs.Iteration.{at, rowSum}

@@ -1,11 +1,6 @@
 -- `rows::share` meets its contract. Assumes nothing.
-use mathlib.Core.Path.{_≡_, ap, _∙_}
-use Prim.Native.Nat.{ℕ, _^_, _≤_, _<_, _*_}
-use native.Mathlib.Omega.{arith}
-use borrow.Author.Needs.{needs}
-use lib.IntN.{ℤ, natAbs, _+ℤ_, _*ℤ_}
+use Rattle.integers.proofs.Prelude.{_≡_, ap, _∙_, ℕ, _*_, _^_, _≤_, _<_, arith, needs, ℤ, natAbs, _+ℤ_, _*ℤ_, w32}
 use lib.Signed.{mag}
-use mir.Syntax.{w32}
 use mir.Val.{hbits}
 use Rattle.integers.proofs.Linear.{split, toℕ}
 use Rattle.integers.proofs.Machine.{Worth, fits, stored, local, held, plus}
@@ -53,5 +48,5 @@ returns c =
 
 pub share-spec : {M : Type 1} → statement M
 share-spec =
-    tie.close (tie.spec (λ c κs. search needs) (λ c κs. search needs) (λ c. fits (two c) w32 tt) (λ c κs. search needs) (λ c. fits (three c) w32 tt)
-    (λ c κs. search needs) (λ c. fits (all c) w32 tt) returns)
+    tie.close (tie.spec (λ c κs. search needs) (λ c κs. search needs) (λ c. fits (two c) w32 tt) (λ c κs. search needs) (λ c. fits (three c) w32 tt) (λ c κs.
+    search needs) (λ c. fits (all c) w32 tt) returns)

@@ -1,10 +1,7 @@
 -- `rows::shares` meets its contract. Assumes nothing.
-use mathlib.Core.Path.{_≡_, sym, ap, _∙_}
-use Prim.Native.Nat.{ℕ, _+_, _^_, _≤_, _<_}
-use native.Mathlib.Omega.{arith}
-use lib.IntN.{ℤ, pos, natAbs, _+ℤ_, _*ℤ_, +ℤ-idl}
+use Rattle.integers.proofs.Prelude.{_≡_, sym, ap, _∙_, ℕ, _+_, _^_, _≤_, _<_, arith, ℤ, pos, natAbs, _+ℤ_, _*ℤ_, w32}
+use lib.IntN.{+ℤ-idl}
 use lib.Signed.{mag}
-use mir.Syntax.{w32}
 use mir.Val.{hbits}
 use Rattle.integers.specs.Sum.{sumℤ}
 use Rattle.integers.proofs.Linear.{about}
@@ -57,6 +54,6 @@ returns c =
 
 pub shares-spec : {M : Type 1} → statement M
 shares-spec =
-    tie.close (tie.spec (λ c κs. (omega arith, c .pre _)) (λ c κs. (omega arith, c .before .pre _)) (λ c κs. (omega arith, c .before .before .pre _))
-    (λ c κs. (omega arith, c .before .before .before .pre _)) (λ c κs. asked c 0 (omega arith)) (λ c κs. asked (c .before) 1 (omega arith))
-    (λ c κs. asked (c .before .before) 2 (omega arith)) returns)
+    tie.close (tie.spec (λ c κs. (omega arith, c .pre _)) (λ c κs. (omega arith, c .before .pre _)) (λ c κs. (omega arith, c .before .before .pre _)) (λ c κs.
+    (omega arith, c .before .before .before .pre _)) (λ c κs. asked c 0 (omega arith)) (λ c κs. asked (c .before) 1 (omega arith)) (λ c κs. asked (c .before
+    .before) 2 (omega arith)) returns)

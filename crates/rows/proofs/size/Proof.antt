@@ -1,11 +1,5 @@
 -- `rows::size` meets its contract: one of the two parts is 0. Assumes nothing.
-use mathlib.Core.Path.{_≡_, sym, ap, _∙_}
-use Prim.Native.Nat.{_+_}
-use native.Mathlib.Omega.{arith}
-use lib.IntN.{ℤ, pos, negℤ, natAbs, _-ℤ_}
-use lib.Signed.{ltZ}
-use mir.Syntax.{w32}
-use mir.Val.{toZ, ofZ}
+use Rattle.integers.proofs.Prelude.{_≡_, sym, ap, _∙_, _+_, arith, ℤ, pos, natAbs, negℤ, _-ℤ_, ltZ, w32, toZ, ofZ}
 use Rattle.integers.proofs.Machine.{Worth, fits, stored, held, negative}
 use Rattle.integers.proofs.Linear.{about, below-abs, above-abs}
 use Rattle.model.specs.Limits.{mostRow}

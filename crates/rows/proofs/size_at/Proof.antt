@@ -1,9 +1,5 @@
 -- `rows::size_at` meets its contract. Assumes nothing.
-use mathlib.Core.Path.{ap, _∙_}
-use Prim.Native.Nat.{_+_}
-use borrow.Author.Needs.{needs}
-use lib.IntN.{ℤ, pos}
-use mir.Syntax.{w32}
+use Rattle.integers.proofs.Prelude.{ap, _∙_, _+_, needs, ℤ, pos, w32}
 use Rattle.integers.proofs.Machine.{held, read-back}
 use Rattle.model.specs.Limits.{mostRow}
 use Rattle.model.specs.Iteration.{at, slack, multiplier}

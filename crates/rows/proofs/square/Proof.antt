@@ -1,10 +1,5 @@
 -- `rows::square` meets its contract. Assumes nothing.
-use mathlib.Core.Path.{ap}
-use Prim.Native.Nat.{_*_}
-use native.Mathlib.Omega.{arith}
-use lib.IntN.{pos, natAbs, _*ℤ_}
-use mir.Syntax.{w64}
-use mir.Val.{toZ, ofZ}
+use Rattle.integers.proofs.Prelude.{ap, _*_, arith, pos, natAbs, _*ℤ_, w64, toZ, ofZ}
 use Rattle.integers.proofs.Machine.{Worth, fits, stored, held, also, times}
 use Rattle.integers.proofs.Linear.{square-abs}
 use Rattle.model.specs.Limits.{mostRow}

@@ -1,7 +1,5 @@
 -- `rows::wide` meets its contract. Assumes nothing.
-use mathlib.Core.Path.{refl}
-use mir.Syntax.{w32, w64}
-use mir.Val.{toZ, ofZ}
+use Rattle.integers.proofs.Prelude.{refl, w32, w64, toZ, ofZ}
 use Rattle.integers.proofs.Machine.{abs-fits, Worth, fits, stored, local}
 use Rattle.rows.proofs.wide.Statement.{statement}
 use Rattle.rows.proofs.wide.Tie as tie

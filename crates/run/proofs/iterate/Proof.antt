@@ -1,11 +1,5 @@
 -- `run::iterate` meets its contract: S, then c, then s. Assumes nothing.
-use mathlib.Core.List.{List}
-use mathlib.Core.Path.{_≡_, sym, ap, _∙_}
-use Prim.Native.Nat.{ℕ, _<_}
-use native.Mathlib.Omega.{arith}
-use borrow.Author.Needs.{needs}
-use lib.IntN.{ℤ}
-use lib.ListN.{length, getD}
+use Rattle.integers.proofs.Prelude.{_≡_, sym, ap, _∙_, List, ℕ, _<_, arith, needs, ℤ, length, getD}
 use Rattle.lists.specs.Tabulated.{tab}
 use Rattle.lists.proofs.Tabulated.{length-tab, getD-tab}
 use Rattle.model.specs.Limits.{mostDone}
@@ -111,5 +105,5 @@ returns c =
 
 pub iterate-spec : {M : Type 1} → statement M
 iterate-spec =
-    tie.close (tie.spec gather-requires write-values-requires (λ c. search needs) renew-rows-requires (λ c. search needs) (λ c. search needs) (λ c. search needs)
-    returns)
+    tie.close (tie.spec gather-requires write-values-requires (λ c. search needs) renew-rows-requires (λ c. search needs) (λ c. search needs) (λ c. search
+    needs) returns)

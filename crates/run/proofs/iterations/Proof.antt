@@ -1,11 +1,6 @@
 -- `run::iterations` meets its contract: what has been done and what remains is the whole. Assumes nothing.
-use mathlib.Core.Bool.{true, false, _&&_}
-use mathlib.Core.Path.{_≡_, refl, sym, _∙_}
-use Prim.Native.Nat.{ℕ, _-_, _*_, _≤_, _<_}
-use native.Mathlib.Omega.{arith}
-use borrow.Author.Tests.{ltb-true, ltb-false, eqb-true, eq-eqb}
-use lib.Dec.{ltb, eqb}
-use lib.ListN.{length}
+use Rattle.integers.proofs.Prelude.{_≡_, refl, sym, _∙_, true, false, _&&_, ℕ, _-_, _*_, _≤_, _<_, arith, ltb-true, ltb-false, eqb-true, eq-eqb, eqb, ltb}
+use Rattle.integers.proofs.Prelude.{length}
 use Rattle.lists.proofs.Tests.{and-left, and-right, and-false}
 use Rattle.model.specs.Limits.{mostDone}
 use Rattle.model.specs.declared.Settings.{Settings}
@@ -88,8 +83,11 @@ returns c =
 
 pub iterations-spec : {M : Type 1} → statement M
 iterations-spec =
-    tie.close (tie.spec Inv-loop μ-loop loop-holds iterate-requires
-    (λ c. let t = turn (c .before .before .before) in omega (arith, on t .0, start (t .before .before) .pre .1 .1 .1))
-    (λ c. omega (arith, on (turn (c .before .before .before)) .0)) loop-again
-    (λ c. c .before .before .loop .inv .0 .sums ∙ sym (start (c .before .before) .pre .0 .sums)) (λ c. long (c .before .before))
-    (λ c. let l = c .before .before in l .loop .inv .1 ∙ start l .pre .0 .rows) returns)
+    tie.close (tie.spec Inv-loop μ-loop loop-holds iterate-requires (λ c. let t = turn (c .before .before .before) in omega (
+      arith,
+      on t .0,
+      start (t .before
+          .before) .pre .1 .1 .1,
+    )) (λ c. omega (arith, on (turn (c .before .before .before)) .0)) loop-again (λ c. c .before .before .loop .inv .0 .sums ∙ sym
+    (start (c .before .before) .pre .0 .sums)) (λ c. long (c .before .before)) (λ c. let l = c .before .before in l .loop .inv .1 ∙ start l .pre .0 .rows)
+    returns)

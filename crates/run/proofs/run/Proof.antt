@@ -1,7 +1,5 @@
 -- `run::run` meets its contract. Assumes nothing.
-use mathlib.Core.Path.{refl, sym, _∙_}
-use native.Mathlib.Omega.{arith}
-use borrow.Author.Needs.{needs}
+use Rattle.integers.proofs.Prelude.{refl, sym, _∙_, arith, needs}
 use Rattle.run.proofs.Remains.{lent-again, cleared-within, cleared-start}
 use Rattle.run.proofs.run.Statement.{statement}
 use Rattle.run.proofs.run.Tie as tie

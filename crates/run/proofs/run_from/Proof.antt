@@ -1,7 +1,5 @@
 -- `run::run_from` meets its contract. Assumes nothing.
-use mathlib.Core.Path.{sym}
-use native.Mathlib.Omega.{arith}
-use borrow.Author.Needs.{needs}
+use Rattle.integers.proofs.Prelude.{sym, arith, needs}
 use Rattle.integers.proofs.Linear.{about}
 use Rattle.model.specs.Iteration.{at}
 use Rattle.run.proofs.run_from.Statement.{statement}

@@ -1,33 +1,13 @@
 -- `session::check` meets its contract: a refusal, or a mark and a degree that are kept. Assumes nothing.
-use mathlib.Core.Path.{_≡_, sym, _∙_}
-use native.Mathlib.Omega.{arith}
-use Prim.Native.Nat.{_+_, _-_}
-use lib.ListN.{length, take, drop}
-use lib.Seq.{getD-drop}
+use Rattle.integers.proofs.Prelude.{_≡_, sym, _∙_, _+_, _-_, arith, needs, length, take, drop, getD-drop}
 use Rattle.model.specs.Records.{bitCount}
 use Rattle.program.specs.Frames.{judgeHeldCheck}
 use Rattle.session.proofs.Records.{check-few, opening-taken, opening-left, opening-refused, opening-kept}
-use borrow.Author.Needs.{needs}
 use Rattle.session.proofs.check.Statement.{statement}
 use Rattle.session.proofs.check.Tie as tie
 
 long : (c : tie.After-bytes) → length (c .before .args .buffer .now) ≡ 10260
 long c = search needs
-
-add-end : tie.Need-add-end
-add-end c = search needs
-
-two-bytes-requires : tie.Need-two-bytes-requires
-two-bytes-requires c κs = search needs
-
-sub-judge-check : tie.Need-sub-judge-check
-sub-judge-check c = search needs
-
-part-judge-check-start : tie.Need-part-judge-check-start
-part-judge-check-start c = search needs
-
-part-judge-check-end : tie.Need-part-judge-check-end
-part-judge-check-end c = search needs
 
 judged : (j : tie.After-judge-check)
     → let s = j .before .before .before .before .args in
@@ -40,9 +20,6 @@ judged j =
 judge-check-requires : tie.Need-judge-check-requires
 judge-check-requires c κs = let s = c .before .before .before in check-few _ (long (c .before .before)) _ _ (s .pre .0) (s .pre .1)
 
-refuse-requires : tie.Need-refuse-requires
-refuse-requires c κs = search needs
-
 returns : tie.Need-returns
 returns c =
     let j = c .before .before .before in
@@ -51,19 +28,10 @@ returns c =
     let s = q .before in
     opening-refused _ (long q) _ _ (s .pre .0) (s .pre .1) (judged j) (opening-taken (j .judge-check .result) (s .args .came) (c .before .before .if1 .taken)) (c .refuse .ensures)
 
-add-wide : tie.Need-add-wide
-add-wide c = search needs
-
 shared-slice-read-wide : tie.Need-shared-slice-read-wide
 shared-slice-read-wide c =
     let s = c .before .before .before .before .before .before in
     omega (arith, s .pre .0 .held .fits, s .pre .0 .most, opening-left (c .before .before .judge-check .result) (s .args .came) (c .before .if1 .left))
-
-wide-requires : tie.Need-wide-requires
-wide-requires c κs = search needs
-
-mul-t14 : tie.Need-mul-t14
-mul-t14 c = search needs
 
 returns-2 : tie.Need-returns-2
 returns-2 c =
@@ -77,18 +45,5 @@ returns-2 c =
 
 pub check-spec : {M : Type 1} → statement M
 check-spec =
-    tie.close
-    (tie.spec
-    add-end
-    two-bytes-requires
-    sub-judge-check
-    part-judge-check-start
-    part-judge-check-end
-    judge-check-requires
-    refuse-requires
-    returns
-    add-wide
-    shared-slice-read-wide
-    wide-requires
-    mul-t14
-    returns-2)
+    tie.close (tie.spec (λ c. search needs) (λ c κs. search needs) (λ c. search needs) (λ c. search needs) (λ c. search needs) judge-check-requires
+    (λ c κs. search needs) returns (λ c. search needs) shared-slice-read-wide (λ c κs. search needs) (λ c. search needs) returns-2)

@@ -1,15 +1,9 @@
 -- `session::frame` meets its contract: the code and the settings are those that were kept. Assumes nothing.
-use mathlib.Core.Path.{_≡_, sym, ap, _∙_}
-use native.Mathlib.Omega.{arith}
-use mathlib.Core.List.{List}
-use Prim.Native.Nat.{ℕ, _+_, _-_}
-use lib.ListN.{length, take, drop}
-use lib.Seq.{length-take-le}
+use Rattle.integers.proofs.Prelude.{_≡_, sym, ap, _∙_, List, ℕ, _+_, _-_, arith, needs, length, take, drop, length-take-le}
 use Rattle.model.specs.Records.{codeOf}
 use Rattle.program.specs.Frames.{settingsOf}
 use Rattle.program.specs.FrameClaims.{frameText, goesOn}
 use Rattle.session.proofs.Answers.{behind, set, held, within, goes-on, stops}
-use borrow.Author.Needs.{needs}
 use Rattle.session.proofs.frame.Statement.{statement}
 use Rattle.session.proofs.frame.Tie as tie
 

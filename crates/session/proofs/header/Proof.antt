@@ -1,10 +1,6 @@
 -- `session::header` meets its contract: a refusal, or a header that is kept. Assumes nothing.
-use mathlib.Core.Path.{_≡_, sym, _∙_}
-use native.Mathlib.Omega.{arith}
-use lib.ListN.{length}
-use lib.Seq.{length-take-le}
+use Rattle.integers.proofs.Prelude.{_≡_, sym, _∙_, arith, needs, length, length-take-le}
 use Rattle.session.proofs.Records.{header-refused, header-kept}
-use borrow.Author.Needs.{needs}
 use Rattle.session.proofs.header.Statement.{statement}
 use Rattle.session.proofs.header.Tie as tie
 

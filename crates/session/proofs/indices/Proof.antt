@@ -1,12 +1,8 @@
 -- `session::indices` meets its contract: a refusal, or a check that is kept. Assumes nothing.
-use mathlib.Core.Path.{_≡_, sym, _∙_}
-use Prim.Native.Nat.{ℕ, _+_, _-_}
-use native.Mathlib.Omega.{arith}
-use lib.ListN.{length, take, drop}
+use Rattle.integers.proofs.Prelude.{_≡_, sym, _∙_, ℕ, _+_, _-_, arith, needs, length, take, drop}
 use Rattle.model.specs.Records.{bitCount}
 use Rattle.program.specs.Frames.{judgeHeldCheck}
 use Rattle.session.proofs.Records.{indices-few, indices-left, indices-room, indices-refused, check-whole, next-begun, indices-kept}
-use borrow.Author.Needs.{needs}
 use Rattle.session.proofs.indices.Statement.{statement}
 use Rattle.session.proofs.indices.Tie as tie
 

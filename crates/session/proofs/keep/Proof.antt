@@ -1,10 +1,6 @@
 -- `session::keep` meets its contract: the next check, a refusal, or the settings. Assumes nothing.
-use mathlib.Core.Path.{_≡_, sym, _∙_}
-use native.Mathlib.Omega.{arith}
-use lib.ListN.{length}
-use lib.Seq.{length-take-le}
+use Rattle.integers.proofs.Prelude.{_≡_, sym, _∙_, arith, needs, length, length-take-le}
 use Rattle.session.proofs.Records.{next-check, code-refused, code-kept}
-use borrow.Author.Needs.{needs}
 use Rattle.session.proofs.keep.Statement.{statement}
 use Rattle.session.proofs.keep.Tie as tie
 

@@ -1,6 +1,6 @@
 -- `session::refuse` meets its contract. Assumes nothing.
 use Rattle.text.proofs.Appended.{lent, counted}
-use borrow.Author.Needs.{needs}
+use Rattle.integers.proofs.Prelude.{needs}
 use Rattle.session.proofs.refuse.Statement.{statement}
 use Rattle.session.proofs.refuse.Tie as tie
 

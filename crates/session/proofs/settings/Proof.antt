@@ -1,11 +1,7 @@
 -- `session::settings` meets its contract: a refusal, or settings that are kept. Assumes nothing.
-use mathlib.Core.Path.{_≡_, sym, _∙_}
-use Prim.Native.Nat.{_+_, _-_}
-use native.Mathlib.Omega.{arith}
-use lib.ListN.{length, take, drop}
+use Rattle.integers.proofs.Prelude.{_≡_, sym, _∙_, _+_, _-_, arith, needs, length, take, drop}
 use Rattle.program.specs.Frames.{judgeSettings}
 use Rattle.session.proofs.Records.{settings-refused, settings-kept}
-use borrow.Author.Needs.{needs}
 use Rattle.session.proofs.settings.Statement.{statement}
 use Rattle.session.proofs.settings.Tie as tie
 

@@ -1,8 +1,5 @@
 -- `slices::clear_i32` meets its contract. Assumes nothing.
-use Prim.Native.Nat.{_-_}
-use native.Mathlib.Omega.{arith}
-use lib.IntN.{pos}
-use lib.ListN.{length}
+use Rattle.integers.proofs.Prelude.{_-_, arith, pos, length}
 use Rattle.slices.proofs.Fills.{Filled, filled-none, filled-long, filled-next, filled-all}
 use Rattle.slices.proofs.clear_i32.Statement.{statement}
 use Rattle.slices.proofs.clear_i32.Tie as tie
@@ -18,5 +15,5 @@ slice-set-of-l c = omega (arith, filled-long _ _ (c .before .loop .inv))
 
 pub clear-i32-spec : {M : Type 1} → statement M
 clear-i32-spec =
-    tie.close (tie.spec Inv-loop μ-loop (λ c. filled-none _ _) (λ c. omega arith) slice-set-of-l (λ c. omega arith) (λ c. omega arith)
-    (λ c. filled-next _ _ (c .before .loop .inv) (omega arith)) (λ c. filled-long _ _ (c .before .loop .inv)) (λ c. filled-all _ _ (c .before .loop .inv) (omega arith)))
+    tie.close (tie.spec Inv-loop μ-loop (λ c. filled-none _ _) (λ c. omega arith) slice-set-of-l (λ c. omega arith) (λ c. omega arith) (λ c. filled-next _ _
+    (c .before .loop .inv) (omega arith)) (λ c. filled-long _ _ (c .before .loop .inv)) (λ c. filled-all _ _ (c .before .loop .inv) (omega arith)))

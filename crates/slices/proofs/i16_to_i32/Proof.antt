@@ -1,5 +1,5 @@
 -- `slices::i16_to_i32` meets its contract. Assumes nothing.
-use mir.Syntax.{w16, w32}
+use Rattle.integers.proofs.Prelude.{w16, w32}
 use Rattle.integers.proofs.Machine.{fits, stored}
 use Rattle.slices.proofs.Wider.{read}
 use Rattle.slices.proofs.i16_to_i32.Statement.{statement}

@@ -1,5 +1,5 @@
 -- `slices::i32_to_i64` meets its contract. Assumes nothing.
-use mir.Syntax.{w32, w64}
+use Rattle.integers.proofs.Prelude.{w32, w64}
 use Rattle.integers.proofs.Machine.{fits, stored}
 use Rattle.slices.proofs.Wider.{read}
 use Rattle.slices.proofs.i32_to_i64.Statement.{statement}

@@ -1,11 +1,5 @@
 -- `stream::judge_check` meets its contract: the record's cause, then the triples with its own. Assumes nothing.
-use mathlib.Core.Path.{_≡_, sym, _∙_}
-use mathlib.Core.List.{[], _∷_}
-use Prim.Native.Nat.{_+_}
-use native.Mathlib.Omega.{arith}
-use lib.Dec.{ltb}
-use borrow.Author.Needs.{needs}
-use borrow.Author.Tests.{lt-ltb, le-ltb}
+use Rattle.integers.proofs.Prelude.{_≡_, sym, _∙_, [], _∷_, _+_, arith, needs, lt-ltb, le-ltb, ltb}
 use Rattle.model.specs.Code.{tripleCount}
 use Rattle.model.specs.Causes.{_if_}
 use Rattle.model.specs.Records.{indices, judgeCheck}

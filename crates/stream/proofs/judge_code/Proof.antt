@@ -1,6 +1,5 @@
 -- `stream::judge_code` meets its contract: the reader's number. Assumes nothing.
-use mathlib.Core.Path.{sym}
-use borrow.Author.Needs.{needs}
+use Rattle.integers.proofs.Prelude.{sym, needs}
 use Rattle.records.proofs.Answers.{told-code, told-refused}
 use Rattle.stream.proofs.judge_code.Statement.{statement}
 use Rattle.stream.proofs.judge_code.Tie as tie

@@ -1,10 +1,5 @@
 -- `stream::judge_header` meets its contract: the header's cause, then the bits. Assumes nothing.
-use mathlib.Core.Path.{_≡_, sym, _∙_}
-use mathlib.Core.List.{[], _∷_}
-use native.Mathlib.Omega.{arith}
-use lib.Dec.{ltb}
-use borrow.Author.Needs.{needs}
-use borrow.Author.Tests.{lt-ltb, le-ltb}
+use Rattle.integers.proofs.Prelude.{_≡_, sym, _∙_, [], _∷_, arith, needs, lt-ltb, le-ltb, ltb}
 use Rattle.model.specs.Causes.{_if_}
 use Rattle.model.specs.Records.{bitCount, judgeHeader}
 use Rattle.program.specs.Frames.{judgeHeldHeader}
@@ -12,9 +7,6 @@ use Rattle.model.proofs.Accepted.{header-sound}
 use Rattle.records.proofs.Walk.{refused}
 use Rattle.stream.proofs.judge_header.Statement.{statement}
 use Rattle.stream.proofs.judge_header.Tie as tie
-
-judge-header-requires : tie.Need-judge-header-requires
-judge-header-requires c κs = search needs
 
 returns : tie.Need-returns
 unfolding judgeHeldHeader
@@ -43,4 +35,4 @@ returns-3 c =
 
 pub judge-header-spec : {M : Type 1} → statement M
 judge-header-spec =
-    tie.close (tie.spec judge-header-requires returns two-bytes-requires returns-2 returns-3)
+    tie.close (tie.spec (λ c κs. search needs) returns two-bytes-requires returns-2 returns-3)

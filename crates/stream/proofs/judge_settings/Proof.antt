@@ -1,12 +1,5 @@
 -- `stream::judge_settings` meets its contract: the tests in the definition's order. Assumes nothing.
-use mathlib.Core.Path.{_≡_, _∙_}
-use mathlib.Core.Bool.{false}
-use mathlib.Core.List.{List, [], _∷_}
-use Prim.Native.Nat.{ℕ}
-use borrow.Author.Needs.{needs}
-use borrow.Author.Tests.{lt-ltb, le-ltb, ne-eqb}
-use lib.Dec.{ltb}
-use lib.ListN.{drop}
+use Rattle.integers.proofs.Prelude.{_≡_, _∙_, false, List, [], _∷_, ℕ, needs, lt-ltb, le-ltb, ne-eqb, ltb, drop}
 use Rattle.model.specs.Causes.{_if_, firstOf, short, outside}
 use Rattle.model.specs.Records.{twoBytes}
 use Rattle.model.specs.Limits.{mostIterations}
@@ -54,18 +47,12 @@ returns : tie.Need-returns
 unfolding judgeSettings
 returns c = rw (lt-ltb _ 2 (c .if1 .taken))
 
-two-bytes-requires : tie.Need-two-bytes-requires
-two-bytes-requires c κs = search needs
-
 returns-2 : tie.Need-returns-2
 unfolding judgeSettings
 returns-2 c = rw (le-ltb _ 2 (c .before .before .if1 .left), ne-eqb _ 0x4C53 (λ e. c .if2 .taken (c .before .two-bytes .ensures .0 ∙ e)))
 
 returns-3 : tie.Need-returns-3
 returns-3 c = rw (mark (c .before), lt-ltb _ 4 (c .if3 .taken))
-
-two-bytes-requires-2 : tie.Need-two-bytes-requires-2
-two-bytes-requires-2 c κs = search needs
 
 returns-4 : tie.Need-returns-4
 returns-4 c =
@@ -75,9 +62,6 @@ returns-4 c =
 returns-5 : tie.Need-returns-5
 returns-5 c = rw (weight (c .before), lt-ltb _ 6 (c .if5 .taken))
 
-two-bytes-requires-3 : tie.Need-two-bytes-requires-3
-two-bytes-requires-3 c κs = search needs
-
 returns-6 : tie.Need-returns-6
 returns-6 c =
     let e = c .before .before in
@@ -85,9 +69,6 @@ returns-6 c =
 
 returns-7 : tie.Need-returns-7
 returns-7 c = rw (ratio (c .before), lt-ltb _ 8 (c .if7 .taken))
-
-two-bytes-requires-4 : tie.Need-two-bytes-requires-4
-two-bytes-requires-4 c κs = search needs
 
 returns-8 : tie.Need-returns-8
 returns-8 c =
@@ -102,19 +83,5 @@ returns-10 c = rw (limit (c .before), le-ltb _ 12 (c .if9 .left))
 
 pub judge-settings-spec : {M : Type 1} → statement M
 judge-settings-spec =
-    tie.close
-    (tie.spec
-    returns
-    two-bytes-requires
-    returns-2
-    returns-3
-    two-bytes-requires-2
-    returns-4
-    returns-5
-    two-bytes-requires-3
-    returns-6
-    returns-7
-    two-bytes-requires-4
-    returns-8
-    returns-9
-    returns-10)
+    tie.close (tie.spec returns (λ c κs. search needs) returns-2 returns-3 (λ c κs. search needs) returns-4 returns-5 (λ c κs. search needs) returns-6
+    returns-7 (λ c κs. search needs) returns-8 returns-9 returns-10)

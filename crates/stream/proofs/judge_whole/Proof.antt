@@ -1,8 +1,5 @@
 -- `stream::judge_whole` meets its contract: the tests in the definition's order. Assumes nothing.
-use mathlib.Core.Path.{_≡_, sym, _∙_}
-use borrow.Author.Needs.{needs}
-use borrow.Author.Tests.{lt-ltb, le-ltb, ne-eqb}
-use lib.ListN.{length}
+use Rattle.integers.proofs.Prelude.{_≡_, sym, _∙_, needs, lt-ltb, le-ltb, ne-eqb, length}
 use Rattle.model.specs.Records.{twoBytes}
 use Rattle.program.specs.Frames.{frameSize, judgeWhole}
 use Rattle.stream.proofs.judge_whole.Statement.{statement}
@@ -12,18 +9,9 @@ returns : tie.Need-returns
 unfolding judgeWhole
 returns c = rw (lt-ltb _ 2 (c .if1 .taken))
 
-two-bytes-requires : tie.Need-two-bytes-requires
-two-bytes-requires c κs = search needs
-
 returns-2 : tie.Need-returns-2
 unfolding judgeWhole
 returns-2 c = rw (le-ltb _ 2 (c .before .before .if1 .left), ne-eqb _ 0x4C46 (λ e. c .if2 .taken (c .before .two-bytes .ensures .0 ∙ e)))
-
-mul-if3 : tie.Need-mul-if3
-mul-if3 c = search needs
-
-add-if3 : tie.Need-add-if3
-add-if3 c = search needs
 
 mark : (c : tie.Else2) → twoBytes (c .before .before .before .before .args .s .now) ≡ 0x4C46
 mark c = sym (c .before .two-bytes .ensures .0) ∙ c .if2 .left
@@ -42,4 +30,4 @@ returns-4 c =
 
 pub judge-whole-spec : {M : Type 1} → statement M
 judge-whole-spec =
-    tie.close (tie.spec returns two-bytes-requires returns-2 mul-if3 add-if3 returns-3 returns-4)
+    tie.close (tie.spec returns (λ c κs. search needs) returns-2 (λ c. search needs) (λ c. search needs) returns-3 returns-4)

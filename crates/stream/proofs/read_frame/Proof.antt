@@ -1,22 +1,13 @@
 -- `stream::read_frame` meets its contract: the bytes, then the costs. Assumes nothing.
-use mathlib.Core.Path.{_≡_, refl, sym, ap, _∙_}
-use mathlib.Core.Bool.{Bool}
-use mathlib.Core.List.{List}
-use Prim.Native.Nat.{ℕ, zero, suc}
-use lib.IntN.{ℤ}
-use lib.ListN.{length, take}
+use Rattle.integers.proofs.Prelude.{_≡_, refl, sym, ap, _∙_, Bool, List, ℕ, zero, suc, needs, ℤ, length, take}
 use Rattle.lists.specs.Entries.{some}
 use Rattle.model.specs.Causes.{_if_, accepted}
 use Rattle.model.specs.Calls.{forbidden}
 use Rattle.program.specs.Frames.{judgeWhole, judgeFrame}
 use Rattle.program.proofs.Frames.{length-costs, take-costs}
 use Rattle.stream.proofs.Costs.{whole-refused, whole, frame-judged}
-use borrow.Author.Needs.{needs}
 use Rattle.stream.proofs.read_frame.Statement.{statement}
 use Rattle.stream.proofs.read_frame.Tie as tie
-
-judge-whole-requires : tie.Need-judge-whole-requires
-judge-whole-requires c κs = search needs
 
 kept : (c : ℕ) (new old : List ℤ) → (c ≡ 0 → ⊥) → old ≡ accepted c new old
 kept zero new old h = absurd (h refl)
@@ -34,17 +25,11 @@ sound c = sym (c .before .judge-whole .ensures) ∙ c .if1 .left
 write-costs-requires : tie.Need-write-costs-requires
 write-costs-requires c κs = let s = c .before .before .before .before in (whole (s .args .bits) (s .args .s .now) (sound (c .before)), s .pre .1)
 
-slice-reshare-prefix-some-forbidden : tie.Need-slice-reshare-prefix-some-forbidden
-slice-reshare-prefix-some-forbidden c = search needs
-
 slice-aggregate-some-forbidden : tie.Need-slice-aggregate-some-forbidden
 slice-aggregate-some-forbidden c =
     let w = c .before .before in
     let a = w .before .before .before .before .before .args in
     sym (ap length (ap (take (a .bits)) (w .write-costs .ensures) ∙ take-costs (a .bits) (a .s .now) (a .costs .now)) ∙ length-costs (a .bits) (a .s .now))
-
-some-forbidden-requires : tie.Need-some-forbidden-requires
-some-forbidden-requires c κs = search needs
 
 -- a whole frame: what is found, and the costs
 judged : (c : tie.After-some-forbidden)
@@ -56,16 +41,10 @@ judged c =
     frame-judged (a .bits) (a .s .now) (sound (w .before .before))
     ∙ ap (λ (t : Bool). 13 if t) (sym (c .some-forbidden .ensures .0 ∙ ap (some forbidden) (ap (take (a .bits)) (w .write-costs .ensures) ∙ take-costs (a .bits) (a .s .now) (a .costs .now))))
 
-same-length : tie.Need-same-length
-same-length c = search needs
-
 returns-2 : tie.Need-returns-2
 returns-2 c =
     let w = c .before .before .before .before in
     (rw (judged (c .before), c .if2 .taken), rw (sound (w .before .before)) (w .write-costs .ensures))
-
-same-length-2 : tie.Need-same-length-2
-same-length-2 c = search needs
 
 returns-3 : tie.Need-returns-3
 returns-3 c =
@@ -74,15 +53,5 @@ returns-3 c =
 
 pub read-frame-spec : {M : Type 1} → statement M
 read-frame-spec =
-    tie.close
-    (tie.spec
-    judge-whole-requires
-    returns
-    write-costs-requires
-    slice-reshare-prefix-some-forbidden
-    slice-aggregate-some-forbidden
-    some-forbidden-requires
-    same-length
-    returns-2
-    same-length-2
-    returns-3)
+    tie.close (tie.spec (λ c κs. search needs) returns write-costs-requires (λ c. search needs) slice-aggregate-some-forbidden (λ c κs. search needs)
+    (λ c. search needs) returns-2 (λ c. search needs) returns-3)

@@ -1,10 +1,5 @@
 -- `stream::write_costs` meets its contract: after i turns the first i costs are written. Assumes nothing.
-use mathlib.Core.Path.{_≡_, refl, ap, _∙_}
-use Prim.Native.Nat.{_-_, _≤_}
-use native.Mathlib.Omega.{arith}
-use borrow.Author.Needs.{needs}
-use lib.ListN.{length}
-use mir.Syntax.{w16}
+use Rattle.integers.proofs.Prelude.{_≡_, refl, ap, _∙_, _-_, _≤_, arith, needs, length, w16}
 use Rattle.lists.specs.Tabulated.{over}
 use Rattle.lists.proofs.Tabulated.{length-over, over-stored}
 use Rattle.program.specs.Frames.{twosComplement}
@@ -26,29 +21,8 @@ long l =
 loop-holds : tie.Need-loop-holds Inv-loop μ-loop
 loop-holds c = (omega arith, refl)
 
-mul-two-bytes : tie.Need-mul-two-bytes Inv-loop μ-loop
-mul-two-bytes c = search needs
-
-add-two-bytes : tie.Need-add-two-bytes Inv-loop μ-loop
-add-two-bytes c = search needs
-
-two-bytes-requires : tie.Need-two-bytes-requires Inv-loop μ-loop
-two-bytes-requires c κs = search needs
-
-twos-complement-requires : tie.Need-twos-complement-requires Inv-loop μ-loop
-twos-complement-requires c κs = search needs
-
-mul-t10 : tie.Need-mul-t10 Inv-loop μ-loop
-mul-t10 c = search needs
-
 slice-set-from-costs : tie.Need-slice-set-from-costs Inv-loop μ-loop
 slice-set-from-costs c = omega (arith, long (c .before .before .before), c .before .before .before .before .before .pre)
-
-add-i : tie.Need-add-i Inv-loop μ-loop
-add-i c = search needs
-
-loop-less : tie.Need-loop-less Inv-loop μ-loop
-loop-less c = search needs
 
 loop-again : tie.Need-loop-again Inv-loop μ-loop
 loop-again c =
@@ -72,19 +46,5 @@ returns c =
 
 pub write-costs-spec : {M : Type 1} → statement M
 write-costs-spec =
-    tie.close
-    (tie.spec
-    Inv-loop
-    μ-loop
-    loop-holds
-    mul-two-bytes
-    add-two-bytes
-    two-bytes-requires
-    twos-complement-requires
-    mul-t10
-    slice-set-from-costs
-    add-i
-    loop-less
-    loop-again
-    same-length
-    returns)
+    tie.close (tie.spec Inv-loop μ-loop loop-holds (λ c. search needs) (λ c. search needs) (λ c κs. search needs) (λ c κs. search needs) (λ c. search needs)
+    slice-set-from-costs (λ c. search needs) (λ c. search needs) loop-again same-length returns)

@@ -1,12 +1,5 @@
 -- `sums::add` meets its contract. Assumes nothing.
-use mathlib.Core.Path.{ap, _∙_}
-use Prim.Native.Nat.{_+_, _^_, _<_}
-use native.Mathlib.Omega.{arith}
-use borrow.Author.Needs.{needs}
-use lib.IntN.{ℤ, pos, _+ℤ_}
-use lib.ListN.{length, set}
-use mir.Syntax.{w32, w64}
-use mir.Val.{toZ, ofZ}
+use Rattle.integers.proofs.Prelude.{ap, _∙_, _+_, _^_, _<_, arith, needs, ℤ, pos, _+ℤ_, length, set, w32, w64, toZ, ofZ}
 use Rattle.integers.proofs.Machine.{Worth, fits, stored, held, plus}
 use Rattle.lists.proofs.Tabulated.{length-tab, getD-tab}
 use Rattle.model.specs.Iteration.{at}
@@ -30,5 +23,5 @@ returns c n f e =
 
 pub add-spec : {M : Type 1} → statement M
 add-spec =
-    tie.close (tie.spec (λ c. fits (read w32 (c .fits .x)) w64 tt) (λ c. search needs) (λ c. search needs) (λ c. fits (sum (c .before)) w64 tt)
-    (λ c. search needs) (λ c. search needs) returns)
+    tie.close (tie.spec (λ c. fits (read w32 (c .fits .x)) w64 tt) (λ c. search needs) (λ c. search needs) (λ c. fits (sum (c .before)) w64 tt) (λ c. search
+    needs) (λ c. search needs) returns)

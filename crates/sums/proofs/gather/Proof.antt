@@ -1,9 +1,6 @@
 -- `sums::gather` meets its contract: after t triples the sums are those of t triples. Assumes nothing.
 use mathlib.Core.Logic.{⊎-elim}
-use mathlib.Core.Path.{_≡_, refl, sym, _∙_}
-use Prim.Native.Nat.{_+_, _-_, _%_, _≤_}
-use native.Mathlib.Omega.{arith}
-use lib.ListN.{length}
+use Rattle.integers.proofs.Prelude.{_≡_, refl, sym, _∙_, _+_, _-_, _%_, _≤_, arith, length}
 use Rattle.layout.specs.Transposed.{straight}
 use Rattle.sums.specs.Shares.{Summed, Shared}
 use Rattle.sums.proofs.Sums.{summed-long, summed-also}
@@ -76,9 +73,7 @@ returns c = let l = c .before in let e : l .loop .t ≡ start l .args .count = o
 
 pub gather-spec : {M : Type 1} → statement M
 gather-spec =
-    tie.close (tie.spec Inv-loop μ-loop (λ c κs. let s = c .before .before in (s .pre .0, s .pre .1)) loop-holds (λ c. c .before .loop .inv .2)
-    (λ c. c .before .before .loop .inv .2) (λ c. sym (c .before .before .before .before .loop .inv .3)) share-group-requires
-    (λ c. sym (long (c .before .before))) give-group-requires
-    (λ c. let d = c .before .before .before .before .before in omega (arith, taken (joined d), start (turn d) .pre .0 .0))
-    (λ c. omega (arith, taken (joined (c .before .before .before .before .before)))) loop-again
-    (λ c. summed-long (c .before .loop .inv .4) ∙ same (c .before)) returns)
+    tie.close (tie.spec Inv-loop μ-loop (λ c κs. let s = c .before .before in (s .pre .0, s .pre .1)) loop-holds (λ c. c .before .loop .inv .2) (λ c. c
+    .before .before .loop .inv .2) (λ c. sym (c .before .before .before .before .loop .inv .3)) share-group-requires (λ c. sym (long (c .before .before)))
+    give-group-requires (λ c. let d = c .before .before .before .before .before in omega (arith, taken (joined d), start (turn d) .pre .0 .0)) (λ c. omega
+    (arith, taken (joined (c .before .before .before .before .before)))) loop-again (λ c. summed-long (c .before .loop .inv .4) ∙ same (c .before)) returns)

@@ -1,12 +1,5 @@
 -- `sums::give` meets its contract: one position after the other. Assumes nothing.
-use mathlib.Core.List.{List}
-use mathlib.Core.Path.{_≡_, ap, _∙_}
-use Prim.Native.Nat.{ℕ, _<_}
-use native.Mathlib.Omega.{arith}
-use borrow.Author.Needs.{needs}
-use lib.IntN.{ℤ, pos}
-use mir.Syntax.{w32}
-use mir.Val.{toZ, ofZ}
+use Rattle.integers.proofs.Prelude.{_≡_, ap, _∙_, List, ℕ, _<_, arith, needs, ℤ, pos, w32, toZ, ofZ}
 use Rattle.lists.specs.Tabulated.{tab}
 use Rattle.lists.proofs.Tabulated.{getD-tab}
 use Rattle.model.specs.Iteration.{at, share}

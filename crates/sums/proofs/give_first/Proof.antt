@@ -1,10 +1,5 @@
 -- `sums::give_first` meets its contract: after t triples the sums are those of t triples. Assumes nothing.
-use mathlib.Core.Path.{_≡_, _∙_}
-use Prim.Native.Nat.{_+_, _-_, _*_, _%_, _≤_}
-use native.Mathlib.Numerals.{add-one}
-use native.Mathlib.Omega.{arith}
-use borrow.Author.Needs.{needs}
-use lib.ListN.{length}
+use Rattle.integers.proofs.Prelude.{_≡_, _∙_, _+_, _-_, _*_, _%_, _≤_, arith, add-one, needs, length}
 use Rattle.lists.specs.Tabulated.{tab}
 use Rattle.model.specs.Limits.{mostDone}
 use Rattle.model.specs.Iteration.{share}

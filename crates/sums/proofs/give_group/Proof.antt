@@ -1,9 +1,5 @@
 -- `sums::give_group` meets its contract: after i triples of the group the sums are those of t + i triples. Assumes nothing.
-use mathlib.Core.List.{List}
-use mathlib.Core.Path.{refl, sym, _∙_}
-use Prim.Native.Nat.{ℕ, _+_, _-_, _≤_}
-use native.Mathlib.Omega.{arith}
-use lib.IntN.{ℤ}
+use Rattle.integers.proofs.Prelude.{refl, sym, _∙_, List, ℕ, _+_, _-_, _≤_, arith, ℤ}
 use Rattle.sums.specs.Shares.{Summed, Shared}
 use Rattle.sums.proofs.Sums.{read-three, summed-long, summed-also}
 use Rattle.sums.proofs.give_group.Statement.{statement}
@@ -51,9 +47,11 @@ returns c N s g h = let l = c .before in summed-also (l .loop .inv .1 N s g h) r
 
 pub give-group-spec : {M : Type 1} → statement M
 give-group-spec =
-    tie.close (tie.spec Inv-loop μ-loop loop-holds (λ c. omega (arith, start (c .before) .pre .0)) (λ c. omega (arith, start (c .before) .pre .0))
-    (λ c. omega (arith, start (c .before) .pre .0)) (λ c. omega (arith, start (c .before .before) .pre .0))
-    (λ c. omega (arith, start (c .before .before) .pre .0)) (λ c. omega (arith, start (c .before .before) .pre .0))
-    (λ c. omega (arith, start (c .before .before .before) .pre .0)) (λ c. omega (arith, start (c .before .before .before) .pre .0))
-    (λ c. omega (arith, start (c .before .before .before) .pre .0)) give-requires (λ c. omega arith) (λ c. omega arith) loop-again
+    tie.close (tie.spec Inv-loop μ-loop loop-holds (λ c. omega (arith, start (c .before) .pre .0)) (λ c. omega (arith, start (c .before) .pre .0)) (λ c. omega
+    (arith, start (c .before) .pre .0)) (λ c. omega (arith, start (c .before .before) .pre .0)) (λ c. omega (arith, start (c .before .before) .pre .0)) (λ c.
+    omega (arith, start (c .before .before) .pre .0)) (λ c. omega (arith, start (c .before .before .before) .pre .0)) (λ c. omega (
+      arith,
+      start (c .before
+          .before .before) .pre .0,
+    )) (λ c. omega (arith, start (c .before .before .before) .pre .0)) give-requires (λ c. omega arith) (λ c. omega arith) loop-again
     (λ c. let l = c .before in summed-long (now l) ∙ sym (summed-long (start l .pre .1 .2))) returns)

@@ -1,14 +1,5 @@
 -- `sums::share_four` meets its contract. Assumes nothing.
-use mathlib.Core.List.{List, [], _∷_}
-use mathlib.Core.Path.{_≡_, refl, ap, _∙_}
-use Prim.Native.Nat.{ℕ, _+_, _*_, _≤_, _<_}
-use native.Mathlib.Omega.{arith}
-use borrow.Author.Needs.{needs}
-use lib.IntN.{ℤ, natAbs}
-use lib.ListN.{getD}
-use lib.Seq.{sets}
-use mir.Syntax.{w32}
-use mir.Val.{toZ, ofZ}
+use Rattle.integers.proofs.Prelude.{_≡_, refl, ap, _∙_, List, [], _∷_, ℕ, _+_, _*_, _≤_, _<_, arith, needs, ℤ, natAbs, getD, sets, w32, toZ, ofZ}
 use Rattle.lists.specs.Tabulated.{tab}
 use Rattle.lists.proofs.Tabulated.{getD-tab}
 use Rattle.model.specs.Limits.{mostRow}
@@ -125,9 +116,9 @@ returns c T f g =
 
 pub share-four-spec : {M : Type 1} → statement M
 share-four-spec =
-    tie.close (tie.spec (λ c. search needs) (λ c. search needs) load-four-requires (λ c. search needs) (λ c κs. small (c .before) 0 (omega arith))
-    (λ c. search needs) (λ c κs. small (c .before .before .before) 1 (omega arith)) (λ c. search needs)
-    (λ c κs. small (c .before .before .before .before .before) 2 (omega arith)) (λ c. search needs)
-    (λ c κs. small (c .before .before .before .before .before .before .before) 3 (omega arith)) (λ c. search needs) (λ c. search needs) (λ c. search needs)
-    (λ c. search needs) store-requires (λ c. search needs) (λ c. search needs) (λ c. search needs) (λ c. search needs) (λ c. search needs) store-requires-2
-    (λ c. search needs) (λ c. search needs) (λ c. search needs) (λ c. search needs) (λ c. search needs) store-requires-3 (λ c. search needs) returns)
+    tie.close (tie.spec (λ c. search needs) (λ c. search needs) load-four-requires (λ c. search needs) (λ c κs. small (c .before) 0 (omega arith)) (λ c.
+    search needs) (λ c κs. small (c .before .before .before) 1 (omega arith)) (λ c. search needs) (λ c κs. small (c .before .before .before .before .before) 2
+    (omega arith)) (λ c. search needs) (λ c κs. small (c .before .before .before .before .before .before .before) 3 (omega arith)) (λ c. search needs) (λ c.
+    search needs) (λ c. search needs) (λ c. search needs) store-requires (λ c. search needs) (λ c. search needs) (λ c. search needs) (λ c. search needs) (λ c.
+    search needs) store-requires-2 (λ c. search needs) (λ c. search needs) (λ c. search needs) (λ c. search needs) (λ c. search needs) store-requires-3 (λ c.
+    search needs) returns)

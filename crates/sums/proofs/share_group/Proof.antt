@@ -1,8 +1,5 @@
 -- `sums::share_group` meets its contract: after b fours the shares of 4b triples are in the list. Assumes nothing.
-use mathlib.Core.Path.{_≡_, sym, _∙_}
-use Prim.Native.Nat.{ℕ, _-_, _*_, _≤_}
-use native.Mathlib.Omega.{arith}
-use lib.ListN.{length}
+use Rattle.integers.proofs.Prelude.{_≡_, sym, _∙_, ℕ, _-_, _*_, _≤_, arith, length}
 use Rattle.layout.specs.Transposed.{straight}
 use Rattle.sums.specs.Shares.{Shared, Fours}
 use Rattle.sums.proofs.share_group.Statement.{statement}
@@ -37,5 +34,5 @@ returns c T f =
 
 pub share-group-spec : {M : Type 1} → statement M
 share-group-spec =
-    tie.close (tie.spec Inv-loop μ-loop (λ c. (omega arith, c .pre .1, λ T f p i h k. absurd (omega arith))) share-four-requires (λ c. omega arith)
-    (λ c. omega arith) loop-again (λ c. c .before .loop .inv .1 ∙ sym (c .before .before .pre .1)) returns)
+    tie.close (tie.spec Inv-loop μ-loop (λ c. (omega arith, c .pre .1, λ T f p i h k. absurd (omega arith))) share-four-requires (λ c. omega arith) (λ c.
+    omega arith) loop-again (λ c. c .before .loop .inv .1 ∙ sym (c .before .before .pre .1)) returns)

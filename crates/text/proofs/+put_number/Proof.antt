@@ -1,14 +1,10 @@
 -- The proof of the cycle of calls {put_number}: the digits before the last, if there are any, then the last. The measure is the number.
 -- Assumes nothing.
-use mathlib.Core.Path.{ap}
+use Rattle.integers.proofs.Prelude.{ap, ℕ, _/_, _<_, arith, needs, length}
 use mathlib.Core.Logic.{⊎-elim}
-use Prim.Native.Nat.{ℕ, _/_, _<_}
 use native.Mathlib.Nat.{div-lt-self}
-use native.Mathlib.Omega.{arith}
-use borrow.Author.Needs.{needs}
 use borrow.Fn.Kinds.{In}
 use borrow.Fn.PlainCycle.{Measures, is, falls, and}
-use lib.ListN.{length}
 use Rattle.text.specs.Appended.{Appended}
 use Rattle.text.proofs.Appended.{none, long, then}
 use Rattle.text.proofs.Decimals.{leading, leading-none, leading-more, decimal-is, decimal-length}

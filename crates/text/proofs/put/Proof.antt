@@ -1,5 +1,5 @@
 -- `text::put` meets its contract: a piece of one byte. Assumes nothing.
-use borrow.Author.Needs.{needs}
+use Rattle.integers.proofs.Prelude.{needs}
 use Rattle.text.proofs.Appended.{one}
 use Rattle.text.proofs.put.Statement.{statement}
 use Rattle.text.proofs.put.Tie as tie

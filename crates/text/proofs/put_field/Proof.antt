@@ -1,8 +1,5 @@
 -- `text::put_field` meets its contract: the digits, then the byte. Assumes nothing.
-use Prim.Native.Nat.{_≤_}
-use native.Mathlib.Omega.{arith}
-use borrow.Author.Needs.{needs}
-use lib.ListN.{length}
+use Rattle.integers.proofs.Prelude.{_≤_, arith, needs, length}
 use Rattle.model.specs.Text.{decimal}
 use Rattle.text.proofs.Decimals.{decimal-few}
 use Rattle.text.proofs.Appended.{long, then}

@@ -1,9 +1,5 @@
 -- `triples::clear` meets its contract: what is filled so far. Assumes nothing.
-use mathlib.Core.Path.{_≡_, refl, ap, _∙_}
-use Prim.Native.Nat.{ℕ, _-_, _≤_}
-use native.Mathlib.Numerals.{add-one}
-use native.Mathlib.Omega.{arith}
-use lib.ListN.{length}
+use Rattle.integers.proofs.Prelude.{_≡_, refl, ap, _∙_, ℕ, _-_, _≤_, arith, add-one, length}
 use Rattle.lists.specs.Tabulated.{over}
 use Rattle.lists.proofs.Tabulated.{over-next, length-over}
 use Rattle.triples.proofs.clear.Statement.{statement}
@@ -34,5 +30,5 @@ returns c =
 
 pub clear-spec : {M : Type 1} → statement M
 clear-spec =
-    tie.close (tie.spec Inv-loop μ-loop (λ c. (omega arith, refl)) (λ c. omega arith) (λ c. omega (arith, long (c .before))) (λ c. omega arith)
-    (λ c. omega arith) loop-again (λ c. long (c .before)) returns)
+    tie.close (tie.spec Inv-loop μ-loop (λ c. (omega arith, refl)) (λ c. omega arith) (λ c. omega (arith, long (c .before))) (λ c. omega arith) (λ c. omega
+    arith) loop-again (λ c. long (c .before)) returns)

@@ -1,7 +1,5 @@
 -- `triples::item` meets its contract: a bit of the check, or an auxiliary behind them. Assumes nothing.
-use mathlib.Core.Path.{sym, _∙_}
-use native.Mathlib.Omega.{arith}
-use borrow.Author.Needs.{needs}
+use Rattle.integers.proofs.Prelude.{sym, _∙_, arith, needs}
 use Rattle.model.specs.Records.{indices}
 use Rattle.triples.proofs.Items.{item-bit, item-auxiliary}
 use Rattle.triples.proofs.item.Statement.{statement}

@@ -1,12 +1,5 @@
 -- `triples::split` meets its contract: the causes in their order, and the lists of an accepted code. Assumes nothing.
-use mathlib.Core.Path.{_≡_, ap₂}
-use mathlib.Core.Bool.{true, false, _||_}
-use mathlib.Core.List.{List}
-use Prim.Native.Nat.{ℕ, zero, suc, _*_, _≤_}
-use native.Mathlib.Omega.{arith}
-use borrow.Author.Needs.{needs}
-use borrow.Author.Tests.{lt-ltb, le-ltb}
-use lib.ListN.{length}
+use Rattle.integers.proofs.Prelude.{_≡_, ap₂, true, false, _||_, List, ℕ, zero, suc, _*_, _≤_, arith, needs, lt-ltb, le-ltb, length}
 use Rattle.model.specs.Causes.{short}
 use Rattle.model.specs.Code.{triples, variables}
 use Rattle.model.specs.Records.{codeOf, judge}
@@ -95,6 +88,8 @@ returns-4 c =
 
 pub split-spec : {M : Type 1} → statement M
 split-spec =
-    tie.close (tie.spec (λ c κs. search needs) (λ c. search needs) (λ c. search needs) (λ c. omega (arith, read (c .before)))
-    (λ c. omega (arith, read (c .before))) (λ c. omega (arith, read (c .before))) returns returns-2 write-system-requires returns-3 (λ c. search needs)
-    (λ c. search needs) returns-4)
+    tie.close (tie.spec (λ c κs. search needs) (λ c. search needs) (λ c. search needs) (λ c. omega (arith, read (c .before))) (λ c. omega (
+      arith,
+      read (c
+          .before),
+    )) (λ c. omega (arith, read (c .before))) returns returns-2 write-system-requires returns-3 (λ c. search needs) (λ c. search needs) returns-4)

@@ -1,10 +1,5 @@
 -- `triples::write_check` meets its contract: the triples that are written so far. Assumes nothing.
-use mathlib.Core.Path.{_≡_, refl, sym, ap, _∙_}
-use Prim.Native.Nat.{ℕ, _+_, _-_, _*_, _≤_, _<_}
-use native.Mathlib.Omega.{arith}
-use borrow.Author.Needs.{needs}
-use borrow.Author.Tests.{lt-ltb, le-ltb}
-use lib.ListN.{length, getD, set}
+use Rattle.integers.proofs.Prelude.{_≡_, refl, sym, ap, _∙_, ℕ, _+_, _-_, _*_, _≤_, _<_, arith, needs, lt-ltb, le-ltb, length, getD, set}
 use Rattle.lists.specs.Tabulated.{over}
 use Rattle.lists.proofs.Tabulated.{length-over, over-all}
 use Rattle.model.specs.Code.{turns, tripleCount}
@@ -68,6 +63,9 @@ returns c =
 
 pub write-check-spec : {M : Type 1} → statement M
 write-check-spec =
-    tie.close (tie.spec Inv-loop μ-loop (λ c κs. search needs) (λ c. (omega arith, refl)) (λ c. search needs) (λ c. search needs)
-    (λ c κs. omega (arith, long (c .before .before))) (λ c. search needs) (λ c. search needs) loop-again (λ c. search needs) (λ c. search needs)
-    (λ c κs. search needs) (λ c κs. omega (arith, long (c .before .before .before))) same-length returns)
+    tie.close (tie.spec Inv-loop μ-loop (λ c κs. search needs) (λ c. (omega arith, refl)) (λ c. search needs) (λ c. search needs) (λ c κs. omega (
+      arith,
+      long
+          (c .before .before),
+    )) (λ c. search needs) (λ c. search needs) loop-again (λ c. search needs) (λ c. search needs) (λ c κs. search needs) (λ c κs. omega
+    (arith, long (c .before .before .before))) same-length returns)

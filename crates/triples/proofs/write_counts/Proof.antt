@@ -1,11 +1,5 @@
 -- `triples::write_counts` meets its contract: the counts of the entries so far. Assumes nothing.
-use mathlib.Core.Path.{_≡_, sym, ap, _∙_}
-use mathlib.Core.List.{List}
-use Prim.Native.Nat.{ℕ, _-_, _*_, _≤_, _<_}
-use native.Mathlib.Numerals.{add-one}
-use native.Mathlib.Omega.{arith}
-use borrow.Author.Needs.{needs}
-use lib.ListN.{length, getD}
+use Rattle.integers.proofs.Prelude.{_≡_, sym, ap, _∙_, List, ℕ, _-_, _*_, _≤_, _<_, arith, add-one, needs, length, getD}
 use Rattle.lists.specs.Tabulated.{over}
 use Rattle.lists.proofs.Tabulated.{length-over, over-in, over-same, over-over}
 use Rattle.model.specs.Iteration.{occurrences}
@@ -74,5 +68,5 @@ returns c =
 
 pub write-counts-spec : {M : Type 1} → statement M
 write-counts-spec =
-    tie.close (tie.spec Inv-loop μ-loop (λ c κs. search needs) loop-holds count-requires (λ c. search needs) (λ c. search needs) loop-again
-    (λ c. long (c .before)) returns)
+    tie.close (tie.spec Inv-loop μ-loop (λ c κs. search needs) loop-holds count-requires (λ c. search needs) (λ c. search needs) loop-again (λ c. long (c
+    .before)) returns)

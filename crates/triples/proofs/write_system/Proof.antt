@@ -1,11 +1,5 @@
 -- `triples::write_system` meets its contract: the triples, then the counts of what is written. Assumes nothing.
-use mathlib.Core.Path.{_≡_, sym, ap, _∙_}
-use mathlib.Core.List.{List}
-use Prim.Native.Nat.{ℕ, _*_}
-use native.Mathlib.Omega.{arith}
-use borrow.Author.Needs.{needs}
-use lib.ListN.{length, take, drop}
-use lib.Seq.{take-at}
+use Rattle.integers.proofs.Prelude.{_≡_, sym, ap, _∙_, List, ℕ, _*_, arith, needs, length, take, drop, take-at}
 use Rattle.lists.specs.Tabulated.{over, written}
 use Rattle.lists.proofs.Tabulated.{over-tab}
 use Rattle.model.specs.Code.{Code}
@@ -65,5 +59,5 @@ returns c =
 
 pub write-system-spec : {M : Type 1} → statement M
 write-system-spec =
-    tie.close (tie.spec (λ c κs. search needs) (λ c. search needs) (λ c. search needs) slice-aggregate-write-counts write-counts-requires
-    (λ c. search needs) (λ c. search needs) returns)
+    tie.close (tie.spec (λ c κs. search needs) (λ c. search needs) (λ c. search needs) slice-aggregate-write-counts write-counts-requires (λ c. search needs)
+    (λ c. search needs) returns)

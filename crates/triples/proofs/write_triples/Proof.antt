@@ -1,9 +1,5 @@
 -- `triples::write_triples` meets its contract: the checks so far, and their triples. Assumes nothing.
-use mathlib.Core.Path.{_≡_, refl}
-use Prim.Native.Nat.{_+_, _-_, _*_, _≤_, _<_}
-use native.Mathlib.Omega.{arith}
-use borrow.Author.Needs.{needs}
-use lib.ListN.{length, length-drop}
+use Rattle.integers.proofs.Prelude.{_≡_, refl, _+_, _-_, _*_, _≤_, _<_, arith, needs, length, length-drop}
 use Rattle.lists.proofs.Parts.{part-from}
 use Rattle.model.specs.Code.{tripleCount}
 use Rattle.model.specs.Records.{checkCount, indices, checksIn, codeOf}
@@ -88,8 +84,10 @@ returns c =
 
 pub write-triples-spec : {M : Type 1} → statement M
 write-triples-spec =
-    tie.close (tie.spec Inv-loop μ-loop (λ c κs. omega (arith, header (c .before .before) .room)) (λ c κs. header (c .before .before .before) .room)
-    (λ c κs. omega (arith, header (c .before .before .before .before) .room)) loop-holds (λ c. omega (arith, room c, long (c .before)))
-    (λ c. omega (arith, room c, long (c .before))) (λ c. omega (arith, room c, long (c .before))) (λ c. search needs) write-check-requires
-    triple-count-requires (λ c. search needs) add-done turns-requires add-next after-check-requires (λ c. search needs) (λ c. search needs) loop-again
-    (λ c. long (c .before)) returns)
+    tie.close (tie.spec Inv-loop μ-loop (λ c κs. omega (arith, header (c .before .before) .room)) (λ c κs. header (c .before .before .before) .room) (λ c κs.
+    omega (arith, header (c .before .before .before .before) .room)) loop-holds (λ c. omega (arith, room c, long (c .before))) (λ c. omega (
+      arith,
+      room c,
+      long (c .before),
+    )) (λ c. omega (arith, room c, long (c .before))) (λ c. search needs) write-check-requires triple-count-requires (λ c. search needs)
+    add-done turns-requires add-next after-check-requires (λ c. search needs) (λ c. search needs) loop-again (λ c. long (c .before)) returns)

@@ -1,9 +1,5 @@
 -- `values::cost_of` meets its contract: past the end of the costs stands 0. Assumes nothing.
-use mathlib.Core.Path.{sym}
-use native.Mathlib.Omega.{arith}
-use borrow.Author.Needs.{needs}
-use lib.IntN.{pos}
-use lib.ListN.{List·getD-eq-default}
+use Rattle.integers.proofs.Prelude.{sym, arith, needs, pos, List·getD-eq-default}
 use Rattle.values.proofs.cost_of.Statement.{statement}
 use Rattle.values.proofs.cost_of.Tie as tie
 

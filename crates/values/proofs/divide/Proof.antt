@@ -1,11 +1,5 @@
 -- `values::divide` meets its contract. Assumes nothing.
-use mathlib.Core.Path.{_≡_, ap, ap₂, _∙_}
-use Prim.Native.Nat.{_*_, _-_}
-use borrow.Author.Needs.{needs}
-use lib.IntN.{ℤ, pos, negℤ, _-ℤ_}
-use mir.Facts.{toZ-ofZ}
-use mir.Syntax.{w16, w64}
-use mir.Val.{toZ, ofZ}
+use Rattle.integers.proofs.Prelude.{_≡_, ap, ap₂, _∙_, _-_, _*_, needs, ℤ, pos, negℤ, _-ℤ_, w16, w64, toZ, ofZ, toZ-ofZ}
 use Rattle.integers.proofs.Machine.{Worth, kept, fits, stored, read-back, held, negative}
 use Rattle.quotient.specs.Quotient.{quotient}
 use Rattle.quotient.specs.Prepared.{Prepared}

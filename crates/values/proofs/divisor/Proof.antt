@@ -1,11 +1,5 @@
 -- `values::divisor` meets its contract. Assumes nothing.
-use mathlib.Core.Path.{_≡_, ap}
-use Prim.Native.Nat.{ℕ, _+_, _*_}
-use native.Mathlib.Omega.{arith}
-use borrow.Author.Needs.{needs}
-use lib.IntN.{pos, _-ℤ_}
-use mir.Syntax.{w64}
-use mir.Val.{toZ}
+use Rattle.integers.proofs.Prelude.{_≡_, ap, ℕ, _+_, _*_, arith, needs, pos, _-ℤ_, w64, toZ}
 use Rattle.integers.proofs.Machine.{Worth, fits, fits-one, stored, unsigned, also, minus}
 use Rattle.model.specs.Limits.{mostChecks, mostRatio}
 use Rattle.model.specs.Iteration.{divisor}

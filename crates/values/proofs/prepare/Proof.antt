@@ -1,11 +1,5 @@
 -- `values::prepare` meets its contract: the first i entries stand for their divisors. Assumes nothing.
-use mathlib.Core.Path.{_≡_, _∙_}
-use Prim.Native.Nat.{ℕ, suc, _-_, _*_, _≤_, _<_}
-use native.Mathlib.Omega.{arith}
-use borrow.Author.Needs.{needs}
-use lib.ListN.{length, length-set}
-use mir.Syntax.{w64}
-use mir.Val.{toZ, ofZ}
+use Rattle.integers.proofs.Prelude.{_≡_, _∙_, ℕ, suc, _-_, _*_, _≤_, _<_, arith, needs, length, length-set, w64, toZ, ofZ}
 use Rattle.quotient.specs.Prepared.{Prepared}
 use Rattle.model.specs.Iteration.{at, divisor}
 use Rattle.model.proofs.Bounds.{divisor-above, divisor-below}
@@ -62,6 +56,13 @@ returns c =
 pub prepare-spec : {M : Type 1} → statement M
 prepare-spec =
     tie.close (tie.spec Inv-loop μ-loop (λ c. (omega arith, c .pre .1, omega arith, λ k h. absurd (omega arith))) (λ c. omega arith) divisor-requires
-    prepare-requires (λ c. omega (arith, turn c .before .pre .2)) (λ c. omega (arith, turn c .loop .inv .1))
-    (λ c. omega (arith, turn (c .before) .before .pre .2)) (λ c. omega (arith, turn (c .before) .loop .inv .2)) (λ c. omega arith) (λ c. omega arith)
-    loop-again (λ c. let l = c .before in omega (arith, l .loop .inv .1, l .before .pre .1)) (λ c. c .before .loop .inv .2) returns)
+    prepare-requires (λ c. omega (arith, turn c .before .pre .2)) (λ c. omega (arith, turn c .loop .inv .1)) (λ c. omega (
+      arith,
+      turn (c .before) .before .pre
+          .2,
+    )) (λ c. omega (arith, turn (c .before) .loop .inv .2)) (λ c. omega arith) (λ c. omega arith) loop-again (λ c. let l = c .before in omega (
+      arith,
+      l
+          .loop .inv .1,
+      l .before .pre .1,
+    )) (λ c. c .before .loop .inv .2) returns)

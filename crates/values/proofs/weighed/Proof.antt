@@ -1,11 +1,5 @@
 -- `values::weighed` meets its contract. Assumes nothing.
-use mathlib.Core.Path.{ap}
-use Prim.Native.Nat.{_+_, _*_}
-use native.Mathlib.Omega.{arith}
-use borrow.Author.Needs.{needs}
-use lib.IntN.{ℤ, pos, natAbs, _+ℤ_, _*ℤ_}
-use mir.Syntax.{w16, w64}
-use mir.Val.{toZ, ofZ}
+use Rattle.integers.proofs.Prelude.{ap, _+_, _*_, arith, needs, ℤ, pos, natAbs, _+ℤ_, _*ℤ_, w16, w64, toZ, ofZ}
 use Rattle.integers.proofs.Machine.{Worth, fits, stored, unsigned, held, literal, plus, times}
 use Rattle.model.specs.Limits.{mostWeight, mostCost, mostSum}
 use Rattle.values.proofs.weighed.Statement.{statement}
@@ -35,5 +29,5 @@ returns c = let t = stored (total c) w64 tt in (t .is, omega (arith, ap natAbs (
 
 pub weighed-spec : {M : Type 1} → statement M
 weighed-spec =
-    tie.close (tie.spec (λ c. fits (scaled c) w64 tt) (λ c. search needs) (λ c. fits (cost-is c) w64 tt) (λ c. fits (weighted c) w64 tt)
-    (λ c. fits (total c) w64 tt) returns)
+    tie.close (tie.spec (λ c. fits (scaled c) w64 tt) (λ c. search needs) (λ c. fits (cost-is c) w64 tt) (λ c. fits (weighted c) w64 tt) (λ c. fits (total c)
+    w64 tt) returns)

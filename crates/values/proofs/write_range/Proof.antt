@@ -1,13 +1,6 @@
 -- `values::write_range` meets its contract: the values below v are written. Assumes nothing.
-use mathlib.Core.Path.{_≡_, ap, ap₂, _∙_}
-use Prim.Native.Nat.{ℕ, _+_, _-_, _*_, _≤_, _<_}
-use native.Mathlib.Omega.{arith}
-use borrow.Author.Needs.{needs}
-use lib.IntN.{ℤ, pos, negℤ, _+ℤ_, _*ℤ_}
-use lib.ListN.{length}
-use lib.Seq.{sets, length-sets}
-use mir.Syntax.{w16, w64}
-use mir.Val.{toZ, ofZ}
+use Rattle.integers.proofs.Prelude.{_≡_, ap, ap₂, _∙_, ℕ, _+_, _-_, _*_, _≤_, _<_, arith, needs, ℤ, pos, negℤ, _+ℤ_, _*ℤ_, length, sets, w16, w64, toZ, ofZ}
+use lib.Seq.{length-sets}
 use Rattle.integers.proofs.Machine.{kept, read-back, held}
 use Rattle.lists.specs.Tabulated.{tab}
 use Rattle.quotient.specs.Quotient.{quotient}
@@ -134,5 +127,5 @@ returns c =
 pub write-range-spec : {M : Type 1} → statement M
 write-range-spec =
     tie.close (tie.spec Inv-loop μ-loop loop-holds mul-weighed shared-slice-copy-out-weighed (λ c κs. search needs) weighed-requires mul-index
-    shared-slice-read-index (λ c κs. search needs) divide-requires mul-t21 slice-set-from-values (λ c. omega arith) (λ c. omega arith) loop-again
-    (λ c. long (c .before)) returns)
+    shared-slice-read-index (λ c κs. search needs) divide-requires mul-t21 slice-set-from-values (λ c. omega arith) (λ c. omega arith) loop-again (λ c. long
+    (c .before)) returns)

@@ -1,11 +1,5 @@
 -- `values::write_values` meets its contract: the bits, then the auxiliaries, past whose number no cost is left. Assumes nothing.
-use mathlib.Core.List.{List, []}
-use mathlib.Core.Path.{_≡_, _∙_}
-use Prim.Native.Nat.{ℕ, _+_, _-_}
-use native.Mathlib.Omega.{arith}
-use borrow.Author.Needs.{needs}
-use lib.IntN.{ℤ, pos}
-use lib.ListN.{length, take, drop, drop-of-length-le, List·getD-eq-default}
+use Rattle.integers.proofs.Prelude.{_≡_, _∙_, List, [], ℕ, _+_, _-_, arith, needs, ℤ, pos, length, take, drop, drop-of-length-le, List·getD-eq-default}
 use Rattle.lists.proofs.Parts.{part-from}
 use Rattle.model.specs.Iteration.{at}
 use Rattle.values.specs.Values.{valueFrom}
@@ -47,5 +41,5 @@ returns c =
 
 pub write-values-spec : {M : Type 1} → statement M
 write-values-spec =
-    tie.close (tie.spec (λ c κs. search needs) (λ c. search needs) (λ c. search needs) (λ c. search needs) (λ c. search needs) write-range-requires-2
-    (λ c. search needs) returns)
+    tie.close (tie.spec (λ c κs. search needs) (λ c. search needs) (λ c. search needs) (λ c. search needs) (λ c. search needs) write-range-requires-2 (λ c.
+    search needs) returns)

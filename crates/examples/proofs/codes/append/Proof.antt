@@ -1,8 +1,5 @@
 -- `examples::codes::append` meets its contract: the place stays within the list. Assumes nothing.
-use mathlib.Core.Path.{_≡_}
-use Prim.Native.Nat.{_-_, _≤_}
-use native.Mathlib.Omega.{arith}
-use lib.ListN.{length}
+use Rattle.integers.proofs.Prelude.{_≡_, _-_, _≤_, arith, length}
 use Rattle.examples.proofs.codes.append.Statement.{statement}
 use Rattle.examples.proofs.codes.append.Tie as tie
 

@@ -1,9 +1,5 @@
 -- `examples::codes::check` meets its contract: the record has room. Assumes nothing.
-use mathlib.Core.Path.{_≡_}
-use Prim.Native.Nat.{_-_}
-use native.Mathlib.Omega.{arith}
-use borrow.Author.Needs.{needs}
-use lib.ListN.{length}
+use Rattle.integers.proofs.Prelude.{_≡_, _-_, needs, length}
 use Rattle.examples.proofs.codes.check.Statement.{statement}
 use Rattle.examples.proofs.codes.check.Tie as tie
 
@@ -15,6 +11,6 @@ abbrev μ-loop : tie.MeasureT-loop
 
 pub check-spec : {M : Type 1} → statement M
 check-spec =
-    tie.close (tie.spec Inv-loop μ-loop (λ c. search needs) (λ c. search needs) (λ c. search needs) (λ c. search needs) (λ c. search needs) (λ c. search needs)
-    (λ c. search needs) (λ c. search needs) (λ c. search needs) (λ c. search needs) (λ c. search needs) (λ c κs. search needs) (λ c. search needs)
-    (λ c. search needs))
+    tie.close (tie.spec Inv-loop μ-loop (λ c. search needs) (λ c. search needs) (λ c. search needs) (λ c. search needs) (λ c. search needs) (λ c. search
+    needs) (λ c. search needs) (λ c. search needs) (λ c. search needs) (λ c. search needs) (λ c. search needs) (λ c κs. search needs) (λ c. search needs) (λ
+    c. search needs))

@@ -1,8 +1,5 @@
 -- `examples::codes::checks` meets its contract: the place stays within the list. Assumes nothing.
-use mathlib.Core.Path.{_≡_}
-use Prim.Native.Nat.{_-_, _≤_}
-use native.Mathlib.Omega.{arith}
-use lib.ListN.{length}
+use Rattle.integers.proofs.Prelude.{_≡_, _-_, _≤_, arith, length}
 use Rattle.examples.proofs.codes.checks.Statement.{statement}
 use Rattle.examples.proofs.codes.checks.Tie as tie
 
@@ -14,5 +11,5 @@ abbrev μ-loop : tie.MeasureT-loop
 
 pub checks-spec : {M : Type 1} → statement M
 checks-spec =
-    tie.close (tie.spec Inv-loop μ-loop (λ c. omega arith) (λ c. omega arith) (λ c. omega arith) (λ c. omega arith) (λ c. omega arith) (λ c. omega arith)
-    (λ c κs. omega arith) (λ c. omega arith) (λ c. omega arith) (λ c. omega arith) (λ c. omega arith) (λ c. omega arith) (λ c. omega arith))
+    tie.close (tie.spec Inv-loop μ-loop (λ c. omega arith) (λ c. omega arith) (λ c. omega arith) (λ c. omega arith) (λ c. omega arith) (λ c. omega arith) (λ c
+    κs. omega arith) (λ c. omega arith) (λ c. omega arith) (λ c. omega arith) (λ c. omega arith) (λ c. omega arith) (λ c. omega arith))

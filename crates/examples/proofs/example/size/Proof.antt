@@ -1,11 +1,5 @@
 -- `examples::example::size` meets its contract: bits up to those of infinity are no NaN's. Assumes nothing.
-use mathlib.Core.Path.{_≡_, refl, sym, subst}
-use mathlib.Core.Bool.{Bool, true, false, not}
-use Prim.Native.Nat.{ℕ, _/_, _%_, _≤_}
-use native.Mathlib.Omega.{arith}
-use borrow.Author.Needs.{needs}
-use borrow.Author.Tests.{ne-eqb, ltb-true, ltb-false}
-use lib.Dec.{T, ltb}
+use Rattle.integers.proofs.Prelude.{_≡_, refl, subst, Bool, true, false, not, ℕ, _/_, _%_, _≤_, arith, needs, ltb-true, ltb-false, ne-eqb, T, ltb}
 use lib.Ieee.{binary32, nanBits}
 use Rattle.examples.proofs.example.size.Statement.{statement}
 use Rattle.examples.proofs.example.size.Tie as tie

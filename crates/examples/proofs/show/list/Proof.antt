@@ -1,6 +1,5 @@
 -- `examples::show::list` meets its contract. Assumes nothing.
-use Prim.Native.Nat.{_-_}
-use native.Mathlib.Omega.{arith}
+use Rattle.integers.proofs.Prelude.{_-_, arith}
 use Rattle.examples.proofs.show.list.Statement.{statement}
 use Rattle.examples.proofs.show.list.Tie as tie
 
@@ -12,4 +11,5 @@ abbrev μ-loop : tie.MeasureT-loop
 
 pub list-spec : {M : Type 1} → statement M
 list-spec =
-    tie.close (tie.spec Inv-loop μ-loop (λ c κs. tt) (λ c κs. tt) (λ c. tt) (λ c κs. omega arith) (λ c κs. tt) (λ c. omega arith) (λ c. omega arith) (λ c. tt) (λ c. tt))
+    tie.close (tie.spec Inv-loop μ-loop (λ c κs. tt) (λ c κs. tt) (λ c. tt) (λ c κs. omega arith) (λ c κs. tt) (λ c. omega arith) (λ c. omega arith) (λ c. tt)
+    (λ c. tt))

@@ -1,12 +1,7 @@
 -- `examples::show::magnitude` meets its contract: a number below 0 is -m - 1, and m fits. Assumes nothing.
-use mathlib.Core.Path.{_≡_, refl}
-use mathlib.Core.Bool.{true}
-use Prim.Native.Nat.{_+_}
-use native.Mathlib.Omega.{arith}
-use lib.IntN.{ℤ, pos, negℤ, natAbs, _+ℤ_, _-ℤ_, negℤ-negℤ}
-use lib.Signed.{ltZ, mag}
-use mir.Syntax.{w64}
-use mir.Val.{toZ, ofZ}
+use Rattle.integers.proofs.Prelude.{_≡_, refl, true, _+_, arith, ℤ, pos, natAbs, negℤ, _+ℤ_, _-ℤ_, ltZ, w64, toZ, ofZ}
+use lib.IntN.{negℤ-negℤ}
+use lib.Signed.{mag}
 use Rattle.integers.proofs.Linear.{readℤ, about, about-neg, about-sum, abs-neg, above-abs}
 use Rattle.integers.proofs.Machine.{Worth, abs-fits, literal, local, negative, plus, also, fits, stored}
 use Rattle.examples.proofs.show.magnitude.Statement.{statement}
@@ -63,5 +58,4 @@ returns-2 c = rw (x-is (c .before) .is) refl
 
 pub magnitude-spec : {M : Type 1} → statement M
 magnitude-spec =
-    tie.close
-    (tie.spec add-result sub-result cast-result add-result-2 cast-result-2 returns returns-2)
+    tie.close (tie.spec add-result sub-result cast-result add-result-2 cast-result-2 returns returns-2)

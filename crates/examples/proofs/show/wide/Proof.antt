@@ -1,6 +1,5 @@
 -- `examples::show::wide` meets its contract. Assumes nothing.
-use mir.Syntax.{w16}
-use mir.Facts.{toZ-ofZ}
+use Rattle.integers.proofs.Prelude.{w16, toZ-ofZ}
 use Rattle.integers.proofs.Machine.{widen}
 use Rattle.examples.proofs.show.wide.Statement.{statement}
 use Rattle.examples.proofs.show.wide.Tie as tie

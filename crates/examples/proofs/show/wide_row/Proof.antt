@@ -1,6 +1,5 @@
 -- `examples::show::wide_row` meets its contract. Assumes nothing.
-use mir.Syntax.{w32}
-use mir.Facts.{toZ-ofZ}
+use Rattle.integers.proofs.Prelude.{w32, toZ-ofZ}
 use Rattle.integers.proofs.Machine.{widen}
 use Rattle.examples.proofs.show.wide_row.Statement.{statement}
 use Rattle.examples.proofs.show.wide_row.Tie as tie

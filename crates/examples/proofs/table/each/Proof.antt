@@ -1,7 +1,5 @@
 -- `examples::table::each` meets its contract. Assumes nothing.
-use Prim.Native.Nat.{_-_}
-use native.Mathlib.Omega.{arith}
-use lib.ListN.{length}
+use Rattle.integers.proofs.Prelude.{_-_, arith, length}
 use Rattle.examples.proofs.table.each.Statement.{statement}
 use Rattle.examples.proofs.table.each.Tie as tie
 
@@ -13,5 +11,5 @@ abbrev μ-loop : tie.MeasureT-loop
 
 pub each-spec : {M : Type 1} → statement M
 each-spec =
-    tie.close (tie.spec Inv-loop μ-loop (λ c. tt) (λ c κs. omega arith) (λ c. omega arith) (λ c. omega arith) (λ c. omega arith) (λ c κs. tt) (λ c. omega arith)
-    (λ c. omega arith) (λ c. tt) (λ c. tt))
+    tie.close (tie.spec Inv-loop μ-loop (λ c. tt) (λ c κs. omega arith) (λ c. omega arith) (λ c. omega arith) (λ c. omega arith) (λ c κs. tt) (λ c. omega
+    arith) (λ c. omega arith) (λ c. tt) (λ c. tt))

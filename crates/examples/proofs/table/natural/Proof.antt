@@ -1,8 +1,6 @@
 -- `examples::table::natural` meets its contract: the number stays below 2^32. Assumes nothing.
-use Prim.Native.Nat.{_-_, _*_, _≤_, _<_}
+use Rattle.integers.proofs.Prelude.{_-_, _*_, _≤_, arith, length}
 use native.Mathlib.Nat.{mul-le-mul}
-use native.Mathlib.Omega.{arith}
-use lib.ListN.{length}
 use Rattle.examples.proofs.table.natural.Statement.{statement}
 use Rattle.examples.proofs.table.natural.Tie as tie
 
@@ -17,6 +15,9 @@ product l = mul-le-mul (l .before .before .pre .1) (l .loop .inv .1)
 
 pub natural-spec : {M : Type 1} → statement M
 natural-spec =
-    tie.close (tie.spec Inv-loop μ-loop (λ c. omega arith) (λ c. omega arith) (λ c κs. tt) (λ c. omega arith) (λ c. omega arith)
-    (λ c. omega (arith, product (c .before .before .before .before))) (λ c. omega (arith, product (c .before .before .before .before))) (λ c. omega arith) (λ c. omega arith)
-    (λ c. omega arith) (λ c. omega arith))
+    tie.close (tie.spec Inv-loop μ-loop (λ c. omega arith) (λ c. omega arith) (λ c κs. tt) (λ c. omega arith) (λ c. omega arith) (λ c. omega (
+      arith,
+      product
+          (c .before .before .before .before),
+    )) (λ c. omega (arith, product (c .before .before .before .before))) (λ c. omega arith) (λ c. omega arith) (λ c. omega
+    arith) (λ c. omega arith))
