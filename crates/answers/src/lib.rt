@@ -9,19 +9,24 @@ ghost use Rattle.model.specs.Calls.{outOfRange, forbidden};
 ghost use Rattle.program.specs.Frames as Frames;
 ghost use Rattle.program.specs.FrameClaims.{HeldCode, frameText, goesOn};
 use model::Settings;
+use program::HELD_BITS;
+use program::HELD_MEMBERS;
+use program::HELD_ROWS;
+use program::HELD_VARIABLES;
+use program::LINE;
 
 // The line of a sound frame; how many bytes it has.
 fn answer(
     code: &[u8],
     settings: Settings,
     costs: &[i16],
-    triples: &mut [u16; 3072],
-    counts: &mut [u16; 1536],
-    sums: &mut [i64; 1536],
-    values: &mut [i16; 1536],
-    rows: &mut [i32; 4096],
-    word: &mut [u8; 512],
-    out: &mut [u8; 640],
+    triples: &mut [u16; HELD_MEMBERS],
+    counts: &mut [u16; HELD_VARIABLES],
+    sums: &mut [i64; HELD_VARIABLES],
+    values: &mut [i16; HELD_VARIABLES],
+    rows: &mut [i32; HELD_ROWS],
+    word: &mut [u8; HELD_BITS],
+    out: &mut [u8; LINE],
 ) -> usize
     requires { ⌜ HeldCode (now code) × (outOfRange settings ≡ false)
         × (length (now costs) ≡ codeOf (now code) .bits) × (some forbidden (now costs) ≡ false) ⌝ }
@@ -54,14 +59,14 @@ pub fn frame_line(
     code: &[u8],
     settings: Settings,
     bytes: &[u8],
-    costs: &mut [i16; 512],
-    triples: &mut [u16; 3072],
-    counts: &mut [u16; 1536],
-    sums: &mut [i64; 1536],
-    values: &mut [i16; 1536],
-    rows: &mut [i32; 4096],
-    word: &mut [u8; 512],
-    out: &mut [u8; 640],
+    costs: &mut [i16; HELD_BITS],
+    triples: &mut [u16; HELD_MEMBERS],
+    counts: &mut [u16; HELD_VARIABLES],
+    sums: &mut [i64; HELD_VARIABLES],
+    values: &mut [i16; HELD_VARIABLES],
+    rows: &mut [i32; HELD_ROWS],
+    word: &mut [u8; HELD_BITS],
+    out: &mut [u8; LINE],
 ) -> Line
     requires { ⌜ HeldCode (now code) × (outOfRange settings ≡ false) ⌝ }
     ensures { λ r. ⌜ (let k = codeOf (now (code .entry)) in let b = now (bytes .entry) in

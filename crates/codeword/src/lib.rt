@@ -27,7 +27,7 @@ fn is_odd(s: &[u8], word: &[u8]) -> bool
     let mut sum = 0usize;
     for i in 0..d {
         let v = records::index(s, i);
-        sum += records::wide(word[v]);
+        sum += slices::byte(word[v]);
     }
     sum % 2 == 1
 }
@@ -90,7 +90,7 @@ fn copy(word: &[u8], point: &mut [u8])
 fn parity(x: u8, y: u8) -> u8
     ensures { λ r. ⌜ r ≡ (x + y) % 2 ⌝ }
 {
-    ((records::wide(x) + records::wide(y)) % 2) as u8
+    ((slices::byte(x) + slices::byte(y)) % 2) as u8
 }
 
 // The auxiliaries of the check record that `s` begins with, from `next` on: each from the two items of the queue that it is made of.

@@ -1,12 +1,10 @@
 // The decoder (document 01): the causes in their order, the run of the code's system in the lent lists, and what its last values say.
 ghost use mathlib.Core.Path.{_≡_};
 ghost use mathlib.Core.Bool.{false, _||_};
-ghost use mathlib.Core.List.{[], _∷_};
 ghost use Prim.Native.Nat.{_*_, _≤_};
 ghost use lib.Dec.{ltb};
 ghost use lib.ListN.{length};
 ghost use Rattle.lists.specs.Tabulated.{written};
-ghost use Rattle.lists.specs.Entries.{some};
 ghost use Rattle.quotient.specs.Quotient.{quotient};
 ghost use Rattle.model.specs.Causes.{_if_, firstOf};
 ghost use Rattle.model.specs.Code as Code;
@@ -15,7 +13,7 @@ ghost use Rattle.model.specs.Splitting.{systemOf};
 ghost use Rattle.model.specs.Iteration.{countsOf};
 ghost use Rattle.model.specs.Run as Run;
 ghost use Rattle.model.specs.Calls as Calls;
-ghost use Rattle.model.specs.Calls.{unequal, forbidden, listsOf, decodingTold, decodedBy};
+ghost use Rattle.model.specs.Calls.{inputCauses, listsOf, decodingTold, decodedBy};
 ghost use Rattle.model.specs.Told.{decodingKind};
 ghost use Rattle.model.specs.DecoderClaims.{Small};
 ghost use Rattle.model.specs.Promises.{DecoderCall};
@@ -50,9 +48,7 @@ fn no_room(bits: usize, total: usize, variables: usize, room: Room) -> bool
 
 // The first of 11, 12, 13 and 10, or 0.
 fn cause(settings: Settings, costs: &[i16], bits: usize, short: bool) -> u32
-    ensures { λ r. ⌜ r ≡ firstOf (
-        11 if Calls.outOfRange settings ∷ 12 if unequal (now (costs .entry)) bits ∷
-        13 if some forbidden (now (costs .entry)) ∷ 10 if short ∷ []) ⌝ }
+    ensures { λ r. ⌜ r ≡ firstOf (inputCauses settings (now (costs .entry)) bits short) ⌝ }
     ensures { λ r. ⌜ (r ≡ 0 → Small (now (costs .entry))) ⌝ }
 {
     if inputs::out_of_range(settings) {

@@ -3,6 +3,12 @@
 ghost use mathlib.Core.Path.{_≡_};
 ghost use Prim.Native.Nat.{_+_, _≤_};
 ghost use lib.ListN.{length, take};
+use program::BUFFER;
+use program::HELD_BITS;
+use program::HELD_MEMBERS;
+use program::HELD_ROWS;
+use program::HELD_VARIABLES;
+use program::LINE;
 
 // At most `want` bytes of standard input, to `buffer` from `at` on; how many came. A read that fails ends the input.
 fn read(buffer: &mut [u8], at: usize, want: usize) -> usize
@@ -13,15 +19,15 @@ fn read(buffer: &mut [u8], at: usize, want: usize) -> usize
 }
 
 fn main() {
-    let mut buffer = [0u8; 10260];
-    let mut costs = [0i16; 512];
-    let mut triples = [0u16; 3072];
-    let mut counts = [0u16; 1536];
-    let mut sums = [0i64; 1536];
-    let mut values = [0i16; 1536];
-    let mut rows = [0i32; 4096];
-    let mut word = [0u8; 512];
-    let mut out = [0u8; 640];
+    let mut buffer = [0u8; BUFFER];
+    let mut costs = [0i16; HELD_BITS];
+    let mut triples = [0u16; HELD_MEMBERS];
+    let mut counts = [0u16; HELD_VARIABLES];
+    let mut sums = [0i64; HELD_VARIABLES];
+    let mut values = [0i16; HELD_VARIABLES];
+    let mut rows = [0i32; HELD_ROWS];
+    let mut word = [0u8; HELD_BITS];
+    let mut out = [0u8; LINE];
     let mut state = session::start();
     let mut turns = u64::MAX;
     while 0 < turns && 0 < state.want {

@@ -13,18 +13,12 @@ ghost use Rattle.layout.specs.Transposed.{cell, Fours, lane, stored, str
 
 // ---- one triple
 
-fn index(x: u16) -> usize
-    ensures { λ r. ⌜ r ≡ x ⌝ }
-{
-    x as usize
-}
-
 // The variable at position p of triple t.
 pub fn variable(triples: &[u16], t: usize, p: usize) -> usize
     requires { ⌜ (t ≤ mostTriples) × (p < 3) × (3 * t + p < length (now triples)) ⌝ }
     ensures { λ v. ⌜ v ≡ member (now (triples .entry)) t p ⌝ }
 {
-    index(triples[3 * t + p])
+    slices::index(triples[3 * t + p])
 }
 
 // Entries 4t to 4t + 3: the rows of triple t, where they are not transposed.

@@ -1,5 +1,5 @@
 -- How large the numbers of a run get. Assumes nothing.
-use Rattle.integers.proofs.Prelude.{_≡_, _∙_, Bool, true, false, List, ℕ, zero, suc, _+_, _*_, _/_, _%_, _^_, _≤_, _<_, arith, ltb-false, eqb, ltb, ℤ, pos}
+use Rattle.integers.proofs.Prelude.{_≡_, _∙_, Bool, true, false, List, ℕ, zero, suc, _+_, _*_, _/_, _%_, _^_, _≤_, _<_, arith, eqb, ℤ, pos}
 use Rattle.integers.proofs.Prelude.{natAbs, negℤ, _+ℤ_, _-ℤ_, _*ℤ_, _≤ℤ_, _<ℤ_, length}
 use native.Mathlib.Nat.{mul-le-mul, mul-le-mul-left, le-trans, le-of-eq}
 use Rattle.integers.specs.Parts.{up, dn}
@@ -9,7 +9,7 @@ use Rattle.integers.proofs.Sums.{sumℕ-same, sumℕ-scale, sumℕ-bound, sum�
 use Rattle.quotient.specs.Quotient.{unit, quotient}
 use Rattle.quotient.specs.Quotient.Laws.{quotient-range}
 use Rattle.model.specs.declared.Settings.{Settings}
-use Rattle.model.specs.Causes.{_if_, outside}
+use Rattle.model.specs.Causes.{_if_}
 use Rattle.model.specs.Limits.{mostChecks, mostTriples, mostWeight, mostRatio, mostCost, mostDone}
 use Rattle.model.specs.Code.{Code, triples, variables}
 use Rattle.model.specs.Sound.{Sound}
@@ -18,7 +18,7 @@ use Rattle.model.specs.Splitting.{System, systemOf, member}
 use Rattle.model.specs.Iteration.{at, row, sign, rowSum, sumAt, slack, multiplier, share, _when_, sumOf, occurrences, numerator, divisor, renewed, State, sumsOf, valueOf, valuesOf, rowsOf, iterate}
 use Rattle.model.specs.Run.{squareOfChange, changes, start, after}
 use Rattle.model.specs.Bounds.{RowsWithin, Ready, Bounds}
-use Rattle.model.proofs.Causes.{within, or-false}
+use Rattle.model.proofs.Causes.{in-range, within}
 use Rattle.model.proofs.TripleRule.{occurs-some, occurs-few}
 use Rattle.model.proofs.Rows.{signed-abs, at-tab, none, row-renewed}
 
@@ -181,14 +181,13 @@ pub ready : (k : Code) → Sound k → (o : Settings) → outOfRange o ≡ false
     → Ready (variables k) (systemOf k .members) (triples k) o costs
 unfolding systemOf
 ready k s o h costs e small =
-    let a = or-false (outside 1 mostWeight (o .weight)) _ h in
-    let b = or-false (ltb mostRatio (o .ratio)) _ (a .1) in
+    let r = in-range o .0 h in
     record {
       some = occurs-some k s;
       few = λ v _. occurs-few k s v;
       bits = omega (arith, e);
       triples = s .triples-most;
-      weight = within 1 mostWeight (o .weight) (a .0) .1;
-      ratio = ltb-false mostRatio (o .ratio) (b .0);
+      weight = r .weight .1;
+      ratio = r .ratio;
       cost = small;
     }

@@ -12,7 +12,7 @@ use Rattle.model.specs.Points.{Codeword}
 use Rattle.model.specs.Calls.{outOfRange, unequal, forbidden, Lists, Decoded, noRoom, decoderCauses, decoderCause, decodedBy, decoder}
 use Rattle.model.specs.Order.{runCauses, Follows, Refusal, Ordered, oneToNine}
 use Rattle.model.specs.Told.{Refuses}
-use Rattle.model.specs.DecoderClaims.{inputCauses, runOf, Refused, Ran}
+use Rattle.model.specs.DecoderClaims.{causesBefore, runOf, Refused, Ran}
 use Rattle.model.proofs.Causes.{first-joined, stays, Clear, clear}
 use Rattle.model.proofs.Order.{listed, whole, follow, refuses, after-records, outcome-order}
 use Rattle.model.proofs.WordClaims.{tested-is, outcome-is, outcome-claims}
@@ -33,7 +33,7 @@ module _ (b : List ℕ) (o : Settings) (costs : List ℤ) (l : Lists) where
       (16, ltb (firstUndecided k c) (k .bits)) ∷ (17, ltb (firstOdd k (wordOf k c)) (length (k .checks))) ∷ []
 
   -- the causes of the input, one by one
-  pub input-ordered : Ordered (inputCauses b o costs l) (oneToNine ++ (10 ∷ 11 ∷ 12 ∷ 13 ∷ [])) (decoderCause b o costs l)
+  pub input-ordered : Ordered (causesBefore b o costs l) (oneToNine ++ (10 ∷ 11 ∷ 12 ∷ 13 ∷ [])) (decoderCause b o costs l)
   input-ordered =
       let T = oneToNine ++ (10 ∷ 11 ∷ 12 ∷ 13 ∷ []) in
       after-records (10 ∷ 11 ∷ 12 ∷ 13 ∷ []) b (decoderCauses (codeOf b) o costs l) (decoderCause b o costs l)
@@ -43,7 +43,7 @@ module _ (b : List ℕ) (o : Settings) (costs : List ℤ) (l : Lists) where
   pub input-refuses : (c : ℕ) → decoderCause b o costs l ≡ suc c → Refuses (suc c)
   input-refuses c e =
       let T = oneToNine ++ (10 ∷ 11 ∷ 12 ∷ 13 ∷ []) in
-      refuses (inputCauses b o costs l) T c refl (subst (Ordered (inputCauses b o costs l) T) e input-ordered)
+      refuses (causesBefore b o costs l) T c refl (subst (Ordered (causesBefore b o costs l) T) e input-ordered)
 
   refusal : (c : ℕ) → decoderCause b o costs l ≡ suc c
       → decoder b o costs l ≡ record { answer = record { number = suc c; place = 0; k = 0; settled = 0 }; lists = l }
@@ -53,7 +53,7 @@ module _ (b : List ℕ) (o : Settings) (costs : List ℤ) (l : Lists) where
   pub refused : (c : ℕ) → decoderCause b o costs l ≡ suc c → Refused b o costs l (decoder b o costs l)
   refused c h =
       subst (Refused b o costs l) (sym (refusal c h)) (record {
-        order = subst (Refusal (inputCauses b o costs l) (oneToNine ++ (10 ∷ 11 ∷ 12 ∷ 13 ∷ []))) h (input-ordered .refused c h);
+        order = subst (Refusal (causesBefore b o costs l) (oneToNine ++ (10 ∷ 11 ∷ 12 ∷ 13 ∷ []))) h (input-ordered .refused c h);
         told = refl;
         untouched = refl;
       })

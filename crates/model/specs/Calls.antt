@@ -164,8 +164,12 @@ noRoom k l =
     short (3 * triples k) (l .triples) || (short (variables k) (l .counts) || (short (variables k) (l .sums)
     || (short (variables k) (l .values) || (short (4 * triples k) (l .rows) || short (k .bits) (l .word)))))
 
+-- of the settings, of the costs of n bits, and of lists that are too short or not
+abbrev pub inputCauses : Settings → List ℤ → ℕ → Bool → List ℕ
+inputCauses o costs n tooShort = 11 if outOfRange o ∷ 12 if unequal costs n ∷ 13 if some forbidden costs ∷ 10 if tooShort ∷ []
+
 abbrev pub decoderCauses : Code → Settings → List ℤ → Lists → List ℕ
-decoderCauses k o costs l = 11 if outOfRange o ∷ 12 if unequal costs (k .bits) ∷ 13 if some forbidden costs ∷ 10 if noRoom k l ∷ []
+decoderCauses k o costs l = inputCauses o costs (k .bits) (noRoom k l)
 
 -- why a call is refused, 0 where it is not
 unfoldable pub decoderCause : List ℕ → Settings → List ℤ → Lists → ℕ

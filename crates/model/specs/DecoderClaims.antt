@@ -25,8 +25,8 @@ use Rattle.model.specs.Paper.{Paper}
 use Rattle.model.specs.PaperSystem.{PaperSystem, Projection, StartStop}
 
 -- the causes before a run, one by one
-abbrev pub inputCauses : List ℕ → Settings → List ℤ → Lists → List ℕ
-inputCauses b o costs l = recordCauses b ++ decoderCauses (codeOf b) o costs l
+abbrev pub causesBefore : List ℕ → Settings → List ℤ → Lists → List ℕ
+causesBefore b o costs l = recordCauses b ++ decoderCauses (codeOf b) o costs l
 
 -- the run of the code that b says, and its state after i iterations
 abbrev pub runOf : List ℕ → Settings → List ℤ → Ended
@@ -38,7 +38,7 @@ iterateOf b o costs i = after quotient (systemOf (codeOf b)) o costs i (start (s
 -- ---- demand 1: a call that is refused
 pub record Refused (b : List ℕ) (o : Settings) (costs : List ℤ) (l : Lists) (d : Decoded) : Type 0 where
   -- its number is 1 to 13, its cause holds and no earlier one does
-  pub order : Refusal (inputCauses b o costs l) (oneToNine ++ (10 ∷ 11 ∷ 12 ∷ 13 ∷ [])) (d .answer .number)
+  pub order : Refusal (causesBefore b o costs l) (oneToNine ++ (10 ∷ 11 ∷ 12 ∷ 13 ∷ [])) (d .answer .number)
   -- "result fields that a row does not name are 0"
   pub told : d .answer ≡ record { number = d .answer .number; place = 0; k = 0; settled = 0 }
   -- "a refused input leaves all lent lists as they were"
@@ -46,7 +46,7 @@ pub record Refused (b : List ℕ) (o : Settings) (costs : List ℤ) (l : Lists) 
 
 -- a call that is not refused: none of the causes holds, and the number says what the last values are
 pub record Ran (b : List ℕ) (o : Settings) (costs : List ℤ) (l : Lists) (d : Decoded) : Type 0 where
-  pub sound : (i : ℕ) → getD (inputCauses b o costs l) i 0 ≡ 0
+  pub sound : (i : ℕ) → getD (causesBefore b o costs l) i 0 ≡ 0
   pub number : (d .answer .number ≡ 0) ⊎ ((d .answer .number ≡ 16) ⊎ (d .answer .number ≡ 17))
   pub answer : (d .answer .number ≡ outcome (codeOf b) (runOf b o costs .last .values) .number)
       × (d .answer .place ≡ outcome (codeOf b) (runOf b o costs .last .values) .place)

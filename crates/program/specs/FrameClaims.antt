@@ -15,6 +15,10 @@ use Rattle.program.specs.Frames.{heldBits, heldTriples, judgeHeldHeader,
 
 -- ---- the bytes kept, which the input begins with
 
+-- there is room for so many, and for those that are asked for
+abbrev pub bufferSize : ℕ
+bufferSize = 10260
+
 -- a header and check records, sound and within the program's room; `left` checks are to come, t triples are held. Of every input that begins with b,
 -- the bytes after b tell what is left to judge of the checks and what follows them.
 pub record Begun (left t : ℕ) (b : List ℕ) : Type 0 where

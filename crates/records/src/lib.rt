@@ -21,12 +21,6 @@ use model::MOST_DEGREE;
 use model::MOST_TRIPLES;
 use model::Reading;
 
-pub fn wide(x: u8) -> usize
-    ensures { λ r. ⌜ (r ≡ x) × (r ≤ 255) ⌝ }
-{
-    x as usize
-}
-
 fn outside(low: usize, high: usize, x: usize) -> bool
     ensures { λ r. ⌜ r ≡ outside low high x ⌝ }
 {
@@ -38,7 +32,7 @@ pub fn two_bytes(s: &[u8], at: usize) -> usize
     requires { ⌜ at + 2 ≤ length (now s) ⌝ }
     ensures { λ r. ⌜ (r ≡ twoBytes (drop at (now (s .entry)))) × (r ≤ 65535) ⌝ }
 {
-    256 * wide(s[at]) + wide(s[at + 1])
+    256 * slices::byte(s[at]) + slices::byte(s[at + 1])
 }
 
 // The check records of a code, behind its header.
@@ -54,7 +48,7 @@ pub fn degree(s: &[u8]) -> usize
     requires { ⌜ 3 ≤ length (now s) ⌝ }
     ensures { λ r. ⌜ (r ≡ degree (now (s .entry))) × (r ≡ length (indices (now (s .entry)))) × (r ≤ 255) ⌝ }
 {
-    wide(s[2])
+    slices::byte(s[2])
 }
 
 // Index i of that check.

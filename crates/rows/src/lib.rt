@@ -127,12 +127,6 @@ pub fn renewed_rows(s: [i32; 4], sums: [i32; 4]) -> [i32; 4]
 
 // ---- the squares of the changes
 
-fn wide(x: i32) -> i64
-    ensures { λ z. ⌜ z ≡ x ⌝ }
-{
-    x as i64
-}
-
 fn square(x: i64) -> u64
     requires { ⌜ natAbs x ≤ 2 * mostRow ⌝ }
     ensures { λ n. ⌜ n ≡ natAbs x * natAbs x ⌝ }
@@ -145,7 +139,7 @@ fn change(a: i32, b: i32) -> u64
     requires { ⌜ (natAbs a ≤ mostRow) × (natAbs b ≤ mostRow) ⌝ }
     ensures { λ n. ⌜ n ≡ squareOfChange (multiplier a) (multiplier b) ⌝ }
 {
-    square(wide(positive(b)) - wide(positive(a)))
+    square(slices::i32_to_i64(positive(b)) - slices::i32_to_i64(positive(a)))
 }
 
 // Of one side of row r: with 1 the change of its multiplier, with -1 that of its slack, which is the multiplier of the row's negative.

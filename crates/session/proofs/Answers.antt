@@ -13,7 +13,7 @@ use Rattle.answers.proofs.Answers.{bits-of, code-long}
 use Rattle.session.specs.declared.State.{State}
 use Rattle.session.specs.declared.Part.the-variants.{Frame}
 use Rattle.session.specs.Session.{over, isOver, AtFrame, Due, Asked, Told}
-use Rattle.session.proofs.Steps.{over-held}
+use Rattle.session.proofs.Steps.{over-kept}
 use Rattle.session.proofs.Records.{counted}
 
 module _ (buffer : List ℕ) (long : length buffer ≡ 10260) (st : State) (came : ℕ) (a : Asked st came buffer) (p : st .part ≡ Frame) where
@@ -28,10 +28,10 @@ module _ (buffer : List ℕ) (long : length buffer ≡ 10260) (st : State) (came
   bytes = take came (drop (st .at) buffer)
 
   abbrev due : AtFrame st b
-  due = subst (λ q. Due q st b) p (a .held .due)
+  due = subst (λ q. Due q st b) p (a .kept .due)
 
   pub behind : 12 ≤ st .at
-  behind = let l = length-drop size b in let k = a .held .kept in omega (arith, due .set .twelve)
+  behind = let l = length-drop size b in let k = a .kept .long in omega (arith, due .set .twelve)
 
   code-is : take size b ≡ take size buffer
   code-is = take-take size (st .at) buffer (omega arith)
@@ -65,7 +65,7 @@ module _ (buffer : List ℕ) (long : length buffer ≡ 10260) (st : State) (came
 
   want-is : st .want ≡ frameSize n
   want-is =
-      let six : 6 ≤ size = omega (arith, code-long code held, length-take-le size buffer (omega (arith, a .held .fits))) in
+      let six : 6 ≤ size = omega (arith, code-long code held, length-take-le size buffer (omega (arith, a .kept .fits))) in
       let same : bitCount b ≡ bitCount code = two-take 2 (st .at) buffer (omega arith) ∙ sym (two-take 2 size buffer (omega arith)) in
       due .want ∙ ap frameSize (same ∙ sym (bits-of code))
 
@@ -82,13 +82,13 @@ module _ (buffer : List ℕ) (long : length buffer ≡ 10260) (st : State) (came
       stepped = record {
         writes = λ s e. rw (going, text) (next s e ∙ rw (← g));
         ends = λ h. (let z : _≡_ {A = ℕ} 0 1 = cc (g ∙ cut-ends n bytes (omega (arith, counted buffer long st came a, want-is))) in absurd (omega arith));
-        holds = a .held;
+        holds = a .kept;
       };
       within = most;
     }
 
     pub stops : {after : State} → after ≡ over → false ≡ goesOn n bytes → Told buffer st came (record { state = after; written = w }) out
     stops z g = record {
-      stepped = record { writes = λ s e. rw (going, text, z) (next s e ∙ rw (← g)); ends = λ h. rw z; holds = rw z (over-held buffer) };
+      stepped = record { writes = λ s e. rw (going, text, z) (next s e ∙ rw (← g)); ends = λ h. rw z; holds = rw z (over-kept buffer) };
       within = most;
     }

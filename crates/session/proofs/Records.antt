@@ -47,7 +47,7 @@ module _ (buffer : List ℕ) (long : length buffer ≡ 10260) (at left t : ℕ) 
   kept-most = omega (arith, kept-long, begun-room left t (take at buffer) g .1)
 
   pub next-check : 0 < left → (out : List ℕ) → Entered buffer at (record { state = record { part = Check; at = at; want = 3; left = left; triples = t }; written = 0 }) out
-  next-check h out = entered buffer at _ out refl refl (record { kept = kept-long; fits = omega (arith, kept-most); due = (g, h, refl) })
+  next-check h out = entered buffer at _ out refl refl (record { long = kept-long; fits = omega (arith, kept-most); due = (g, h, refl) })
 
   module _ (none : left ≤ 0) where
     whole : Begun 0 t (take at buffer)
@@ -57,7 +57,7 @@ module _ (buffer : List ℕ) (long : length buffer ≡ 10260) (at left t : ℕ) 
     code-refused {c} e h f = entry-refused buffer at f (λ s. Program.code-refused t (take at buffer) whole s c h e)
 
     pub code-kept : judge (take at buffer) ≡ 0 → (out : List ℕ) → Entered buffer at (record { state = record { part = Settings; at = at; want = 12; left = left; triples = t }; written = 0 }) out
-    code-kept h out = entered buffer at _ out refl refl (record { kept = kept-long; fits = omega (arith, kept-most); due = (record { begun = whole; sound = h }, refl) })
+    code-kept h out = entered buffer at _ out refl refl (record { long = kept-long; fits = omega (arith, kept-most); due = (record { begun = whole; sound = h }, refl) })
 
 module _ (buffer : List ℕ) (long : length buffer ≡ 10260) (st : State) (came : ℕ) (a : Asked st came buffer) where
   -- the bytes that are kept, and those that came
@@ -68,7 +68,7 @@ module _ (buffer : List ℕ) (long : length buffer ≡ 10260) (st : State) (came
   bytes = take came (drop (st .at) buffer)
 
   pub counted : length bytes ≡ came
-  counted = length-take-le came (drop (st .at) buffer) (omega (arith, a .most, a .held .fits, length-drop (st .at) buffer))
+  counted = length-take-le came (drop (st .at) buffer) (omega (arith, a .most, a .kept .fits, length-drop (st .at) buffer))
 
   -- once k bytes came and are kept: those kept before, and those k
   behind : (k : ℕ) → came ≡ k → let next = st .at + came in (take (next - k) (take next buffer) ≡ b) × (drop (next - k) (take next buffer) ≡ bytes)
@@ -80,10 +80,10 @@ module _ (buffer : List ℕ) (long : length buffer ≡ 10260) (st : State) (came
   -- ---- the header
   module _ (p : st .part ≡ Header) where
     abbrev due : Due Header st b
-    due = subst (λ q. Due q st b) p (a .held .due)
+    due = subst (λ q. Due q st b) p (a .kept .due)
 
     first : st .at ≡ 0
-    first = sym (a .held .kept) ∙ ap length (due .0)
+    first = sym (a .kept .long) ∙ ap length (due .0)
 
     all-came : bytes ≡ take came buffer
     all-came = rw first
@@ -112,18 +112,18 @@ module _ (buffer : List ℕ) (long : length buffer ≡ 10260) (st : State) (came
         } in
         let some : 0 < m = omega (arith, count, header-sound (take 6 buffer) (header-held (take 6 buffer) z .sound) .checks-least) in
         kept-too buffer st came (ap isOver p) (six ∙ sym (due .1))
-        (entered buffer (st .at + came) _ out refl (omega (arith, first, six)) (record { kept = l; fits = omega arith; due = (begun, some, refl) }))
+        (entered buffer (st .at + came) _ out refl (omega (arith, first, six)) (record { long = l; fits = omega arith; due = (begun, some, refl) }))
 
   -- ---- the mark and the degree of a check
   module _ (p : st .part ≡ Check) where
     abbrev due-check : Due Check st b
-    due-check = subst (λ q. Due q st b) p (a .held .due)
+    due-check = subst (λ q. Due q st b) p (a .kept .due)
 
     abbrev begun : Begun (st .left) (st .triples) b
     begun = due-check .0
 
     room : (6 ≤ st .at) × (st .at ≤ 9222)
-    room = let x = begun-room _ _ b begun in let k = a .held .kept in (omega (arith, x .0), omega (arith, x .1))
+    room = let x = begun-room _ _ b begun in let k = a .kept .long in (omega (arith, x .0), omega (arith, x .1))
 
     bits-there : bitCount b ≡ bitCount buffer
     bits-there = two-take 2 (st .at) buffer (omega (arith, room .0))
@@ -155,7 +155,7 @@ module _ (buffer : List ℕ) (long : length buffer ≡ 10260) (st : State) (came
         let opened : Opened (bitCount buffer) (st .triples) bytes = record { three = counted ∙ three; cut = e } in
         kept-too buffer st came (ap isOver p) (three ∙ sym (due-check .2))
         (entered buffer next _ out refl refl (record {
-          kept = l;
+          long = l;
           fits = omega (arith, room .1, told, opened-degree _ _ bytes opened .1);
           due = record { begun = rw (x .0) begun; more = due-check .1; opened = rw (bits, x .1) opened; want = rw (x .1, told) };
         }))
@@ -166,7 +166,7 @@ module _ (buffer : List ℕ) (long : length buffer ≡ 10260) (st : State) (came
     from = st .at - 3
 
     abbrev due-indices : AtIndices st b
-    due-indices = subst (λ q. Due q st b) p (a .held .due)
+    due-indices = subst (λ q. Due q st b) p (a .kept .due)
 
     abbrev head : List ℕ
     head = take from b
@@ -182,7 +182,7 @@ module _ (buffer : List ℕ) (long : length buffer ≡ 10260) (st : State) (came
         let x = begun-room _ _ head (due-indices .begun) in
         let l = length-take from b in
         let m = length-drop from b in
-        let k = a .held .kept in
+        let k = a .kept .long in
         (omega (arith, x .0, due-indices .opened .three), omega (arith, x .1, due-indices .opened .three))
 
     head-is : head ≡ take from buffer
@@ -213,7 +213,7 @@ module _ (buffer : List ℕ) (long : length buffer ≡ 10260) (st : State) (came
     indices-left = due-indices .more
 
     pub indices-room : (3 ≤ st .at) × (st .at + came ≤ 10260)
-    indices-room = (omega (arith, sizes .0), omega (arith, a .most, a .held .fits))
+    indices-room = (omega (arith, sizes .0), omega (arith, a .most, a .kept .fits))
 
     pub indices-refused : {c : ℕ} {r : Step} {out : List ℕ} → c ≡ judgeHeldCheck (bitCount buffer) t (take (st .at + came - from) (drop from buffer)) → (c ≡ 0 → ⊥)
         → Refused c r out → Told buffer st came r out
@@ -255,10 +255,10 @@ module _ (buffer : List ℕ) (long : length buffer ≡ 10260) (st : State) (came
   -- ---- the settings
   module _ (p : st .part ≡ Settings) where
     abbrev due-settings : Due Settings st b
-    due-settings = subst (λ q. Due q st b) p (a .held .due)
+    due-settings = subst (λ q. Due q st b) p (a .kept .due)
 
     code-room : (6 ≤ st .at) × (st .at ≤ 9222)
-    code-room = let x = begun-room _ _ b (due-settings .0 .begun) in let k = a .held .kept in (omega (arith, x .0), omega (arith, x .1))
+    code-room = let x = begun-room _ _ b (due-settings .0 .begun) in let k = a .kept .long in (omega (arith, x .0), omega (arith, x .1))
 
     pub settings-refused : {c : ℕ} {r : Step} {out : List ℕ} → c ≡ judgeSettings bytes → (c ≡ 0 → ⊥) → Refused c r out → Told buffer st came r out
     settings-refused {c} e h f =
@@ -277,7 +277,7 @@ module _ (buffer : List ℕ) (long : length buffer ≡ 10260) (st : State) (came
         let own : bitCount b ≡ n = two-take 2 (st .at) buffer (omega (arith, code-room .0)) ∙ sym told in
         kept-too buffer st came (ap isOver p) (twelve ∙ sym (due-settings .1))
         (entered buffer next _ out refl refl (record {
-          kept = l;
+          long = l;
           fits = omega (arith, code-room .1);
           due = record { code = rw (x .0) (due-settings .0); set = rw (x .1) (record { twelve = counted ∙ twelve; sound = e }); want = rw bits };
         }))

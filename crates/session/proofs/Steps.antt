@@ -5,10 +5,10 @@ use Rattle.program.specs.Frames.{refusal, frames}
 use Rattle.session.specs.declared.State.{State}
 use Rattle.session.specs.declared.Step.{Step}
 use Rattle.session.specs.declared.Part.the-variants.{Over}
-use Rattle.session.specs.Session.{over, isOver, Held, Asked, Told, Entered, Refused}
+use Rattle.session.specs.Session.{over, isOver, Kept, Asked, Told, Entered, Refused}
 
-pub over-held : (buffer : List ℕ) → Held over (take 0 buffer)
-over-held buffer = record { kept = refl; fits = omega arith; due = refl }
+pub over-kept : (buffer : List ℕ) → Kept over (take 0 buffer)
+over-kept buffer = record { long = refl; fits = omega arith; due = refl }
 
 module _ (buffer : List ℕ) (st : State) (came : ℕ) (going : isOver (st .part) ≡ false) where
   abbrev kept : List ℕ
@@ -23,7 +23,7 @@ module _ (buffer : List ℕ) (st : State) (came : ℕ) (going : isOver (st .part
     stepped = record {
       writes = λ s e. rw (going, f .ends, f .line, h s e) (sym (append-nil (refusal c)));
       ends = λ _. rw (f .ends);
-      holds = rw (f .ends) (over-held buffer);
+      holds = rw (f .ends) (over-kept buffer);
     };
     within = f .within;
   }
@@ -42,18 +42,18 @@ module _ (buffer : List ℕ) (st : State) (came : ℕ) (going : isOver (st .part
   }
 
 module _ (buffer : List ℕ) (at : ℕ) where
-  pub entered : (after : State) (out : List ℕ) → isOver (after .part) ≡ false → after .at ≡ at → Held after (take (after .at) buffer) → Entered buffer at (record { state = after; written = 0 }) out
+  pub entered : (after : State) (out : List ℕ) → isOver (after .part) ≡ false → after .at ≡ at → Kept after (take (after .at) buffer) → Entered buffer at (record { state = after; written = 0 }) out
   entered after out g e h = record { writes = λ s. rw (g, e); holds = h; within = omega arith }
 
   pub entry-refused : {c : ℕ} {r : Step} {out : List ℕ} → Refused c r out → ((s : List ℕ) → frames (take at buffer ++ s) ≡ refusal c) → Entered buffer at r out
-  entry-refused {c} f h = record { writes = λ s. rw (f .ends, f .line, h s) (sym (append-nil (refusal c))); holds = rw (f .ends) (over-held buffer); within = f .within }
+  entry-refused {c} f h = record { writes = λ s. rw (f .ends, f .line, h s) (sym (append-nil (refusal c))); holds = rw (f .ends) (over-kept buffer); within = f .within }
 
 -- the program is over
 pub stays : (buffer : List ℕ) (st : State) (came : ℕ) (out : List ℕ) → Asked st came buffer → st .part ≡ Over → Told buffer st came (record { state = st; written = 0 }) out
 stays buffer st came out a p =
     let z : isOver (st .part) ≡ true = ap isOver p in
-    record { stepped = record { writes = λ s e. rw z; ends = λ h. z; holds = a .held }; within = omega arith }
+    record { stepped = record { writes = λ s e. rw z; ends = λ h. z; holds = a .kept }; within = omega arith }
 
-pub sent-held : (buffer : List ℕ) (st after : State) (whole : Bool) → after ≡ cond whole st over → Held st (take (st .at) buffer) → Held after (take (after .at) buffer)
-sent-held buffer st after true e h = rw e h
-sent-held buffer st after false e h = rw e (over-held buffer)
+pub sent-kept : (buffer : List ℕ) (st after : State) (whole : Bool) → after ≡ cond whole st over → Kept st (take (st .at) buffer) → Kept after (take (after .at) buffer)
+sent-kept buffer st after true e h = rw e h
+sent-kept buffer st after false e h = rw e (over-kept buffer)

@@ -6,11 +6,11 @@ use Rattle.program.proofs.FrameBytes.{opened-degree}
 use Rattle.session.specs.declared.State.{State}
 use Rattle.session.specs.declared.Part.{Part}
 use Rattle.session.specs.declared.Part.the-variants.{Header, Check, Indices, Settings, Frame, Over}
-use Rattle.session.specs.Session.{start, isOver, toWrite, Due, Held, Turns, Program}
+use Rattle.session.specs.Session.{start, isOver, toWrite, Due, Kept, Turns, Program}
 use Rattle.session.specs.Session.Turns.{none, turn}
 
-pub start-held : Held start []
-start-held = record { kept = refl; fits = omega arith; due = (refl, refl) }
+pub start-kept : Kept start []
+start-kept = record { long = refl; fits = omega arith; due = (refl, refl) }
 
 -- nothing is asked for exactly where the program is over
 asks : (p : Part) (st : State) (b : List ℕ) → Due p st b → isOver p ≡ false → 0 < st .want
@@ -22,7 +22,7 @@ asks Frame st b d e = omega (arith, d .want)
 asks Over st b d e = let z : _≡_ {A = ℕ} 0 1 = cc in absurd (omega arith)
 
 record Going (s : List ℕ) (n : ℕ) (st : State) (b rest out : List ℕ) : Type 0 where
-  pub held : Held st b
+  pub held : Kept st b
   pub all : out ++ toWrite st b rest ≡ frames s
   pub count : isOver (st .part) ≡ false → n + length rest ≤ length s
 
@@ -35,14 +35,14 @@ done Frame st b d e = let z : _≡_ {A = ℕ} 0 1 = cc in absurd (omega arith)
 done Over st b d e = d
 
 -- a state that asks for bytes is not over
-not-over : (st : State) (b : List ℕ) → Held st b → 0 < st .want → isOver (st .part) ≡ false
+not-over : (st : State) (b : List ℕ) → Kept st b → 0 < st .want → isOver (st .part) ≡ false
 not-over st b h w = by (isOver (st .part)) refl
   where
     by : (t : Bool) → isOver (st .part) ≡ t → t ≡ false
     by true e = absurd (omega (arith, done (st .part) st b (h .due) e))
     by false e = refl
 
-is-over : (st : State) (b : List ℕ) → Held st b → st .want ≡ 0 → isOver (st .part) ≡ true
+is-over : (st : State) (b : List ℕ) → Kept st b → st .want ≡ 0 → isOver (st .part) ≡ true
 is-over st b h w = by (isOver (st .part)) refl
   where
     by : (t : Bool) → isOver (st .part) ≡ t → t ≡ true
@@ -58,7 +58,7 @@ not-cut l w p z h = by (ltb l w) refl
 
 module _ (s : List ℕ) where
   going : {n : ℕ} {st : State} {b rest out : List ℕ} → Turns s n st b rest out → Going s n st b rest out
-  going none = record { held = start-held; all = refl; count = λ _. omega arith }
+  going none = record { kept = start-kept; all = refl; count = λ _. omega arith }
   going (turn {n} {st} {b} {rest} {out} t asked buffer kept e {after} {wrote} step) =
       let g = going t in
       let came = take (st .want) rest in

@@ -7,7 +7,7 @@ use Prim.Native.Nat.{ℕ, suc, _+_, _-_, _*_, _≤_, _<_}
 use lib.ListN.{length, take, drop}
 use Rattle.model.specs.Records.{bitCount, degree}
 use Rattle.program.specs.Frames.{frameSize, refusal, frames}
-use Rattle.program.specs.FrameClaims.{Begun, Opened, Coded, Set}
+use Rattle.program.specs.FrameClaims.{bufferSize, Begun, Opened, Coded, Set}
 use Rattle.session.specs.declared.State.{State}
 use Rattle.session.specs.declared.Step.{Step}
 use Rattle.session.specs.declared.Part.{Part}
@@ -56,16 +56,16 @@ Due Settings st b = Coded (st .triples) b × (st .want ≡ 12)
 Due Frame st b = AtFrame st b
 Due Over st b = st .want ≡ 0
 
-pub record Held (st : State) (b : List ℕ) : Type 0 where
-  pub kept : length b ≡ st .at
-  pub fits : st .at + st .want ≤ 10260
+pub record Kept (st : State) (b : List ℕ) : Type 0 where
+  pub long : length b ≡ st .at
+  pub fits : st .at + st .want ≤ bufferSize
   pub due : Due (st .part) st b
 
 -- ---- a turn
 
 -- so many bytes came to the buffer, behind those that are kept
 pub record Asked (st : State) (came : ℕ) (buffer : List ℕ) : Type 0 where
-  pub held : Held st (take (st .at) buffer)
+  pub kept : Kept st (take (st .at) buffer)
   pub most : came ≤ st .want
 
 -- from one state to the next: what came is the next bytes of the input s, as many as were asked for or all that are left
@@ -75,7 +75,7 @@ pub record Stepped (buffer : List ℕ) (before : State) (came : ℕ) (after : St
       → toWrite before (take (before .at) buffer) s ≡ wrote ++ toWrite after (take (after .at) buffer) (drop (before .want) s)
   -- where fewer bytes came than were asked for, the program is over
   pub ends : came < before .want → isOver (after .part) ≡ true
-  pub holds : Held after (take (after .at) buffer)
+  pub holds : Kept after (take (after .at) buffer)
 
 -- what `advance` tells: the next state, and what stands at the beginning of `out`
 pub record Told (buffer : List ℕ) (before : State) (came : ℕ) (r : Step) (out : List ℕ) : Type 0 where
@@ -85,7 +85,7 @@ pub record Told (buffer : List ℕ) (before : State) (came : ℕ) (r : Step) (ou
 -- the same once the bytes that came are kept as well, `at` in all
 pub record Entered (buffer : List ℕ) (at : ℕ) (r : Step) (out : List ℕ) : Type 0 where
   pub writes : (s : List ℕ) → frames (take at buffer ++ s) ≡ take (r .written) out ++ toWrite (r .state) (take (r .state .at) buffer) s
-  pub holds : Held (r .state) (take (r .state .at) buffer)
+  pub holds : Kept (r .state) (take (r .state .at) buffer)
   pub within : r .written ≤ length out
 
 -- the same of a refusal

@@ -3,10 +3,16 @@ ghost use mathlib.Core.Path.{_≡_};
 ghost use mathlib.Core.Bool.{cond};
 ghost use Prim.Native.Nat.{_≤_};
 ghost use lib.ListN.{take};
-ghost use Rattle.program.specs.FrameClaims.{Begun};
+ghost use Rattle.program.specs.FrameClaims.{bufferSize, Begun};
 ghost use Rattle.session.specs.Session as Session;
 ghost use Rattle.session.specs.Session.{Asked, Told, Entered, Refused};
 use model::Settings;
+use program::BUFFER;
+use program::HELD_BITS;
+use program::HELD_MEMBERS;
+use program::HELD_ROWS;
+use program::HELD_VARIABLES;
+use program::LINE;
 
 // The record that is due: of a check first the mark and the degree, then the indices.
 pub enum Part {
@@ -65,7 +71,7 @@ pub fn sent(state: State, whole: bool) -> State
 }
 
 // A refusal's line, and the end.
-fn refuse(cause: u32, out: &mut [u8; 640]) -> Step
+fn refuse(cause: u32, out: &mut [u8; LINE]) -> Step
     ensures { λ r. ⌜ Refused cause r (now (out .exit)) ⌝ }
 {
     let written = lines::refusal(cause, out);
@@ -76,7 +82,7 @@ fn refuse(cause: u32, out: &mut [u8; 640]) -> Step
 }
 
 // The bytes of the header came.
-fn header(state: State, came: usize, buffer: &[u8; 10260], out: &mut [u8; 640]) -> Step
+fn header(state: State, came: usize, buffer: &[u8; BUFFER], out: &mut [u8; LINE]) -> Step
     requires { ⌜ Asked state came (now buffer) × (state .part ≡ Part.Header) ⌝ }
     ensures { λ r. ⌜ Told (now (buffer .entry)) state came r (now (out .exit)) ⌝ }
 {
@@ -100,7 +106,7 @@ fn header(state: State, came: usize, buffer: &[u8; 10260], out: &mut [u8; 640]) 
 }
 
 // The mark and the degree of a check came.
-fn check(state: State, came: usize, buffer: &[u8; 10260], out: &mut [u8; 640]) -> Step
+fn check(state: State, came: usize, buffer: &[u8; BUFFER], out: &mut [u8; LINE]) -> Step
     requires { ⌜ Asked state came (now buffer) × (state .part ≡ Part.Check) ⌝ }
     ensures { λ r. ⌜ Told (now (buffer .entry)) state came r (now (out .exit)) ⌝ }
 {
@@ -112,7 +118,7 @@ fn check(state: State, came: usize, buffer: &[u8; 10260], out: &mut [u8; 640]) -
     if (cause != 1) | (came < 3) {
         return refuse(cause, out);
     }
-    let degree = records::wide(bytes[at + 2]);
+    let degree = slices::byte(bytes[at + 2]);
     let next = State {
         part: Part::Indices,
         at: end,
@@ -127,8 +133,8 @@ fn check(state: State, came: usize, buffer: &[u8; 10260], out: &mut [u8; 640]) -
 }
 
 // One more check is kept: the next is due, or the settings once the code is judged.
-fn keep(at: usize, left: usize, triples: usize, buffer: &[u8; 10260], out: &mut [u8; 640]) -> Step
-    requires { ⌜ Begun left triples (take at (now buffer)) × (at ≤ 10260) ⌝ }
+fn keep(at: usize, left: usize, triples: usize, buffer: &[u8; BUFFER], out: &mut [u8; LINE]) -> Step
+    requires { ⌜ Begun left triples (take at (now buffer)) × (at ≤ bufferSize) ⌝ }
     ensures { λ r. ⌜ Entered (now (buffer .entry)) at r (now (out .exit)) ⌝ }
 {
     let bytes = &buffer[..];
@@ -163,7 +169,7 @@ fn keep(at: usize, left: usize, triples: usize, buffer: &[u8; 10260], out: &mut 
 }
 
 // The indices of a check came.
-fn indices(state: State, came: usize, buffer: &[u8; 10260], out: &mut [u8; 640]) -> Step
+fn indices(state: State, came: usize, buffer: &[u8; BUFFER], out: &mut [u8; LINE]) -> Step
     requires { ⌜ Asked state came (now buffer) × (state .part ≡ Part.Indices) ⌝ }
     ensures { λ r. ⌜ Told (now (buffer .entry)) state came r (now (out .exit)) ⌝ }
 {
@@ -187,7 +193,7 @@ fn indices(state: State, came: usize, buffer: &[u8; 10260], out: &mut [u8; 640])
 }
 
 // The bytes of the settings record came.
-fn settings(state: State, came: usize, buffer: &[u8; 10260], out: &mut [u8; 640]) -> Step
+fn settings(state: State, came: usize, buffer: &[u8; BUFFER], out: &mut [u8; LINE]) -> Step
     requires { ⌜ Asked state came (now buffer) × (state .part ≡ Part.Settings) ⌝ }
     ensures { λ r. ⌜ Told (now (buffer .entry)) state came r (now (out .exit)) ⌝ }
 {
@@ -218,15 +224,15 @@ fn settings(state: State, came: usize, buffer: &[u8; 10260], out: &mut [u8; 640]
 fn frame(
     state: State,
     came: usize,
-    buffer: &[u8; 10260],
-    costs: &mut [i16; 512],
-    triples: &mut [u16; 3072],
-    counts: &mut [u16; 1536],
-    sums: &mut [i64; 1536],
-    values: &mut [i16; 1536],
-    rows: &mut [i32; 4096],
-    word: &mut [u8; 512],
-    out: &mut [u8; 640],
+    buffer: &[u8; BUFFER],
+    costs: &mut [i16; HELD_BITS],
+    triples: &mut [u16; HELD_MEMBERS],
+    counts: &mut [u16; HELD_VARIABLES],
+    sums: &mut [i64; HELD_VARIABLES],
+    values: &mut [i16; HELD_VARIABLES],
+    rows: &mut [i32; HELD_ROWS],
+    word: &mut [u8; HELD_BITS],
+    out: &mut [u8; LINE],
 ) -> Step
     requires { ⌜ Asked state came (now buffer) × (state .part ≡ Part.Frame) ⌝ }
     ensures { λ r. ⌜ Told (now (buffer .entry)) state came r (now (out .exit)) ⌝ }
@@ -266,15 +272,15 @@ fn frame(
 pub fn advance(
     state: State,
     came: usize,
-    buffer: &[u8; 10260],
-    costs: &mut [i16; 512],
-    triples: &mut [u16; 3072],
-    counts: &mut [u16; 1536],
-    sums: &mut [i64; 1536],
-    values: &mut [i16; 1536],
-    rows: &mut [i32; 4096],
-    word: &mut [u8; 512],
-    out: &mut [u8; 640],
+    buffer: &[u8; BUFFER],
+    costs: &mut [i16; HELD_BITS],
+    triples: &mut [u16; HELD_MEMBERS],
+    counts: &mut [u16; HELD_VARIABLES],
+    sums: &mut [i64; HELD_VARIABLES],
+    values: &mut [i16; HELD_VARIABLES],
+    rows: &mut [i32; HELD_ROWS],
+    word: &mut [u8; HELD_BITS],
+    out: &mut [u8; LINE],
 ) -> Step
     requires { ⌜ Asked state came (now buffer) ⌝ }
     ensures { λ r. ⌜ Told (now (buffer .entry)) state came r (now (out .exit)) ⌝ }

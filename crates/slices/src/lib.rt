@@ -19,12 +19,6 @@ pub fn index(x: u16) -> usize
     x as usize
 }
 
-pub fn i16_to_i32(x: i16) -> i32
-    ensures { λ r. ⌜ r ≡ x ⌝ }
-{
-    x as i32
-}
-
 pub fn i32_to_i64(x: i32) -> i64
     ensures { λ r. ⌜ r ≡ x ⌝ }
 {

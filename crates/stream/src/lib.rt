@@ -8,6 +8,8 @@ ghost use Rattle.model.specs.Records.{judge};
 ghost use Rattle.program.specs.Frames as Frames;
 use model::Reading;
 use model::Settings;
+use program::HELD_BITS;
+use program::HELD_TRIPLES;
 
 // ---- code records
 
@@ -19,7 +21,7 @@ pub fn judge_header(s: &[u8]) -> u32
     if cause != 0 {
         return cause;
     }
-    if 512 < records::two_bytes(s, 2) {
+    if HELD_BITS < records::two_bytes(s, 2) {
         10
     } else {
         0
@@ -28,14 +30,14 @@ pub fn judge_header(s: &[u8]) -> u32
 
 // The cause in the check record that `s` begins with, 0 for none; `triples` are held.
 pub fn judge_check(s: &[u8], bits: usize, triples: usize) -> u32
-    requires { ⌜ triples ≤ 1024 ⌝ }
+    requires { ⌜ triples ≤ Frames.heldTriples ⌝ }
     ensures { λ r. ⌜ r ≡ Frames.judgeHeldCheck bits triples (now (s .entry)) ⌝ }
 {
     let cause = records::judge_check(s, bits);
     if cause != 0 {
         return cause;
     }
-    if 1024 < triples + records::triple_count(s) {
+    if HELD_TRIPLES < triples + records::triple_count(s) {
         10
     } else {
         0
@@ -127,7 +129,7 @@ pub fn twos_complement(x: usize) -> i16
 
 // The cause in the bytes of the frame record that `s` begins with, 0 where it is whole.
 fn judge_whole(s: &[u8], bits: usize) -> u32
-    requires { ⌜ bits ≤ 512 ⌝ }
+    requires { ⌜ bits ≤ Frames.heldBits ⌝ }
     ensures { λ r. ⌜ r ≡ Frames.judgeWhole bits (now (s .entry)) ⌝ }
 {
     let len = s.len();
@@ -152,7 +154,7 @@ fn write_costs(s: &[u8], bits: usize, costs: &mut [i16])
 
 // The cause in the frame record that `s` begins with, 0 for none. The costs of a whole frame are written.
 pub fn read_frame(s: &[u8], bits: usize, costs: &mut [i16]) -> u32
-    requires { ⌜ (bits ≤ 512) × (bits ≤ length (now costs)) ⌝ }
+    requires { ⌜ (bits ≤ Frames.heldBits) × (bits ≤ length (now costs)) ⌝ }
     ensures { λ r. ⌜ (let n = bits in let b = now (s .entry) in let old = now (costs .entry) in
         (r ≡ Frames.judgeFrame n b) × (now (costs .exit) ≡ accepted (Frames.judgeWhole n b) (written (Frames.costsOf n b) old) old)) ⌝ }
 {

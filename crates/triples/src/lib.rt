@@ -85,12 +85,6 @@ fn clear(counts: &mut [u16], n: usize)
     }
 }
 
-fn index(x: u16) -> usize
-    ensures { λ r. ⌜ r ≡ x ⌝ }
-{
-    x as usize
-}
-
 // One more for the variable at entry i.
 fn count(triples: &[u16], i: usize, counts: &mut [u16])
     requires { ⌜ i < length (now triples) ⌝ }
@@ -98,7 +92,7 @@ fn count(triples: &[u16], i: usize, counts: &mut [u16])
     requires { ⌜ getD (now counts) (getD (now triples) i 0) 0 < 65535 ⌝ }
     ensures { λ _. ⌜ now (counts .exit) ≡ counted (now (counts .entry)) (getD (now (triples .entry)) i 0) ⌝ }
 {
-    let v = index(triples[i]);
+    let v = slices::index(triples[i]);
     counts[v] += 1;
 }
 

@@ -93,5 +93,5 @@ returns c =
 
 pub erasing-spec : {M : Type 1} → statement M
 erasing-spec =
-    tie.close (tie.spec Inv-loop μ-loop cost-requires cost-requires-2 loop-holds (λ c. search needs) (λ c. search needs) selected-requires (λ c. search needs)
-    slice-set-from-costs (λ c. search needs) (λ c. search needs) loop-again same-length returns)
+    tie.close (tie.spec Inv-loop μ-loop cost-requires cost-requires-2 loop-holds (λ c. search needs) (λ c. search needs) selected-requires
+    (λ c. search needs) slice-set-from-costs (λ c. search needs) (λ c. search needs) loop-again same-length returns)

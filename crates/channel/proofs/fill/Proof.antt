@@ -41,5 +41,5 @@ returns-3 c = rw (c .before .before .before .before .setting3 .given .1) (c .bef
 
 pub fill-spec : {M : Type 1} → statement M
 fill-spec =
-    tie.close (tie.spec (λ c. search needs) gaussian-requires (λ c. search needs) erasing-requires (λ c. search needs) erasing-requires-2 (λ c. search needs)
-    returns (λ c. search needs) returns-2 (λ c. search needs) returns-3)
+    tie.close (tie.spec (λ c. search needs) gaussian-requires (λ c. search needs) erasing-requires (λ c. search needs) erasing-requires-2
+    (λ c. search needs) returns (λ c. search needs) returns-2 (λ c. search needs) returns-3)

@@ -56,5 +56,5 @@ returns c =
 
 pub gaussian-spec : {M : Type 1} → statement M
 gaussian-spec =
-    tie.close (tie.spec Inv-loop μ-loop loop-holds (λ c. search needs) (λ c. search needs) cost-requires (λ c. search needs) slice-set-from-costs (λ c. search
-    needs) (λ c. search needs) loop-again same-length returns)
+    tie.close (tie.spec Inv-loop μ-loop loop-holds (λ c. search needs) (λ c. search needs) cost-requires (λ c. search needs) slice-set-from-costs
+    (λ c. search needs) (λ c. search needs) loop-again same-length returns)

@@ -18,5 +18,5 @@ returns c = rw (shift c .0, c .limited .ensures) (size-is (c .before .args .bits
 
 pub rounded-spec : {M : Type 1} → statement M
 rounded-spec =
-    tie.close (tie.spec (λ c κs. search needs) (λ c. search needs) (λ c. search needs) (λ c. search needs) (λ c. search needs) (λ c. search needs) add-result
-    cast-result returns)
+    tie.close (tie.spec (λ c κs. search needs) (λ c. search needs) (λ c. search needs) (λ c. search needs) (λ c. search needs) (λ c. search needs)
+    add-result cast-result returns)

@@ -86,9 +86,6 @@ returns-5 c =
 
 pub extend-spec : {M : Type 1} → statement M
 extend-spec =
-    tie.close (tie.spec (λ c κs. search needs) (λ c. search needs) (λ c. search needs) (λ c κs. search needs) returns (λ c. omega (
-      arith,
-      read (c .before
-          .before .before),
-    )) (λ c. omega (arith, read (c .before .before .before))) returns-2 first-odd-requires returns-3 write-point-requires returns-4 (λ c.
-    search needs) returns-5)
+    tie.close (tie.spec (λ c κs. search needs) (λ c. search needs) (λ c. search needs) (λ c κs. search needs) returns
+    (λ c. omega (arith, read (c .before .before .before))) (λ c. omega (arith, read (c .before .before .before))) returns-2 first-odd-requires returns-3
+    write-point-requires returns-4 (λ c. search needs) returns-5)

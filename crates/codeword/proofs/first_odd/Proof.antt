@@ -79,5 +79,5 @@ returns-2 c =
 
 pub first-odd-spec : {M : Type 1} → statement M
 first-odd-spec =
-    tie.close (tie.spec Inv-loop μ-loop (λ c κs. sound (c .before .before) .header .room) loop-holds is-odd-requires returns (λ c κs. check (c .before
-    .before) .room) (λ c. search needs) (λ c. search needs) loop-again returns-2)
+    tie.close (tie.spec Inv-loop μ-loop (λ c κs. sound (c .before .before) .header .room) loop-holds is-odd-requires returns
+    (λ c κs. check (c .before .before) .room) (λ c. search needs) (λ c. search needs) loop-again returns-2)

@@ -13,8 +13,8 @@ Inv-loop s word d sum₀ i₀ sum i = (i ≤ d) × (sum ≤ 255 * i) × (sum ≡
 abbrev μ-loop : tie.MeasureT-loop
 μ-loop s word d sum₀ i₀ sum i = d - i
 
-shared-slice-read-wide : tie.Need-shared-slice-read-wide Inv-loop μ-loop
-shared-slice-read-wide c =
+shared-slice-read-byte : tie.Need-shared-slice-read-byte Inv-loop μ-loop
+shared-slice-read-byte c =
     let l = c .before .before .before in
     omega (arith, c .before .index .ensures .0, l .before .before .before .before .pre .1 (l .loop .i) (omega arith))
 
@@ -25,7 +25,7 @@ loop-again c =
     let a = l .before .before .before .before .args in
     let k = indices (a .s .now) in
     let x = bitAt (a .word .now) in
-    (omega arith, omega arith, rw (add-one (l .loop .i), take-suc k (l .loop .i) 0 (omega arith)) (omega (arith, total-append x (take (l .loop .i) k) (getD k (l .loop .i) 0 ∷ []), ap x (v .index .ensures .0), c .wide .ensures .0)))
+    (omega arith, omega arith, rw (add-one (l .loop .i), take-suc k (l .loop .i) 0 (omega arith)) (omega (arith, total-append x (take (l .loop .i) k) (getD k (l .loop .i) 0 ∷ []), ap x (v .index .ensures .0), c .byte .ensures .0)))
 
 returns : tie.Need-returns Inv-loop μ-loop
 returns c =
@@ -36,5 +36,5 @@ returns c =
 
 pub is-odd-spec : {M : Type 1} → statement M
 is-odd-spec =
-    tie.close (tie.spec Inv-loop μ-loop (λ c κs. search needs) (λ c. (omega arith, omega arith, refl)) (λ c κs. search needs) shared-slice-read-wide (λ c κs.
-    search needs) (λ c. search needs) (λ c. search needs) (λ c. search needs) loop-again returns)
+    tie.close (tie.spec Inv-loop μ-loop (λ c κs. search needs) (λ c. (omega arith, omega arith, refl)) (λ c κs. search needs) shared-slice-read-byte
+    (λ c κs. search needs) (λ c. search needs) (λ c. search needs) (λ c. search needs) loop-again returns)

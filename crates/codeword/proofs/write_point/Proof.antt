@@ -77,5 +77,5 @@ returns c =
 pub write-point-spec : {M : Type 1} → statement M
 write-point-spec =
     tie.close (tie.spec Inv-loop μ-loop (λ c κs. search needs) two-bytes-requires after-header-requires loop-holds write-auxiliaries-requires turns-requires
-    add-next (λ c κs. check-at (c .before .before .before .before .before) .whole) (λ c. search needs) (λ c. search needs) loop-again (λ c. long (c .before))
-    returns)
+    add-next (λ c κs. check-at (c .before .before .before .before .before) .whole) (λ c. search needs) (λ c. search needs) loop-again
+    (λ c. long (c .before)) returns)

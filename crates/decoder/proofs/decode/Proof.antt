@@ -1,8 +1,7 @@
 -- `decoder::decode` meets its contract: the causes in their order, then the run. Assumes nothing.
-use Rattle.integers.proofs.Prelude.{_≡_, sym, ap, ap₂, _∙_, Bool, false, _||_, List, [], _∷_, ℕ, _+_, _-_, _*_, arith, needs, ltb-false, eqb-true, not-false}
+use Rattle.integers.proofs.Prelude.{_≡_, sym, ap, ap₂, _∙_, Bool, false, _||_, List, ℕ, _+_, _-_, _*_, arith, needs, ltb-false, eqb-true, not-false}
 use Rattle.integers.proofs.Prelude.{eqb, length}
-use Rattle.lists.specs.Entries.{some}
-use Rattle.model.specs.Calls.{outOfRange, unequal, forbidden, Lists, noRoom}
+use Rattle.model.specs.Calls.{outOfRange, unequal, Lists, noRoom, inputCauses}
 use Rattle.model.specs.Causes.{_if_, firstOf, short}
 use Rattle.model.specs.Records.{codeOf}
 use Rattle.model.specs.Code.{Code, triples}
@@ -79,7 +78,7 @@ module _ (q : tie.After-cause) where
   short-is = q .before .no-room .ensures ∙ ap₂ (λ (n x : ℕ). tooShort n x vars) (read found .bits) (read found .triples) ∙ ap (tooShort (k .bits) (triples k)) (read found .variables)
 
   abbrev causes : Bool → ℕ → List ℕ
-  causes r n = 11 if outOfRange (s .args .settings) ∷ 12 if unequal (s .args .costs .now) n ∷ 13 if some forbidden (s .args .costs .now) ∷ 10 if r ∷ []
+  causes r n = inputCauses (s .args .settings) (s .args .costs .now) n r
 
   cause-is : q .cause .result ≡ after-judgement (s .args .code .now) (s .args .settings) (s .args .costs .now) l
   cause-is = q .cause .ensures .0 ∙ ap₂ (λ (r : Bool) (n : ℕ). firstOf (causes r n)) short-is (read found .bits)

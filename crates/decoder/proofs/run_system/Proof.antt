@@ -1,19 +1,17 @@
 -- `decoder::run_system` meets its contract: the parts that are lent hold the code's system. Assumes nothing.
-use Rattle.integers.proofs.Prelude.{_≡_, sym, ap, ap₂, subst, _∙_, List, ℕ, _*_, needs, ltb, length, take, drop, length-take-le, take-at}
+use Rattle.integers.proofs.Prelude.{_≡_, sym, ap, ap₂, subst, _∙_, List, ℕ, _*_, needs, length, take, drop, length-take-le, take-at}
 use Rattle.lists.proofs.Parts.{lent-back}
 use Rattle.lists.proofs.Tabulated.{length-tab}
 use Rattle.quotient.specs.Quotient.{quotient}
 use Rattle.model.specs.Iteration.{occurrences, countsOf}
-use Rattle.model.specs.Causes.{outside}
 use Rattle.model.proofs.Accepted.{accepted}
 use Rattle.model.specs.Sound.{Sound}
-use Rattle.model.specs.Limits.{mostWeight, mostRatio, mostIterations}
 use Rattle.model.specs.Run.{Ended, run}
 use Rattle.model.specs.Records.{codeOf}
 use Rattle.model.specs.Bounds.{Ready}
 use Rattle.model.specs.Code.{Code, triples, variables}
 use Rattle.model.specs.Splitting.{System, systemOf, Named}
-use Rattle.model.proofs.Causes.{or-false, within}
+use Rattle.model.proofs.Causes.{in-range}
 use Rattle.model.proofs.Bounds.{ready}
 use Rattle.model.proofs.TripleRule.{members-long, members-named}
 use Rattle.decoder.proofs.run_system.Statement.{statement}
@@ -104,8 +102,7 @@ run-requires : tie.Need-run-requires
 unfolding countsOf
 run-requires c κs =
     let w = c .before .before .before .before .before .before .before .before .before in
-    let a = s w .args in
-    let wide = or-false (outside 1 mostWeight (a .settings .weight)) _ (s w .pre .1 .0 .0) in (
+    let a = s w .args in (
       record {
         members = sym (ts-long w);
         sums = sums-long w ∙ sym (n-is w);
@@ -114,7 +111,7 @@ run-requires c κs =
         counted = cs-is w ∙ ap countsOf (sym (system-is w));
         ready = is-ready w;
       },
-      within 1 mostIterations (a .settings .limit) (or-false (ltb mostRatio (a .settings .ratio)) _ (wide .1) .1),
+      in-range (a .settings) .0 (s w .pre .1 .0 .0) .limit,
     )
 
 returns : tie.Need-returns
@@ -137,6 +134,6 @@ returns c =
 
 pub run-system-spec : {M : Type 1} → statement M
 run-system-spec =
-    tie.close (tie.spec write-system-requires (λ c. search needs) (λ c. search needs) slice-aggregate-run (λ c. search needs) slice-aggregate-run-2 (λ c.
-    search needs) slice-aggregate-run-3 (λ c. search needs) slice-aggregate-run-4 (λ c. search needs) (λ c. search needs) slice-aggregate-run-5 run-requires
-    (λ c. search needs) (λ c. search needs) (λ c. search needs) (λ c. search needs) (λ c. search needs) returns)
+    tie.close (tie.spec write-system-requires (λ c. search needs) (λ c. search needs) slice-aggregate-run (λ c. search needs) slice-aggregate-run-2
+    (λ c. search needs) slice-aggregate-run-3 (λ c. search needs) slice-aggregate-run-4 (λ c. search needs) (λ c. search needs) slice-aggregate-run-5
+    run-requires (λ c. search needs) (λ c. search needs) (λ c. search needs) (λ c. search needs) (λ c. search needs) returns)

@@ -31,13 +31,7 @@ returns c =
 
 pub store-all-spec : {M : Type 1} → statement M
 store-all-spec =
-    tie.close (tie.spec (λ c. search needs) (λ c κs. (search needs, small (c .before .before) 0)) (λ c. search needs) (λ c. search needs) (λ c κs. (
-      search
-          needs,
-      small (start (c .before .before .before)) 1,
-    )) (λ c. search needs) (λ c. search needs) (λ c κs. (
-      search needs,
-      small (start (first (c .before
-          .before .before))) 2,
-    )) (λ c. search needs) (λ c. search needs) (λ c κs. (search needs, small (start (first (second (c .before .before .before)))) 3)) (λ
-    c. search needs) returns)
+    tie.close (tie.spec (λ c. search needs) (λ c κs. (search needs, small (c .before .before) 0)) (λ c. search needs) (λ c. search needs)
+    (λ c κs. (search needs, small (start (c .before .before .before)) 1)) (λ c. search needs) (λ c. search needs)
+    (λ c κs. (search needs, small (start (first (c .before .before .before))) 2)) (λ c. search needs) (λ c. search needs)
+    (λ c κs. (search needs, small (start (first (second (c .before .before .before)))) 3)) (λ c. search needs) returns)

@@ -89,5 +89,5 @@ returns c =
 
 pub straighten-spec : {M : Type 1} → statement M
 straighten-spec =
-    tie.close (tie.spec Inv-loop μ-loop loop-holds load-all-requires store-four-requires (λ c. omega (arith, start (at-loop c) .pre .0, below c)) (λ c. omega
-    (arith, below c)) loop-again (λ c. long (c .before) ∙ start (c .before) .pre .1) returns)
+    tie.close (tie.spec Inv-loop μ-loop loop-holds load-all-requires store-four-requires (λ c. omega (arith, start (at-loop c) .pre .0, below c))
+    (λ c. omega (arith, below c)) loop-again (λ c. long (c .before) ∙ start (c .before) .pre .1) returns)

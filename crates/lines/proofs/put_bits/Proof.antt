@@ -51,5 +51,5 @@ returns c =
 
 pub put-bits-spec : {M : Type 1} → statement M
 put-bits-spec =
-    tie.close (tie.spec Inv-loop μ-loop loop-holds (λ c. search needs) (λ c κs. search needs) put-requires (λ c. search needs) (λ c. search needs) loop-again
-    same-length returns)
+    tie.close (tie.spec Inv-loop μ-loop loop-holds (λ c. search needs) (λ c κs. search needs) put-requires (λ c. search needs) (λ c. search needs)
+    loop-again same-length returns)

@@ -53,5 +53,5 @@ returns c = let w = c .before .before .before .before in c .first-odd .ensures �
 
 pub first-odd-in-spec : {M : Type 1} → statement M
 first-odd-in-spec =
-    tie.close (tie.spec (λ c. search needs) slice-aggregate-write-word write-word-requires (λ c. search needs) slice-aggregate-first-odd first-odd-requires (λ
-    c. search needs) returns)
+    tie.close (tie.spec (λ c. search needs) slice-aggregate-write-word write-word-requires (λ c. search needs) slice-aggregate-first-odd first-odd-requires
+    (λ c. search needs) returns)

@@ -50,5 +50,5 @@ returns c =
 
 pub write-word-spec : {M : Type 1} → statement M
 write-word-spec =
-    tie.close (tie.spec Inv-loop μ-loop loop-holds (λ c. search needs) (λ c. search needs) (λ c κs. search needs) slice-write-word (λ c. search needs) (λ c.
-    search needs) loop-again same-length returns)
+    tie.close (tie.spec Inv-loop μ-loop loop-holds (λ c. search needs) (λ c. search needs) (λ c κs. search needs) slice-write-word (λ c. search needs)
+    (λ c. search needs) loop-again same-length returns)

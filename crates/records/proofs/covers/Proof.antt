@@ -54,5 +54,5 @@ returns c =
 
 pub covers-spec : {M : Type 1} → statement M
 covers-spec =
-    tie.close (tie.spec Inv-loop μ-loop loop-holds (λ c κs. (c .before .before .before .before .pre .0, judged (c .before))) (λ c κs. record-sound _ _ (judged
-    (c .before .before)) .room) (λ c. search needs) (λ c. search needs) loop-again (λ c κs. search needs) returns)
+    tie.close (tie.spec Inv-loop μ-loop loop-holds (λ c κs. (c .before .before .before .before .pre .0, judged (c .before)))
+    (λ c κs. record-sound _ _ (judged (c .before .before)) .room) (λ c. search needs) (λ c. search needs) loop-again (λ c κs. search needs) returns)

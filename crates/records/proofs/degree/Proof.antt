@@ -6,7 +6,7 @@ use Rattle.records.proofs.degree.Statement.{statement}
 use Rattle.records.proofs.degree.Tie as tie
 
 returns : tie.Need-returns
-returns c = let s = c .before .before .before .args .s .now in (c .wide .ensures .0, c .wide .ensures .0 ∙ sym (length-numbers (degree s) (drop 3 s)), c .wide .ensures .1)
+returns c = let s = c .before .before .before .args .s .now in (c .byte .ensures .0, c .byte .ensures .0 ∙ sym (length-numbers (degree s) (drop 3 s)), c .byte .ensures .1)
 
 pub degree-spec : {M : Type 1} → statement M
 degree-spec = tie.close (tie.spec (λ c. search needs) (λ c κs. search needs) returns)

@@ -36,5 +36,6 @@ returns-5 c =
 
 pub judge-check-spec : {M : Type 1} → statement M
 judge-check-spec =
-    tie.close (tie.spec returns (λ c κs. search needs) returns-2 (λ c. rw (opened (c .before), lt-ltb _ 3 (c .if3 .taken))) (λ c κs. search needs) (λ c κs.
-    search needs) (λ c. rw (tested (c .before), c .if4 .taken)) (λ c. search needs) (λ c. search needs) (λ c. search needs) (λ c κs. search needs) returns-5)
+    tie.close (tie.spec returns (λ c κs. search needs) returns-2 (λ c. rw (opened (c .before), lt-ltb _ 3 (c .if3 .taken))) (λ c κs. search needs)
+    (λ c κs. search needs) (λ c. rw (tested (c .before), c .if4 .taken)) (λ c. search needs) (λ c. search needs) (λ c. search needs) (λ c κs. search needs)
+    returns-5)

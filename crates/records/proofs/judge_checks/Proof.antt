@@ -60,5 +60,5 @@ returns-2 c =
 
 pub judge-checks-spec : {M : Type 1} → statement M
 judge-checks-spec =
-    tie.close (tie.spec Inv-loop μ-loop loop-holds (λ c κs. search needs) returns (λ c κs. omega (arith, whole c)) (λ c. search needs) (λ c κs. whole (c
-    .before)) (λ c. search needs) (λ c. search needs) loop-again returns-2)
+    tie.close (tie.spec Inv-loop μ-loop loop-holds (λ c κs. search needs) returns (λ c κs. omega (arith, whole c)) (λ c. search needs)
+    (λ c κs. whole (c .before)) (λ c. search needs) (λ c. search needs) loop-again returns-2)

@@ -45,5 +45,6 @@ returns-7 c = let e = c .before .before .before in rw (bits-passed (e .before), 
 
 pub judge-header-spec : {M : Type 1} → statement M
 judge-header-spec =
-    tie.close (tie.spec returns (λ c κs. search needs) returns-2 (λ c. rw (marked (c .before), lt-ltb _ 4 (c .if3 .taken))) (λ c κs. search needs) (λ c κs.
-    search needs) returns-4 (λ c. rw (bits-passed (c .before), lt-ltb _ 6 (c .if5 .taken))) (λ c κs. search needs) (λ c κs. search needs) returns-6 returns-7)
+    tie.close (tie.spec returns (λ c κs. search needs) returns-2 (λ c. rw (marked (c .before), lt-ltb _ 4 (c .if3 .taken))) (λ c κs. search needs)
+    (λ c κs. search needs) returns-4 (λ c. rw (bits-passed (c .before), lt-ltb _ 6 (c .if5 .taken))) (λ c κs. search needs) (λ c κs. search needs) returns-6
+    returns-7)

@@ -55,5 +55,5 @@ returns-4 c =
 
 pub judge-indices-spec : {M : Type 1} → statement M
 judge-indices-spec =
-    tie.close (tie.spec Inv-loop μ-loop (λ c. refl) returns (λ c κs. search needs) (λ c. rw (at-index (c .before), le-leb _ _ (c .if2 .taken))) returns-3 (λ
-    c. omega arith) (λ c. search needs) (λ c. search needs) (λ c. search needs) (λ c. search needs) (λ c. search needs) loop-again returns-4)
+    tie.close (tie.spec Inv-loop μ-loop (λ c. refl) returns (λ c κs. search needs) (λ c. rw (at-index (c .before), le-leb _ _ (c .if2 .taken))) returns-3
+    (λ c. omega arith) (λ c. search needs) (λ c. search needs) (λ c. search needs) (λ c. search needs) (λ c. search needs) loop-again returns-4)

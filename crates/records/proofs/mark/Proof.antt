@@ -56,5 +56,5 @@ returns c =
 
 pub mark-spec : {M : Type 1} → statement M
 mark-spec =
-    tie.close (tie.spec Inv-loop μ-loop (λ c κs. omega (arith, sound (c .before) .room)) (λ c. (refl, λ b h. refl)) index-requires element-write-seen (λ c.
-    search needs) (λ c. search needs) loop-again returns)
+    tie.close (tie.spec Inv-loop μ-loop (λ c κs. omega (arith, sound (c .before) .room)) (λ c. (refl, λ b h. refl)) index-requires element-write-seen
+    (λ c. search needs) (λ c. search needs) loop-again returns)

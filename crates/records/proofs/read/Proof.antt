@@ -105,5 +105,5 @@ returns-6 c =
 
 pub read-spec : {M : Type 1} → statement M
 read-spec =
-    tie.close (tie.spec (λ c κs. search needs) returns (λ c κs. omega (arith, sound c .room)) (λ c κs. omega (arith, sound (c .before) .room)) (λ c κs. sound
-    (c .before .before) .room) judge-checks-requires returns-2 returns-3 returns-4 covers-requires returns-5 returns-6)
+    tie.close (tie.spec (λ c κs. search needs) returns (λ c κs. omega (arith, sound c .room)) (λ c κs. omega (arith, sound (c .before) .room))
+    (λ c κs. sound (c .before .before) .room) judge-checks-requires returns-2 returns-3 returns-4 covers-requires returns-5 returns-6)

@@ -43,5 +43,5 @@ returns c =
 
 pub write-indices-spec : {M : Type 1} → statement M
 write-indices-spec =
-    tie.close (tie.spec Inv-loop μ-loop loop-holds (λ c. search needs) (λ c. search needs) (λ c κs. search needs) write-two-bytes-requires (λ c. search needs)
-    (λ c. search needs) loop-again (λ c. long (c .before .loop .inv .1)) returns)
+    tie.close (tie.spec Inv-loop μ-loop loop-holds (λ c. search needs) (λ c. search needs) (λ c κs. search needs) write-two-bytes-requires
+    (λ c. search needs) (λ c. search needs) loop-again (λ c. long (c .before .loop .inv .1)) returns)

@@ -67,15 +67,10 @@ returns c =
 
 pub renew-counted-spec : {M : Type 1} → statement M
 renew-counted-spec =
-    tie.close (tie.spec Inv-loop μ-loop (λ c κs. search needs) (λ c. (
-      (omega arith, omega arith),
-      renewed-none _ _ _ _ _ _ _ (c .before .renew-first .ensures
-          .left),
-    )) (λ c κs. let l = at-test (c .before) in (search (needs, room (c .before), whole l .left .long), (start l .pre .1 .0, whole l .left .small))) (λ
-    c. search needs) (λ c. search needs) with-four-requires (λ c. let n = c .before .before .before .before .before .before in omega (
-      arith,
-      start (at-test n)
-          .pre .0,
-      room n,
-    )) (λ c. omega (arith, room (c .before .before .before .before .before .before))) loop-again (λ c. let l = c .before .before .before in
-    whole l .left .long ∙ start l .pre .0 .2) returns)
+    tie.close (tie.spec Inv-loop μ-loop (λ c κs. search needs)
+    (λ c. ((omega arith, omega arith), renewed-none _ _ _ _ _ _ _ (c .before .renew-first .ensures .left)))
+    (λ c κs. let l = at-test (c .before) in (search (needs, room (c .before), whole l .left .long), (start l .pre .1 .0, whole l .left .small)))
+    (λ c. search needs) (λ c. search needs) with-four-requires
+    (λ c. let n = c .before .before .before .before .before .before in omega (arith, start (at-test n) .pre .0, room n))
+    (λ c. omega (arith, room (c .before .before .before .before .before .before))) loop-again
+    (λ c. let l = c .before .before .before in whole l .left .long ∙ start l .pre .0 .2) returns)

@@ -68,14 +68,9 @@ returns c =
 
 pub renew-first-spec : {M : Type 1} → statement M
 renew-first-spec =
-    tie.close (tie.spec Inv-loop μ-loop (λ c. let h = c .before .pre in (omega arith, renewed-none _ _ _ _ _ _ _ (at-first (h .0 .2) (h .1 .1)))) (λ c κs.
-    search (needs, left (c .before .before) .long)) (λ c κs. (search needs, (start (c .before .before .before) .pre .1 .0, old-small c))) (λ c κs. (
-      search
-          (needs, left (at-loop (c .before)) .long),
-      λ r. omega (arith, new-small (c .before) r),
-    )) with-triple-requires (λ c. omega (
-      arith,
-      made (c .before) .before
-          .before .before .loop-test .taken,
-    )) (λ c. omega (arith, made (c .before) .before .before .before .loop-test .taken)) loop-again (λ c. left (c .before)
-    .long ∙ start (c .before) .pre .0 .2) returns)
+    tie.close (tie.spec Inv-loop μ-loop (λ c. let h = c .before .pre in (omega arith, renewed-none _ _ _ _ _ _ _ (at-first (h .0 .2) (h .1 .1))))
+    (λ c κs. search (needs, left (c .before .before) .long)) (λ c κs. (search needs, (start (c .before .before .before) .pre .1 .0, old-small c)))
+    (λ c κs. (search (needs, left (at-loop (c .before)) .long), λ r. omega (arith, new-small (c .before) r))) with-triple-requires
+    (λ c. omega (arith, made (c .before) .before .before .before .loop-test .taken))
+    (λ c. omega (arith, made (c .before) .before .before .before .loop-test .taken)) loop-again (λ c. left (c .before) .long ∙ start (c .before) .pre .0 .2)
+    returns)

@@ -40,17 +40,7 @@ returns c =
 
 pub renew-rest-spec : {M : Type 1} → statement M
 renew-rest-spec =
-    tie.close (tie.spec Inv-loop μ-loop (λ c. let h = c .before .pre .1 .1 in (h .0, h .1, refl)) (λ c κs. let l = c .before .before in (
-      search (
-        needs,
-        room
-            (c .before),
-        l .loop .inv .1 .long,
-      ),
-      (start l .pre .1 .0, l .loop .inv .1 .small),
-    )) (λ c. omega (
-      arith,
-      start (c .before .before .before .before) .pre .0,
-      room (c .before .before .before),
-    )) (λ c. omega (arith, room (c .before .before .before))) loop-again (λ c. c .before .loop .inv .1 .long ∙ start (c
-    .before) .pre .0 .2) returns)
+    tie.close (tie.spec Inv-loop μ-loop (λ c. let h = c .before .pre .1 .1 in (h .0, h .1, refl))
+    (λ c κs. let l = c .before .before in (search (needs, room (c .before), l .loop .inv .1 .long), (start l .pre .1 .0, l .loop .inv .1 .small)))
+    (λ c. omega (arith, start (c .before .before .before .before) .pre .0, room (c .before .before .before)))
+    (λ c. omega (arith, room (c .before .before .before))) loop-again (λ c. c .before .loop .inv .1 .long ∙ start (c .before) .pre .0 .2) returns)

@@ -21,20 +21,11 @@ returns c =
 
 pub renewed-four-spec : {M : Type 1} → statement M
 renewed-four-spec =
-    tie.close (tie.spec (λ c. search needs) (λ c κs. let s = c .before .before in (omega (arith, s .pre .0), (s .pre .1 .0, s .pre .1 .1 _))) (λ c. search
-    needs) (λ c. search needs) (λ c κs. let s = c .before .before .before .before in (omega (arith, s .pre .0), (s .pre .1 .0, s .pre .1 .1 _))) (λ c. search
-    needs) (λ c. search needs) (λ c κs. let s = c .before .before .before .before .before .before in (
-      omega (arith, s .pre .0),
-      (
-        s .pre .1 .0,
-        s .pre .1 .1
-            _,
-      ),
-    )) (λ c. search needs) (λ c. search needs) (λ c κs. let s = c .before .before .before .before .before .before .before .before in (
-      omega (
-        arith,
-        s .pre
-            .0,
-      ),
-      (s .pre .1 .0, s .pre .1 .1 _),
-    )) returns)
+    tie.close (tie.spec (λ c. search needs) (λ c κs. let s = c .before .before in (omega (arith, s .pre .0), (s .pre .1 .0, s .pre .1 .1 _)))
+    (λ c. search needs) (λ c. search needs)
+    (λ c κs. let s = c .before .before .before .before in (omega (arith, s .pre .0), (s .pre .1 .0, s .pre .1 .1 _))) (λ c. search needs)
+    (λ c. search needs)
+    (λ c κs. let s = c .before .before .before .before .before .before in (omega (arith, s .pre .0), (s .pre .1 .0, s .pre .1 .1 _)))
+    (λ c. search needs) (λ c. search needs)
+    (λ c κs. let s = c .before .before .before .before .before .before .before .before in (omega (arith, s .pre .0), (s .pre .1 .0, s .pre .1 .1 _)))
+    returns)

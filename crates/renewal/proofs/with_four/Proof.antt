@@ -24,12 +24,11 @@ asked s k r h = (omega (arith, s .pre .0, h), (s .pre .1 .0 k, s .pre .1 .1 k))
 
 pub with-four-spec : {M : Type 1} → statement M
 with-four-spec =
-    tie.close (tie.spec (λ c. search needs) (λ c. search needs) (λ c κs. let s = c .before .before in asked s 0 (s .args .totals) (omega arith)) (λ c. search
-    needs) (λ c. search needs) (λ c κs. let a = c .before .before in asked (a .before .before .before) 1 (a .with-triple .result) (omega (
-      arith,
-      a
-          .with-triple .ensures .1,
-    ))) (λ c. search needs) (λ c. search needs) (λ c κs. let b = c .before .before in let a = b .before .before .before in asked (a
-    .before .before .before) 2 (b .with-triple2 .result) (omega (arith, a .with-triple .ensures .1, b .with-triple2 .ensures .1))) (λ c. search needs) (λ c.
-    search needs) (λ c κs. let d = c .before .before in let b = d .before .before .before in let a = b .before .before .before in asked (a .before .before
-    .before) 3 (d .with-triple3 .result) (omega (arith, a .with-triple .ensures .1, b .with-triple2 .ensures .1, d .with-triple3 .ensures .1))) returns)
+    tie.close (tie.spec (λ c. search needs) (λ c. search needs) (λ c κs. let s = c .before .before in asked s 0 (s .args .totals) (omega arith))
+    (λ c. search needs) (λ c. search needs)
+    (λ c κs. let a = c .before .before in asked (a .before .before .before) 1 (a .with-triple .result) (omega (arith, a .with-triple .ensures .1)))
+    (λ c. search needs) (λ c. search needs)
+    (λ c κs. let b = c .before .before in let a = b .before .before .before in asked (a .before .before .before) 2 (b .with-triple2 .result) (omega (arith, a .with-triple .ensures .1, b .with-triple2 .ensures .1)))
+    (λ c. search needs) (λ c. search needs)
+    (λ c κs. let d = c .before .before in let b = d .before .before .before in let a = b .before .before .before in asked (a .before .before .before) 3 (d .with-triple3 .result) (omega (arith, a .with-triple .ensures .1, b .with-triple2 .ensures .1, d .with-triple3 .ensures .1)))
+    returns)

@@ -28,5 +28,5 @@ returns c =
 
 pub change-at-spec : {M : Type 1} → statement M
 change-at-spec =
-    tie.close (tie.spec (λ c. search needs) (λ c. search needs) (λ c. fits (old (c .before)) w32 tt) (λ c. search needs) (λ c. search needs) (λ c. fits (new
-    (c .before .before)) w32 tt) change-requires returns)
+    tie.close (tie.spec (λ c. search needs) (λ c. search needs) (λ c. fits (old (c .before)) w32 tt) (λ c. search needs) (λ c. search needs)
+    (λ c. fits (new (c .before .before)) w32 tt) change-requires returns)

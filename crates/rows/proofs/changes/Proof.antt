@@ -40,11 +40,8 @@ returns c = (c .added .ensures ∙ summed (c .before), omega (arith, c .added .e
 
 pub changes-spec : {M : Type 1} → statement M
 changes-spec =
-    tie.close (tie.spec (λ s κs. (omega arith, within-raw (side s), s .pre .1 _, s .pre .2 _)) (λ c κs. let s = c .before in (
-      omega arith,
-      within-raw (side
-          s),
-      s .pre .1 _,
-      s .pre .2 _,
-    )) (λ c κs. let s = c .before .before in (omega arith, within-raw (side s), s .pre .1 _, s .pre .2 _)) (λ c κs. let s = c
-    .before .before .before in (omega arith, within-raw (side s), s .pre .1 _, s .pre .2 _)) (λ c κs. omega (arith, summed c, small c)) returns)
+    tie.close (tie.spec (λ s κs. (omega arith, within-raw (side s), s .pre .1 _, s .pre .2 _))
+    (λ c κs. let s = c .before in (omega arith, within-raw (side s), s .pre .1 _, s .pre .2 _))
+    (λ c κs. let s = c .before .before in (omega arith, within-raw (side s), s .pre .1 _, s .pre .2 _))
+    (λ c κs. let s = c .before .before .before in (omega arith, within-raw (side s), s .pre .1 _, s .pre .2 _)) (λ c κs. omega (arith, summed c, small c))
+    returns)

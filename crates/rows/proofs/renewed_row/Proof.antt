@@ -38,5 +38,5 @@ add-result c = fits (plus (multiplier-is (c .before)) (stored (lowered (c .befor
 
 pub renewed-row-spec : {M : Type 1} → statement M
 renewed-row-spec =
-    tie.close (tie.spec (λ c. search needs) (λ c. search needs) (λ c κs. search needs) (λ c. search needs) (λ c. search needs) (λ c. fits (lowered (c .before
-    .before .before)) w32 tt) add-result returns)
+    tie.close (tie.spec (λ c. search needs) (λ c. search needs) (λ c κs. search needs) (λ c. search needs) (λ c. search needs)
+    (λ c. fits (lowered (c .before .before .before)) w32 tt) add-result returns)

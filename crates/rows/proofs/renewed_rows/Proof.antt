@@ -17,6 +17,6 @@ returns c =
 
 pub renewed-rows-spec : {M : Type 1} → statement M
 renewed-rows-spec =
-    tie.close (tie.spec (λ c κs. (omega arith, c .pre .0 _, c .pre .1 _)) (λ c κs. let s = c .before in (omega arith, s .pre .0 _, s .pre .1 _)) (λ c κs. let
-    s = c .before .before in (omega arith, s .pre .0 _, s .pre .1 _)) (λ c κs. let s = c .before .before .before in (omega arith, s .pre .0 _, s .pre .1 _))
-    returns)
+    tie.close (tie.spec (λ c κs. (omega arith, c .pre .0 _, c .pre .1 _)) (λ c κs. let s = c .before in (omega arith, s .pre .0 _, s .pre .1 _))
+    (λ c κs. let s = c .before .before in (omega arith, s .pre .0 _, s .pre .1 _))
+    (λ c κs. let s = c .before .before .before in (omega arith, s .pre .0 _, s .pre .1 _)) returns)

@@ -77,5 +77,5 @@ returns c =
 
 pub row-sum-spec : {M : Type 1} → statement M
 row-sum-spec =
-    tie.close (tie.spec (λ c κs. search needs) (λ c κs. search needs) (λ c. fits (plus (first (c .before)) (second c)) w32 tt) (λ c κs. search needs) (λ c.
-    fits (those c) w32 tt) (λ c. fits (twice c) w32 tt) (λ c. fits (two c) w32 tt) (λ c. fits (three c) w32 tt) (λ c. fits (less c) w32 tt) returns)
+    tie.close (tie.spec (λ c κs. search needs) (λ c κs. search needs) (λ c. fits (plus (first (c .before)) (second c)) w32 tt) (λ c κs. search needs)
+    (λ c. fits (those c) w32 tt) (λ c. fits (twice c) w32 tt) (λ c. fits (two c) w32 tt) (λ c. fits (three c) w32 tt) (λ c. fits (less c) w32 tt) returns)

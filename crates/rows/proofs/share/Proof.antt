@@ -48,5 +48,5 @@ returns c =
 
 pub share-spec : {M : Type 1} → statement M
 share-spec =
-    tie.close (tie.spec (λ c κs. search needs) (λ c κs. search needs) (λ c. fits (two c) w32 tt) (λ c κs. search needs) (λ c. fits (three c) w32 tt) (λ c κs.
-    search needs) (λ c. fits (all c) w32 tt) returns)
+    tie.close (tie.spec (λ c κs. search needs) (λ c κs. search needs) (λ c. fits (two c) w32 tt) (λ c κs. search needs) (λ c. fits (three c) w32 tt)
+    (λ c κs. search needs) (λ c. fits (all c) w32 tt) returns)

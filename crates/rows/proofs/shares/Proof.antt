@@ -54,6 +54,6 @@ returns c =
 
 pub shares-spec : {M : Type 1} → statement M
 shares-spec =
-    tie.close (tie.spec (λ c κs. (omega arith, c .pre _)) (λ c κs. (omega arith, c .before .pre _)) (λ c κs. (omega arith, c .before .before .pre _)) (λ c κs.
-    (omega arith, c .before .before .before .pre _)) (λ c κs. asked c 0 (omega arith)) (λ c κs. asked (c .before) 1 (omega arith)) (λ c κs. asked (c .before
-    .before) 2 (omega arith)) returns)
+    tie.close (tie.spec (λ c κs. (omega arith, c .pre _)) (λ c κs. (omega arith, c .before .pre _)) (λ c κs. (omega arith, c .before .before .pre _))
+    (λ c κs. (omega arith, c .before .before .before .pre _)) (λ c κs. asked c 0 (omega arith)) (λ c κs. asked (c .before) 1 (omega arith))
+    (λ c κs. asked (c .before .before) 2 (omega arith)) returns)

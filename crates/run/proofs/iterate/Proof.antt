@@ -105,5 +105,5 @@ returns c =
 
 pub iterate-spec : {M : Type 1} → statement M
 iterate-spec =
-    tie.close (tie.spec gather-requires write-values-requires (λ c. search needs) renew-rows-requires (λ c. search needs) (λ c. search needs) (λ c. search
-    needs) returns)
+    tie.close (tie.spec gather-requires write-values-requires (λ c. search needs) renew-rows-requires (λ c. search needs) (λ c. search needs)
+    (λ c. search needs) returns)

@@ -83,11 +83,8 @@ returns c =
 
 pub iterations-spec : {M : Type 1} → statement M
 iterations-spec =
-    tie.close (tie.spec Inv-loop μ-loop loop-holds iterate-requires (λ c. let t = turn (c .before .before .before) in omega (
-      arith,
-      on t .0,
-      start (t .before
-          .before) .pre .1 .1 .1,
-    )) (λ c. omega (arith, on (turn (c .before .before .before)) .0)) loop-again (λ c. c .before .before .loop .inv .0 .sums ∙ sym
-    (start (c .before .before) .pre .0 .sums)) (λ c. long (c .before .before)) (λ c. let l = c .before .before in l .loop .inv .1 ∙ start l .pre .0 .rows)
-    returns)
+    tie.close (tie.spec Inv-loop μ-loop loop-holds iterate-requires
+    (λ c. let t = turn (c .before .before .before) in omega (arith, on t .0, start (t .before .before) .pre .1 .1 .1))
+    (λ c. omega (arith, on (turn (c .before .before .before)) .0)) loop-again
+    (λ c. c .before .before .loop .inv .0 .sums ∙ sym (start (c .before .before) .pre .0 .sums)) (λ c. long (c .before .before))
+    (λ c. let l = c .before .before in l .loop .inv .1 ∙ start l .pre .0 .rows) returns)

@@ -28,10 +28,10 @@ returns c =
     let s = q .before in
     opening-refused _ (long q) _ _ (s .pre .0) (s .pre .1) (judged j) (opening-taken (j .judge-check .result) (s .args .came) (c .before .before .if1 .taken)) (c .refuse .ensures)
 
-shared-slice-read-wide : tie.Need-shared-slice-read-wide
-shared-slice-read-wide c =
+shared-slice-read-byte : tie.Need-shared-slice-read-byte
+shared-slice-read-byte c =
     let s = c .before .before .before .before .before .before in
-    omega (arith, s .pre .0 .held .fits, s .pre .0 .most, opening-left (c .before .before .judge-check .result) (s .args .came) (c .before .if1 .left))
+    omega (arith, s .pre .0 .kept .fits, s .pre .0 .most, opening-left (c .before .before .judge-check .result) (s .args .came) (c .before .if1 .left))
 
 returns-2 : tie.Need-returns-2
 returns-2 c =
@@ -41,9 +41,9 @@ returns-2 c =
     let s = q .before in
     let t = opening-left (j .judge-check .result) (s .args .came) (e .if1 .left) in
     opening-kept _ (long q) _ _ (s .pre .0) (s .pre .1) _ _ (sym (judged j) ∙ t .0) (t .1)
-    (c .wide .ensures .0 ∙ sym (getD-drop (s .args .state .at) (s .args .buffer .now) 2 0))
+    (c .byte .ensures .0 ∙ sym (getD-drop (s .args .state .at) (s .args .buffer .now) 2 0))
 
 pub check-spec : {M : Type 1} → statement M
 check-spec =
     tie.close (tie.spec (λ c. search needs) (λ c κs. search needs) (λ c. search needs) (λ c. search needs) (λ c. search needs) judge-check-requires
-    (λ c κs. search needs) returns (λ c. search needs) shared-slice-read-wide (λ c κs. search needs) (λ c. search needs) returns-2)
+    (λ c κs. search needs) returns (λ c. search needs) shared-slice-read-byte (λ c κs. search needs) (λ c. search needs) returns-2)

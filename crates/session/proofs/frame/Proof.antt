@@ -17,7 +17,7 @@ settings-requires : tie.Need-settings-requires
 settings-requires c κs = let s = c .before .before in omega (arith, set _ (long (c .before)) _ _ (s .pre .0) (s .pre .1) .twelve)
 
 slice-aggregate-frame-line : tie.Need-slice-aggregate-frame-line
-slice-aggregate-frame-line c = sym (length-take-le _ _ (omega (arith, c .before .before .before .before .pre .0 .held .fits)))
+slice-aggregate-frame-line c = sym (length-take-le _ _ (omega (arith, c .before .before .before .before .pre .0 .kept .fits)))
 
 frame-line-requires : tie.Need-frame-line-requires
 frame-line-requires c κs =
@@ -73,5 +73,5 @@ returns-2 c =
 
 pub frame-spec : {M : Type 1} → statement M
 frame-spec =
-    tie.close (tie.spec sub-size (λ c. search needs) (λ c. search needs) (λ c. search needs) (λ c. search needs) settings-requires slice-aggregate-frame-line
-    (λ c. search needs) (λ c. search needs) (λ c. search needs) frame-line-requires (λ c κs. search needs) returns returns-2)
+    tie.close (tie.spec sub-size (λ c. search needs) (λ c. search needs) (λ c. search needs) (λ c. search needs) settings-requires
+    slice-aggregate-frame-line (λ c. search needs) (λ c. search needs) (λ c. search needs) frame-line-requires (λ c κs. search needs) returns returns-2)

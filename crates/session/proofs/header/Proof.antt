@@ -8,7 +8,7 @@ long : (c : tie.After-bytes) → length (c .before .args .buffer .now) ≡ 10260
 long c = search needs
 
 slice-aggregate-judge-header : tie.Need-slice-aggregate-judge-header
-slice-aggregate-judge-header c = let a = c .before .before .pre .0 in sym (length-take-le _ _ (omega (arith, a .most, a .held .fits)))
+slice-aggregate-judge-header c = let a = c .before .before .pre .0 in sym (length-take-le _ _ (omega (arith, a .most, a .kept .fits)))
 
 returns : tie.Need-returns
 returns c =

@@ -15,5 +15,6 @@ slice-set-of-l c = omega (arith, filled-long _ _ (c .before .loop .inv))
 
 pub clear-i32-spec : {M : Type 1} → statement M
 clear-i32-spec =
-    tie.close (tie.spec Inv-loop μ-loop (λ c. filled-none _ _) (λ c. omega arith) slice-set-of-l (λ c. omega arith) (λ c. omega arith) (λ c. filled-next _ _
-    (c .before .loop .inv) (omega arith)) (λ c. filled-long _ _ (c .before .loop .inv)) (λ c. filled-all _ _ (c .before .loop .inv) (omega arith)))
+    tie.close (tie.spec Inv-loop μ-loop (λ c. filled-none _ _) (λ c. omega arith) slice-set-of-l (λ c. omega arith) (λ c. omega arith)
+    (λ c. filled-next _ _ (c .before .loop .inv) (omega arith)) (λ c. filled-long _ _ (c .before .loop .inv))
+    (λ c. filled-all _ _ (c .before .loop .inv) (omega arith)))

@@ -23,5 +23,5 @@ returns c n f e =
 
 pub add-spec : {M : Type 1} → statement M
 add-spec =
-    tie.close (tie.spec (λ c. fits (read w32 (c .fits .x)) w64 tt) (λ c. search needs) (λ c. search needs) (λ c. fits (sum (c .before)) w64 tt) (λ c. search
-    needs) (λ c. search needs) returns)
+    tie.close (tie.spec (λ c. fits (read w32 (c .fits .x)) w64 tt) (λ c. search needs) (λ c. search needs) (λ c. fits (sum (c .before)) w64 tt)
+    (λ c. search needs) (λ c. search needs) returns)

@@ -47,11 +47,9 @@ returns c N s g h = let l = c .before in summed-also (l .loop .inv .1 N s g h) r
 
 pub give-group-spec : {M : Type 1} → statement M
 give-group-spec =
-    tie.close (tie.spec Inv-loop μ-loop loop-holds (λ c. omega (arith, start (c .before) .pre .0)) (λ c. omega (arith, start (c .before) .pre .0)) (λ c. omega
-    (arith, start (c .before) .pre .0)) (λ c. omega (arith, start (c .before .before) .pre .0)) (λ c. omega (arith, start (c .before .before) .pre .0)) (λ c.
-    omega (arith, start (c .before .before) .pre .0)) (λ c. omega (arith, start (c .before .before .before) .pre .0)) (λ c. omega (
-      arith,
-      start (c .before
-          .before .before) .pre .0,
-    )) (λ c. omega (arith, start (c .before .before .before) .pre .0)) give-requires (λ c. omega arith) (λ c. omega arith) loop-again
+    tie.close (tie.spec Inv-loop μ-loop loop-holds (λ c. omega (arith, start (c .before) .pre .0)) (λ c. omega (arith, start (c .before) .pre .0))
+    (λ c. omega (arith, start (c .before) .pre .0)) (λ c. omega (arith, start (c .before .before) .pre .0))
+    (λ c. omega (arith, start (c .before .before) .pre .0)) (λ c. omega (arith, start (c .before .before) .pre .0))
+    (λ c. omega (arith, start (c .before .before .before) .pre .0)) (λ c. omega (arith, start (c .before .before .before) .pre .0))
+    (λ c. omega (arith, start (c .before .before .before) .pre .0)) give-requires (λ c. omega arith) (λ c. omega arith) loop-again
     (λ c. let l = c .before in summed-long (now l) ∙ sym (summed-long (start l .pre .1 .2))) returns)

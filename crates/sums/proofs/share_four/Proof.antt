@@ -116,9 +116,9 @@ returns c T f g =
 
 pub share-four-spec : {M : Type 1} → statement M
 share-four-spec =
-    tie.close (tie.spec (λ c. search needs) (λ c. search needs) load-four-requires (λ c. search needs) (λ c κs. small (c .before) 0 (omega arith)) (λ c.
-    search needs) (λ c κs. small (c .before .before .before) 1 (omega arith)) (λ c. search needs) (λ c κs. small (c .before .before .before .before .before) 2
-    (omega arith)) (λ c. search needs) (λ c κs. small (c .before .before .before .before .before .before .before) 3 (omega arith)) (λ c. search needs) (λ c.
-    search needs) (λ c. search needs) (λ c. search needs) store-requires (λ c. search needs) (λ c. search needs) (λ c. search needs) (λ c. search needs) (λ c.
-    search needs) store-requires-2 (λ c. search needs) (λ c. search needs) (λ c. search needs) (λ c. search needs) (λ c. search needs) store-requires-3 (λ c.
-    search needs) returns)
+    tie.close (tie.spec (λ c. search needs) (λ c. search needs) load-four-requires (λ c. search needs) (λ c κs. small (c .before) 0 (omega arith))
+    (λ c. search needs) (λ c κs. small (c .before .before .before) 1 (omega arith)) (λ c. search needs)
+    (λ c κs. small (c .before .before .before .before .before) 2 (omega arith)) (λ c. search needs)
+    (λ c κs. small (c .before .before .before .before .before .before .before) 3 (omega arith)) (λ c. search needs) (λ c. search needs) (λ c. search needs)
+    (λ c. search needs) store-requires (λ c. search needs) (λ c. search needs) (λ c. search needs) (λ c. search needs) (λ c. search needs) store-requires-2
+    (λ c. search needs) (λ c. search needs) (λ c. search needs) (λ c. search needs) (λ c. search needs) store-requires-3 (λ c. search needs) returns)

@@ -34,5 +34,5 @@ returns c T f =
 
 pub share-group-spec : {M : Type 1} → statement M
 share-group-spec =
-    tie.close (tie.spec Inv-loop μ-loop (λ c. (omega arith, c .pre .1, λ T f p i h k. absurd (omega arith))) share-four-requires (λ c. omega arith) (λ c.
-    omega arith) loop-again (λ c. c .before .loop .inv .1 ∙ sym (c .before .before .pre .1)) returns)
+    tie.close (tie.spec Inv-loop μ-loop (λ c. (omega arith, c .pre .1, λ T f p i h k. absurd (omega arith))) share-four-requires (λ c. omega arith)
+    (λ c. omega arith) loop-again (λ c. c .before .loop .inv .1 ∙ sym (c .before .before .pre .1)) returns)

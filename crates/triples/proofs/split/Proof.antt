@@ -88,8 +88,6 @@ returns-4 c =
 
 pub split-spec : {M : Type 1} → statement M
 split-spec =
-    tie.close (tie.spec (λ c κs. search needs) (λ c. search needs) (λ c. search needs) (λ c. omega (arith, read (c .before))) (λ c. omega (
-      arith,
-      read (c
-          .before),
-    )) (λ c. omega (arith, read (c .before))) returns returns-2 write-system-requires returns-3 (λ c. search needs) (λ c. search needs) returns-4)
+    tie.close (tie.spec (λ c κs. search needs) (λ c. search needs) (λ c. search needs) (λ c. omega (arith, read (c .before)))
+    (λ c. omega (arith, read (c .before))) (λ c. omega (arith, read (c .before))) returns returns-2 write-system-requires returns-3 (λ c. search needs)
+    (λ c. search needs) returns-4)

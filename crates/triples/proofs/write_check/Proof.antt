@@ -63,9 +63,6 @@ returns c =
 
 pub write-check-spec : {M : Type 1} → statement M
 write-check-spec =
-    tie.close (tie.spec Inv-loop μ-loop (λ c κs. search needs) (λ c. (omega arith, refl)) (λ c. search needs) (λ c. search needs) (λ c κs. omega (
-      arith,
-      long
-          (c .before .before),
-    )) (λ c. search needs) (λ c. search needs) loop-again (λ c. search needs) (λ c. search needs) (λ c κs. search needs) (λ c κs. omega
-    (arith, long (c .before .before .before))) same-length returns)
+    tie.close (tie.spec Inv-loop μ-loop (λ c κs. search needs) (λ c. (omega arith, refl)) (λ c. search needs) (λ c. search needs)
+    (λ c κs. omega (arith, long (c .before .before))) (λ c. search needs) (λ c. search needs) loop-again (λ c. search needs) (λ c. search needs)
+    (λ c κs. search needs) (λ c κs. omega (arith, long (c .before .before .before))) same-length returns)

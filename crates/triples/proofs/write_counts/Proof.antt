@@ -68,5 +68,5 @@ returns c =
 
 pub write-counts-spec : {M : Type 1} → statement M
 write-counts-spec =
-    tie.close (tie.spec Inv-loop μ-loop (λ c κs. search needs) loop-holds count-requires (λ c. search needs) (λ c. search needs) loop-again (λ c. long (c
-    .before)) returns)
+    tie.close (tie.spec Inv-loop μ-loop (λ c κs. search needs) loop-holds count-requires (λ c. search needs) (λ c. search needs) loop-again
+    (λ c. long (c .before)) returns)

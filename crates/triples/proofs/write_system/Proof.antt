@@ -59,5 +59,5 @@ returns c =
 
 pub write-system-spec : {M : Type 1} → statement M
 write-system-spec =
-    tie.close (tie.spec (λ c κs. search needs) (λ c. search needs) (λ c. search needs) slice-aggregate-write-counts write-counts-requires (λ c. search needs)
-    (λ c. search needs) returns)
+    tie.close (tie.spec (λ c κs. search needs) (λ c. search needs) (λ c. search needs) slice-aggregate-write-counts write-counts-requires
+    (λ c. search needs) (λ c. search needs) returns)

@@ -84,10 +84,8 @@ returns c =
 
 pub write-triples-spec : {M : Type 1} → statement M
 write-triples-spec =
-    tie.close (tie.spec Inv-loop μ-loop (λ c κs. omega (arith, header (c .before .before) .room)) (λ c κs. header (c .before .before .before) .room) (λ c κs.
-    omega (arith, header (c .before .before .before .before) .room)) loop-holds (λ c. omega (arith, room c, long (c .before))) (λ c. omega (
-      arith,
-      room c,
-      long (c .before),
-    )) (λ c. omega (arith, room c, long (c .before))) (λ c. search needs) write-check-requires triple-count-requires (λ c. search needs)
-    add-done turns-requires add-next after-check-requires (λ c. search needs) (λ c. search needs) loop-again (λ c. long (c .before)) returns)
+    tie.close (tie.spec Inv-loop μ-loop (λ c κs. omega (arith, header (c .before .before) .room)) (λ c κs. header (c .before .before .before) .room)
+    (λ c κs. omega (arith, header (c .before .before .before .before) .room)) loop-holds (λ c. omega (arith, room c, long (c .before)))
+    (λ c. omega (arith, room c, long (c .before))) (λ c. omega (arith, room c, long (c .before))) (λ c. search needs) write-check-requires
+    triple-count-requires (λ c. search needs) add-done turns-requires add-next after-check-requires (λ c. search needs) (λ c. search needs) loop-again
+    (λ c. long (c .before)) returns)

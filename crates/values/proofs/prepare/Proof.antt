@@ -56,13 +56,6 @@ returns c =
 pub prepare-spec : {M : Type 1} → statement M
 prepare-spec =
     tie.close (tie.spec Inv-loop μ-loop (λ c. (omega arith, c .pre .1, omega arith, λ k h. absurd (omega arith))) (λ c. omega arith) divisor-requires
-    prepare-requires (λ c. omega (arith, turn c .before .pre .2)) (λ c. omega (arith, turn c .loop .inv .1)) (λ c. omega (
-      arith,
-      turn (c .before) .before .pre
-          .2,
-    )) (λ c. omega (arith, turn (c .before) .loop .inv .2)) (λ c. omega arith) (λ c. omega arith) loop-again (λ c. let l = c .before in omega (
-      arith,
-      l
-          .loop .inv .1,
-      l .before .pre .1,
-    )) (λ c. c .before .loop .inv .2) returns)
+    prepare-requires (λ c. omega (arith, turn c .before .pre .2)) (λ c. omega (arith, turn c .loop .inv .1))
+    (λ c. omega (arith, turn (c .before) .before .pre .2)) (λ c. omega (arith, turn (c .before) .loop .inv .2)) (λ c. omega arith) (λ c. omega arith)
+    loop-again (λ c. let l = c .before in omega (arith, l .loop .inv .1, l .before .pre .1)) (λ c. c .before .loop .inv .2) returns)

@@ -29,5 +29,5 @@ returns c = let t = stored (total c) w64 tt in (t .is, omega (arith, ap natAbs (
 
 pub weighed-spec : {M : Type 1} → statement M
 weighed-spec =
-    tie.close (tie.spec (λ c. fits (scaled c) w64 tt) (λ c. search needs) (λ c. fits (cost-is c) w64 tt) (λ c. fits (weighted c) w64 tt) (λ c. fits (total c)
-    w64 tt) returns)
+    tie.close (tie.spec (λ c. fits (scaled c) w64 tt) (λ c. search needs) (λ c. fits (cost-is c) w64 tt) (λ c. fits (weighted c) w64 tt)
+    (λ c. fits (total c) w64 tt) returns)

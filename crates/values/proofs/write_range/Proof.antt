@@ -127,5 +127,5 @@ returns c =
 pub write-range-spec : {M : Type 1} → statement M
 write-range-spec =
     tie.close (tie.spec Inv-loop μ-loop loop-holds mul-weighed shared-slice-copy-out-weighed (λ c κs. search needs) weighed-requires mul-index
-    shared-slice-read-index (λ c κs. search needs) divide-requires mul-t21 slice-set-from-values (λ c. omega arith) (λ c. omega arith) loop-again (λ c. long
-    (c .before)) returns)
+    shared-slice-read-index (λ c κs. search needs) divide-requires mul-t21 slice-set-from-values (λ c. omega arith) (λ c. omega arith) loop-again
+    (λ c. long (c .before)) returns)

@@ -41,5 +41,5 @@ returns c =
 
 pub write-values-spec : {M : Type 1} → statement M
 write-values-spec =
-    tie.close (tie.spec (λ c κs. search needs) (λ c. search needs) (λ c. search needs) (λ c. search needs) (λ c. search needs) write-range-requires-2 (λ c.
-    search needs) returns)
+    tie.close (tie.spec (λ c κs. search needs) (λ c. search needs) (λ c. search needs) (λ c. search needs) (λ c. search needs) write-range-requires-2
+    (λ c. search needs) returns)
