@@ -48,48 +48,19 @@ pub fn run(label: &[u8], x: &[u8], y: &[u8], z: &[u8], example: Example) {
     text(label);
     text(b":");
     match example {
-        Example::Reading => {
-            reading(x);
-        }
-        Example::ReadingMany(bits) => {
-            reading_many(bits, x);
-        }
-        Example::Edge => {
-            edge(x);
-        }
-        Example::MostTriples => {
-            most_triples(x);
-        }
-        Example::Splitting => {
-            splitting(x, y);
-        }
-        Example::SplittingMany => {
-            splitting_many(x, y);
-        }
-        Example::Extending => {
-            extending(x, y, z);
-        }
-        Example::ExtendingMany => {
-            extending_many(x, y, z);
-        }
-        Example::Gaussian => {
-            let scale = first_real(x);
-            front(Channel::Gaussian(scale), y, z);
-        }
-        Example::Hard => {
-            let weight = first_real(x);
-            front(Channel::Hard(weight), y, z);
-        }
-        Example::Erasing => {
-            let pair = erasure(x);
-            front(Channel::Erasing(pair), y, z);
-        }
-        Example::Reflecting => {
-            reflecting(x, y, z);
-        }
-        Example::Decoding(mark) => {
-            decoding(x, y, z, mark);
-        }
+        Example::Reading => reading(x),
+        Example::ReadingMany(bits) => reading_many(bits, x),
+        Example::Edge => edge(x),
+        Example::MostTriples => most_triples(x),
+        Example::Splitting => splitting(x, y),
+        Example::SplittingMany => splitting_many(x, y),
+        Example::Extending => extending(x, y, z),
+        Example::ExtendingMany => extending_many(x, y, z),
+        Example::Gaussian => front(Channel::Gaussian(first_real(x)), y, z),
+        Example::Hard => front(Channel::Hard(first_real(x)), y, z),
+        Example::Erasing => front(Channel::Erasing(erasure(x)), y, z),
+        Example::Reflecting => reflecting(x, y, z),
+        Example::Decoding(mark) => decoding(x, y, z, mark),
     }
     text(b"\n");
 }
@@ -197,10 +168,14 @@ fn verdict(name: &[u8], v: Verdict) {
     }
 }
 
+fn test(code: &[u8], word: &[u8]) {
+    verdict(b" test", codeword::test(code, word));
+}
+
 fn extending(code: &[u8], word: &[u8], rooms: &[u8]) {
     let n = room(rooms);
     let mut point = [9u8; 16];
-    verdict(b" test", codeword::test(code, word));
+    test(code, word);
     verdict(
         b", extension",
         codeword::extend(code, word, &mut point[0..n]),
@@ -217,6 +192,14 @@ fn extending_many(last: &[u8], word: &[u8], rooms: &[u8]) {
 }
 
 // ---- channel front and reflector
+
+// The number, and the costs after it.
+fn written(cause: u32, costs: [i16; 16], n: usize) {
+    let mut lists = nines();
+    lists.values = costs;
+    number(cause as usize);
+    list(b", costs", lists, Which::Values, n);
+}
 
 // The float with these bits, whose sign is 0.
 fn size(x: usize) -> f32 {
@@ -268,10 +251,7 @@ fn front(setting: Channel, samples: &[u8], rooms: &[u8]) {
     let m = room(rooms);
     let mut costs = [9i16; 16];
     let cause = channel::front(setting, &floats[0..n], &mut costs[0..m]);
-    let mut lists = nines();
-    lists.values = costs;
-    number(cause as usize);
-    list(b", costs", lists, Which::Values, m);
+    written(cause, costs, m);
 }
 
 // A two-byte number as two's complement.
@@ -299,10 +279,7 @@ fn reflecting(given: &[u8], word: &[u8], rooms: &[u8]) {
     let m = room(rooms);
     let mut result = [9i16; 16];
     let cause = reflector::reflect(&all[0..n], word, &mut result[0..m]);
-    let mut lists = nines();
-    lists.values = result;
-    number(cause as usize);
-    list(b", costs", lists, Which::Values, m);
+    written(cause, result, m);
 }
 
 // ---- decoder
