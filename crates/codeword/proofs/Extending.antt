@@ -1,11 +1,11 @@
 -- The extension of a word, an auxiliary at a time and a check at a time. Assumes nothing.
 use Rattle.integers.proofs.Prelude.{_≡_, refl, sym, ap, _∙_, List, [], _∷_, _++_, ℕ, zero, suc, _+_, _-_, _*_, _%_, _≤_, _<_, arith, add-one, add-two, decLt}
 use Rattle.integers.proofs.Prelude.{lt-ltb, le-ltb, length, getD, take, drop, set, length-append, take-append-drop, length-take-le, take-at, take-all}
-use Rattle.integers.proofs.Prelude.{take-add, drop-drop, drop-cons}
-use lib.Seq.{drop-append-seam}
+use Rattle.integers.proofs.Prelude.{take-add, drop-cons}
 use Rattle.lists.specs.Tabulated.{written}
 use Rattle.lists.specs.Entries.{total}
 use Rattle.lists.proofs.Tabulated.{length-written, written-in}
+use Rattle.lists.proofs.Parts.{written-next, written-over}
 use Rattle.model.specs.Code.{turns, tripleCount, variables}
 use Rattle.model.specs.Records.{bitCount, checkCount, indices, afterCheck, checksIn, codeOf, judge}
 use Rattle.model.specs.Sound.{SoundCheck}
@@ -21,21 +21,6 @@ use Rattle.records.proofs.Walk.{total-within}
 use Rattle.triples.proofs.Auxiliaries.{body, Numbered, numbered-next, checks-so-far}
 use Rattle.triples.proofs.Items.{item-bit, item-auxiliary}
 use Rattle.triples.proofs.Writing.{members-to, members-next, length-members}
-
--- ---- a list that grows in a lent one
--- one entry more
-written-next : (l old : List ℕ) (v : ℕ) → length l < length old → set (written l old) (length l) v ≡ written (l ++ (v ∷ [])) old
-written-next [] [] v h = absurd (omega arith)
-written-next [] (y ∷ old) v h = refl
-written-next (x ∷ l) [] v h = absurd (omega arith)
-written-next (x ∷ l) (y ∷ old) v h = ap (_∷_ x) (written-next l old v (omega arith))
-
--- what stood in the entries that are written is of no account
-written-over : (l k old : List ℕ) → length k ≤ length l → written l (written k old) ≡ written l old
-written-over l k old h =
-    let e : length k + (length l - length k) ≡ length l = omega arith in
-    let d : (r : List ℕ) → drop (length l) r ≡ drop (length l - length k) (drop (length k) r) = λ r. sym (drop-drop (length l - length k) (length k) r ∙ ap (λ (n : ℕ). drop n r) e) in
-    ap (_++_ l) (d (written k old) ∙ ap (drop (length l - length k)) (drop-append-seam k (drop (length k) old)) ∙ sym (d old))
 
 extend-append : (n : ℕ) (ts rest p : List ℕ) → length ts ≡ 3 * n → extend (ts ++ rest) p ≡ extend rest (extend ts p)
 unfolding extend

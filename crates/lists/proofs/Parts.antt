@@ -1,7 +1,7 @@
 -- Parts of a slice, as a loan gives them, and a list that is written part by part. Assumes nothing.
-use Rattle.integers.proofs.Prelude.{_≡_, sym, ap, _∙_, List, [], _++_, append-assoc, append-nil, ℕ, _+_, _-_, _≤_, arith, length, take, drop, length-append}
-use Rattle.integers.proofs.Prelude.{length-drop, drop-of-length-le, length-take-le, take-at, take-all, take-add, drop-at, drop-drop, take-append-seam}
-use lib.Seq.{take-length}
+use Rattle.integers.proofs.Prelude.{_≡_, refl, sym, ap, _∙_, List, [], _∷_, _++_, append-assoc, append-nil, ℕ, _+_, _-_, _≤_, _<_, arith}
+use Rattle.integers.proofs.Prelude.{length, take, drop, set, length-append, length-drop, drop-of-length-le, take-all, drop-drop, take-append-seam}
+use lib.Seq.{drop-append-seam}
 use Rattle.lists.specs.Tabulated.{written}
 
 module _ {A : Type 0} where
@@ -13,22 +13,25 @@ module _ {A : Type 0} where
   pub lent-back : (n : ℕ) (l p old : List A) → p ≡ l → length p ≡ n → p ++ drop n old ≡ written l old
   lent-back n l p old e h = ap (λ (m : ℕ). p ++ drop m old) (sym h) ∙ ap (λ (q : List A). q ++ drop (length q) old) e
 
-  -- the first n entries are l's, the rest is old
-  abbrev pub begun : ℕ → List A → List A → List A
-  begun n l old = take n l ++ drop n old
+  -- ---- a list that grows in a lent one
+  -- one entry more
+  pub written-next : (l old : List A) (v : A) → length l < length old → set (written l old) (length l) v ≡ written (l ++ (v ∷ [])) old
+  written-next [] [] v h = absurd (omega arith)
+  written-next [] (y ∷ old) v h = refl
+  written-next (x ∷ l) [] v h = absurd (omega arith)
+  written-next (x ∷ l) (y ∷ old) v h = ap (_∷_ x) (written-next l old v (omega arith))
 
-  pub length-begun : (n : ℕ) (l old : List A) → n ≤ length l → n ≤ length old → length (begun n l old) ≡ length old
-  length-begun n l old h k = length-append (take n l) (drop n old) ∙ omega (arith, length-take-le n l h, length-drop n old)
+  -- what stood in the entries that are written is of no account
+  pub written-over : (l k old : List A) → length k ≤ length l → written l (written k old) ≡ written l old
+  written-over l k old h =
+      let e : length k + (length l - length k) ≡ length l = omega arith in
+      let d : (r : List A) → drop (length l) r ≡ drop (length l - length k) (drop (length k) r) = λ r. sym (drop-drop (length l - length k) (length k) r ∙ ap (λ (n : ℕ). drop n r) e) in
+      ap (_++_ l) (d (written k old) ∙ ap (drop (length l - length k)) (drop-append-seam k (drop (length k) old)) ∙ sym (d old))
 
-  pub begun-all : (l old : List A) → begun (length l) l old ≡ written l old
-  begun-all l old = rw (take-length l)
-
-  -- the next part p, written to what was left of the list, which then comes back
-  pub begun-next : (n : ℕ) (l p r old s k : List A) → n ≤ length l → drop n l ≡ p ++ r → s ≡ begun n l old → k ≡ written p (drop n s)
-      → take n s ++ (k ++ drop (length s - n) (drop n s)) ≡ begun (n + length p) l old
-  begun-next n l p r old s k h e b w =
-      let long = length-take-le n l h in
-      let none : drop (length s - n) (drop n s) ≡ [] = drop-of-length-le (drop n s) {i = length s - n} (omega (arith, length-drop n s)) in
-      let more : take (length p) (drop n l) ≡ p = ap (take (length p)) e ∙ take-append-seam p r in
-      rw (none, append-nil k, w, b, take-at (take n l) (drop n old) n long, drop-at (take n l) (drop n old) n long, take-add n (length p) l, more, drop-drop (length p) n old)
-      (sym (append-assoc (take n l) p (drop (n + length p) old)))
+  -- k behind l, written to what was left of the list, which then comes back
+  pub written-more : (l k q old s : List A) → s ≡ written l old → q ≡ written k (drop (length l) s)
+      → take (length l) s ++ (q ++ drop (length s - length l) (drop (length l) s)) ≡ written (l ++ k) old
+  written-more l k q old s e w =
+      let none : drop (length s - length l) (drop (length l) s) ≡ [] = drop-of-length-le (drop (length l) s) {i = length s - length l} (omega (arith, length-drop (length l) s)) in
+      rw (none, append-nil q, w, e, take-append-seam l (drop (length l) old), drop-append-seam l (drop (length l) old), drop-drop (length k) (length l) old, length-append l k)
+      (sym (append-assoc l k (drop (length l + length k) old)))

@@ -11,6 +11,11 @@ pub only : (c : ℕ) → firstOf (c ∷ []) ≡ c
 only zero = refl
 only (suc c) = refl
 
+-- the first cause, where it holds
+pub refused : (c : ℕ) (l : List ℕ) → (c ≡ 0 → ⊥) → firstOf (c ∷ l) ≡ c
+refused zero l h = absurd (h refl)
+refused (suc c) l h = refl
+
 -- the first cause of a list may be found first, and then stand for the list
 pub first-in : (l m : List ℕ) → firstOf (firstOf l ∷ m) ≡ firstOf (l ++ m)
 first-in [] m = refl

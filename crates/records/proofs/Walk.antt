@@ -6,12 +6,7 @@ use Rattle.lists.specs.Entries.{total}
 use Rattle.lists.proofs.Entries.{total-append}
 use Rattle.model.specs.Causes.{firstOf}
 use Rattle.model.specs.Records.{twoBytes, numbers, degree, indices, afterCheck, checksIn, afterChecks, judgeCheck, judgeChecks}
-use Rattle.model.proofs.Causes.{only, clear}
-
--- a cause that is not 0 decides
-pub refused : (c : ℕ) (l : List ℕ) → (c ≡ 0 → ⊥) → firstOf (c ∷ l) ≡ c
-refused zero l h = absurd (h refl)
-refused (suc c) l h = refl
+use Rattle.model.proofs.Causes.{refused, only, clear}
 
 -- ---- j records, and one more
 after-next : (j : ℕ) (s : List ℕ) → afterChecks (suc j) s ≡ afterCheck (afterChecks j s)

@@ -73,14 +73,14 @@ module _ (buffer : List ℕ) (long : length buffer ≡ 10260) (st : State) (came
       → frames (b ++ s) ≡ frameText (codeOf code) (settingsOf r) bytes ++ cond (goesOn n bytes) (frames (b ++ drop (st .want) s)) []
   next s e = rw (split, append-assoc code r s, append-assoc code r (drop (st .want) s), e, want-is) (frame-after-frame (st .triples) code r s coded set)
 
-  going : isOver (st .part) ≡ false
-  going = ap isOver p
+  unfinished : isOver (st .part) ≡ false
+  unfinished = ap isOver p
 
   module _ (w : ℕ) (out : List ℕ) (text : take w out ≡ frameText (codeOf code) (settingsOf r) bytes) (most : w ≤ length out) where
     pub goes-on : true ≡ goesOn n bytes → Told buffer st came (record { state = st; written = w }) out
     goes-on g = record {
       stepped = record {
-        writes = λ s e. rw (going, text) (next s e ∙ rw (← g));
+        writes = λ s e. rw (unfinished, text) (next s e ∙ rw (← g));
         ends = λ h. (let z : _≡_ {A = ℕ} 0 1 = cc (g ∙ cut-ends n bytes (omega (arith, counted buffer long st came a, want-is))) in absurd (omega arith));
         holds = a .kept;
       };
@@ -89,6 +89,6 @@ module _ (buffer : List ℕ) (long : length buffer ≡ 10260) (st : State) (came
 
     pub stops : {after : State} → after ≡ over → false ≡ goesOn n bytes → Told buffer st came (record { state = after; written = w }) out
     stops z g = record {
-      stepped = record { writes = λ s e. rw (going, text, z) (next s e ∙ rw (← g)); ends = λ h. rw z; holds = rw z (over-kept buffer) };
+      stepped = record { writes = λ s e. rw (unfinished, text, z) (next s e ∙ rw (← g)); ends = λ h. rw z; holds = rw z (over-kept buffer) };
       within = most;
     }

@@ -10,7 +10,7 @@ use Rattle.session.specs.Session.{over, isOver, Kept, Asked, Told, Enter
 pub over-kept : (buffer : List ℕ) → Kept over (take 0 buffer)
 over-kept buffer = record { long = refl; fits = omega arith; due = refl }
 
-module _ (buffer : List ℕ) (st : State) (came : ℕ) (going : isOver (st .part) ≡ false) where
+module _ (buffer : List ℕ) (st : State) (came : ℕ) (unfinished : isOver (st .part) ≡ false) where
   abbrev kept : List ℕ
   kept = take (st .at) buffer
 
@@ -21,7 +21,7 @@ module _ (buffer : List ℕ) (st : State) (came : ℕ) (going : isOver (st .part
   pub refused : {c : ℕ} {r : Step} {out : List ℕ} → Refused c r out → ((s : List ℕ) → bytes ≡ take (st .want) s → frames (kept ++ s) ≡ refusal c) → Told buffer st came r out
   refused {c} f h = record {
     stepped = record {
-      writes = λ s e. rw (going, f .ends, f .line, h s e) (sym (append-nil (refusal c)));
+      writes = λ s e. rw (unfinished, f .ends, f .line, h s e) (sym (append-nil (refusal c)));
       ends = λ _. rw (f .ends);
       holds = rw (f .ends) (over-kept buffer);
     };
@@ -34,7 +34,7 @@ module _ (buffer : List ℕ) (st : State) (came : ℕ) (going : isOver (st .part
   pub kept-too : {r : Step} {out : List ℕ} → came ≡ st .want → Entered buffer (st .at + came) r out → Told buffer st came r out
   kept-too all f = record {
     stepped = record {
-      writes = λ s e. rw (going, more s e) (f .writes (drop (st .want) s));
+      writes = λ s e. rw (unfinished, more s e) (f .writes (drop (st .want) s));
       ends = λ h. absurd (omega arith);
       holds = f .holds;
     };

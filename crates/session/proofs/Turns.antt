@@ -21,7 +21,7 @@ asks Settings st b d e = omega (arith, d .1)
 asks Frame st b d e = omega (arith, d .want)
 asks Over st b d e = let z : _≡_ {A = ℕ} 0 1 = cc in absurd (omega arith)
 
-record Going (s : List ℕ) (n : ℕ) (st : State) (b rest out : List ℕ) : Type 0 where
+record AfterTurns (s : List ℕ) (n : ℕ) (st : State) (b rest out : List ℕ) : Type 0 where
   pub held : Kept st b
   pub all : out ++ toWrite st b rest ≡ frames s
   pub count : isOver (st .part) ≡ false → n + length rest ≤ length s
@@ -57,10 +57,10 @@ not-cut l w p z h = by (ltb l w) refl
     by false e = ltb-false l w e
 
 module _ (s : List ℕ) where
-  going : {n : ℕ} {st : State} {b rest out : List ℕ} → Turns s n st b rest out → Going s n st b rest out
-  going none = record { kept = start-kept; all = refl; count = λ _. omega arith }
-  going (turn {n} {st} {b} {rest} {out} t asked buffer kept e {after} {wrote} step) =
-      let g = going t in
+  after-turns : {n : ℕ} {st : State} {b rest out : List ℕ} → Turns s n st b rest out → AfterTurns s n st b rest out
+  after-turns none = record { kept = start-kept; all = refl; count = λ _. omega arith }
+  after-turns (turn {n} {st} {b} {rest} {out} t asked buffer kept e {after} {wrote} step) =
+      let g = after-turns t in
       let came = take (st .want) rest in
       let more = toWrite after (take (after .at) buffer) (drop (st .want) rest) in
       let whole : isOver (after .part) ≡ false → st .want ≤ length came = λ z. not-cut (length came) (st .want) (isOver (after .part)) z (step .ends) in
@@ -72,6 +72,6 @@ module _ (s : List ℕ) where
 
   pub program : Program s
   program = record {
-    writes = λ {n} {st} {b} {rest} {out} t w. (let g = going t in sym (append-nil out) ∙ rw (is-over st b (g .held) w) at (g .all));
-    ends = λ t w. (let g = going t in omega (arith, g .count (not-over _ _ (g .held) w)));
+    writes = λ {n} {st} {b} {rest} {out} t w. (let g = after-turns t in sym (append-nil out) ∙ rw (is-over st b (g .held) w) at (g .all));
+    ends = λ t w. (let g = after-turns t in omega (arith, g .count (not-over _ _ (g .held) w)));
   }

@@ -12,7 +12,7 @@ use Rattle.program.specs.Frames.{frameSize, twosComplement, costsOf, judgeWhole
 use Rattle.model.proofs.Accepted.{length-numbers}
 use Rattle.model.proofs.Causes.{only, clear, unless}
 use Rattle.records.proofs.Walk.{number-at}
-use Rattle.records.proofs.Walk.{refused}
+use Rattle.model.proofs.Causes.{refused}
 
 pub minus-one : (y : ℕ) → negsuc 0 -ℤ pos y ≡ negsuc y
 minus-one zero = refl

@@ -1,10 +1,9 @@
 -- The triples that the walk over the checks of an accepted code writes. Assumes nothing.
-use Rattle.integers.proofs.Prelude.{_≡_, sym, ap, _∙_, List, [], _++_, append-assoc, append-nil, ℕ, _+_, _-_, _*_, _≤_, _<_, arith, length, take, drop}
-use Rattle.integers.proofs.Prelude.{length-append, length-drop, drop-of-length-le, drop-drop, take-append-seam}
-use lib.Seq.{drop-append-seam}
+use Rattle.integers.proofs.Prelude.{_≡_, ap, _∙_, List, _++_, ℕ, _+_, _-_, _*_, _≤_, _<_, arith, length, take, drop}
 use Rattle.lists.specs.Tabulated.{written}
 use Rattle.lists.specs.Entries.{total}
 use Rattle.lists.proofs.Tabulated.{length-written}
+use Rattle.lists.proofs.Parts.{written-more}
 use Rattle.model.specs.Code.{turns, tripleCount, triples}
 use Rattle.model.specs.Records.{bitCount, checkCount, indices, afterCheck, checksIn, codeOf, judge}
 use Rattle.model.specs.Splitting.{triplesOf, triplesFrom}
@@ -12,14 +11,6 @@ use Rattle.model.proofs.Queue.{triples-last}
 use Rattle.model.proofs.TripleRule.{triples-long}
 use Rattle.records.proofs.Walk.{walk-checks, walk-total, total-within}
 use Rattle.triples.proofs.Auxiliaries.{body, Numbered, numbered-next, checks-so-far}
-
--- k behind l, written to what was left of the list, which then comes back
-written-more : (l k q old ts : List ℕ) → ts ≡ written l old → q ≡ written k (drop (length l) ts)
-    → take (length l) ts ++ (q ++ drop (length ts - length l) (drop (length l) ts)) ≡ written (l ++ k) old
-written-more l k q old ts e w =
-    let none : drop (length ts - length l) (drop (length l) ts) ≡ [] = drop-of-length-le (drop (length l) ts) {i = length ts - length l} (omega (arith, length-drop (length l) ts)) in
-    rw (none, append-nil q, w, e, take-append-seam l (drop (length l) old), drop-append-seam l (drop (length l) old), drop-drop (length k) (length l) old, length-append l k)
-    (sym (append-assoc l k (drop (length l + length k) old)))
 
 -- the triples of the first j checks
 abbrev pub members-to : List ℕ → ℕ → List ℕ
@@ -30,7 +21,7 @@ members-next b j rest next n =
     rw (walk-checks (body b) j rest (n .walk), n .auxiliary) (triples-last (checksIn j (body b)) (indices rest) (bitCount b))
 
 -- check j is next, at `rest`, and `next` is its first auxiliary; `done` entries are written
-pub record Going (b old : List ℕ) (j : ℕ) (ts rest : List ℕ) (next done : ℕ) : Type 0 where
+pub record SplitTo (b old : List ℕ) (j : ℕ) (ts rest : List ℕ) (next done : ℕ) : Type 0 where
   pub numbered : Numbered b j rest next
   pub entries : done ≡ 3 * total tripleCount (checksIn j (body b))
   pub filled : ts ≡ written (members-to b j) old
@@ -39,7 +30,7 @@ module _ (b : List ℕ) (judged : judge b ≡ 0) where
   pub length-members : (j : ℕ) → j ≤ checkCount b → length (members-to b j) ≡ 3 * total tripleCount (checksIn j (body b))
   length-members j h = triples-long (bitCount b) (checksIn j (body b)) (bitCount b) (checks-so-far b j judged h)
 
-  module _ (old : List ℕ) (fits : 3 * triples (codeOf b) ≤ length old) (j : ℕ) (ts rest : List ℕ) (next done : ℕ) (g : Going b old j ts rest next done) where
+  module _ (old : List ℕ) (fits : 3 * triples (codeOf b) ≤ length old) (j : ℕ) (ts rest : List ℕ) (next done : ℕ) (g : SplitTo b old j ts rest next done) where
     pub length-now : length ts ≡ length old
     unfolding codeOf
     length-now =
@@ -47,14 +38,14 @@ module _ (b : List ℕ) (judged : judge b ≡ 0) where
         ap length (g .filled) ∙ length-written (members-to b j) old (omega (arith, length-members j few, total-within tripleCount j (checkCount b) (body b) few))
 
     -- room for the triples of the check at hand
-    pub going-room : j < checkCount b → done + 3 * tripleCount (indices rest) ≤ length old
+    pub split-room : j < checkCount b → done + 3 * tripleCount (indices rest) ≤ length old
     unfolding codeOf
-    going-room h = omega (arith, g .entries, walk-total (body b) j rest (g .numbered .walk) tripleCount, total-within tripleCount (j + 1) (checkCount b) (body b) (omega arith))
+    split-room h = omega (arith, g .entries, walk-total (body b) j rest (g .numbered .walk) tripleCount, total-within tripleCount (j + 1) (checkCount b) (body b) (omega arith))
 
-    pub going-next : (k t : List ℕ) (next′ done′ : ℕ) → j < checkCount b → k ≡ written (triplesOf (indices rest) next) (drop done ts)
+    pub split-next : (k t : List ℕ) (next′ done′ : ℕ) → j < checkCount b → k ≡ written (triplesOf (indices rest) next) (drop done ts)
         → t ≡ afterCheck rest → next′ ≡ next + turns (indices rest) → done′ ≡ done + 3 * tripleCount (indices rest)
-        → Going b old (j + 1) (take done ts ++ (k ++ drop (length ts - done) (drop done ts))) t next′ done′
-    going-next k t next′ done′ h w e m n =
+        → SplitTo b old (j + 1) (take done ts ++ (k ++ drop (length ts - done) (drop done ts))) t next′ done′
+    split-next k t next′ done′ h w e m n =
         let l = members-to b j in
         let d : done ≡ length l = omega (arith, g .entries, length-members j (g .numbered .few)) in
         let more : members-to b (j + 1) ≡ l ++ triplesOf (indices rest) next = members-next b j rest next (g .numbered) in
@@ -64,5 +55,5 @@ module _ (b : List ℕ) (judged : judge b ≡ 0) where
           filled = rw (more, d) (written-more l (triplesOf (indices rest) next) k old ts (g .filled) (rw d at w));
         }
 
-    pub going-end : checkCount b ≤ j → ts ≡ written (members-to b (checkCount b)) old
-    going-end h = let e : checkCount b ≡ j = omega (arith, g .numbered .few) in rw e (g .filled)
+    pub split-end : checkCount b ≤ j → ts ≡ written (members-to b (checkCount b)) old
+    split-end h = let e : checkCount b ≡ j = omega (arith, g .numbered .few) in rw e (g .filled)

@@ -11,11 +11,11 @@ use Rattle.run.proofs.iterations.Statement.{statement}
 use Rattle.run.proofs.iterations.Tie as tie
 
 -- ---- the test of a loop that goes on while k is below n and nothing stopped it
-going : (k n settled : ℕ) → (ltb k n && eqb settled 0) ≡ true → (k < n) × (settled ≡ 0)
-going k n settled h = (ltb-true k n (and-left (ltb k n) (eqb settled 0) h), eqb-true settled 0 (and-right (ltb k n) (eqb settled 0) h))
+met : (k n settled : ℕ) → (ltb k n && eqb settled 0) ≡ true → (k < n) × (settled ≡ 0)
+met k n settled h = (ltb-true k n (and-left (ltb k n) (eqb settled 0) h), eqb-true settled 0 (and-right (ltb k n) (eqb settled 0) h))
 
-ended : (k n settled : ℕ) → (ltb k n && eqb settled 0) ≡ false → settled ≡ 0 → n ≤ k
-ended k n settled h e = ltb-false k n (and-false (ltb k n) (eqb settled 0) h (eq-eqb settled 0 e))
+unmet : (k n settled : ℕ) → (ltb k n && eqb settled 0) ≡ false → settled ≡ 0 → n ≤ k
+unmet k n settled h e = ltb-false k n (and-false (ltb k n) (eqb settled 0) h (eq-eqb settled 0 e))
 
 abbrev Inv-loop : tie.InvT-loop
 Inv-loop settings triples counts costs count limits inverses done sums₀ values₀ rows₀ k₀ settled₀ sums values rows k settled =
@@ -45,7 +45,7 @@ module _ (l : tie.At-loop Inv-loop μ-loop) where
   long = l .loop .inv .0 .values
 
 on : (c : tie.Then1 Inv-loop μ-loop) → let l = c .before .before in (l .loop .k < o l .limit) × (l .loop .settled ≡ 0)
-on c = let l = c .before .before in going (l .loop .k) (o l .limit) (l .loop .settled) (c .if1 .taken)
+on c = let l = c .before .before in met (l .loop .k) (o l .limit) (l .loop .settled) (c .if1 .taken)
 
 iterate-requires : tie.Need-iterate-requires Inv-loop μ-loop
 iterate-requires c κs =
@@ -77,7 +77,7 @@ returns c =
     let s = start l in
     let r = l .loop .inv in (
       remains-end (length (s .args .values .now)) (s .args .triples .now) (T l) (o l) (s .args .costs .now) (l .loop .settled)
-          (ended (l .loop .k) (o l .limit) (l .loop .settled) (c .if1 .left)) (r .0),
+          (unmet (l .loop .k) (o l .limit) (l .loop .settled) (c .if1 .left)) (r .0),
       (weaker (l .loop .k) (o l .limit) (r .0 .few) (straight-back (l .loop .k) (T l) (l .loop .rows) (r .1) (r .0 .within)), r .1),
     )
 

@@ -5,7 +5,7 @@ use Rattle.model.specs.Causes.{_if_}
 use Rattle.model.specs.Records.{indices, judgeCheck}
 use Rattle.program.specs.Frames.{judgeHeldCheck}
 use Rattle.model.proofs.Accepted.{record-sound}
-use Rattle.records.proofs.Walk.{refused}
+use Rattle.model.proofs.Causes.{refused}
 use Rattle.stream.proofs.judge_check.Statement.{statement}
 use Rattle.stream.proofs.judge_check.Tie as tie
 

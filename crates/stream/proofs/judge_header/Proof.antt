@@ -4,7 +4,7 @@ use Rattle.model.specs.Causes.{_if_}
 use Rattle.model.specs.Records.{bitCount, judgeHeader}
 use Rattle.program.specs.Frames.{judgeHeldHeader}
 use Rattle.model.proofs.Accepted.{header-sound}
-use Rattle.records.proofs.Walk.{refused}
+use Rattle.model.proofs.Causes.{refused}
 use Rattle.stream.proofs.judge_header.Statement.{statement}
 use Rattle.stream.proofs.judge_header.Tie as tie
 

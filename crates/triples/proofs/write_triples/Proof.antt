@@ -6,12 +6,12 @@ use Rattle.model.specs.Records.{checkCount, indices, checksIn, codeOf}
 use Rattle.model.specs.Splitting.{triplesFrom, systemOf}
 use Rattle.model.proofs.Accepted.{SoundHeader, bytes-sound}
 use Rattle.triples.proofs.Auxiliaries.{At, numbered-start, numbered-at}
-use Rattle.triples.proofs.Writing.{Going, length-now, going-room, going-next, going-end}
+use Rattle.triples.proofs.Writing.{SplitTo, length-now, split-room, split-next, split-end}
 use Rattle.triples.proofs.write_triples.Statement.{statement}
 use Rattle.triples.proofs.write_triples.Tie as tie
 
 abbrev Inv-loop : tie.InvT-loop
-Inv-loop code triples₀ checks rest₀ next₀ done₀ j₀ triples rest next done j = Going code triples₀ j triples rest next done
+Inv-loop code triples₀ checks rest₀ next₀ done₀ j₀ triples rest next done j = SplitTo code triples₀ j triples rest next done
 
 abbrev μ-loop : tie.MeasureT-loop
 μ-loop code triples₀ checks rest₀ next₀ done₀ j₀ triples rest next done j = checks - j
@@ -42,7 +42,7 @@ module _ (c : tie.In-loop Inv-loop μ-loop) where
 
   room : c .before .loop .done + 3 * tripleCount (indices (c .before .loop .rest .now)) ≤ length (s .args .triples .now)
   unfolding systemOf
-  room = going-room _ (s .pre .0) _ (s .pre .1) _ _ _ _ _ (c .before .loop .inv) more
+  room = split-room _ (s .pre .0) _ (s .pre .1) _ _ _ _ _ (c .before .loop .inv) more
 
 write-check-requires : tie.Need-write-check-requires Inv-loop μ-loop
 write-check-requires c κs =
@@ -73,14 +73,14 @@ loop-again c =
     let w = d .before .before .before in
     let t = w .before .before in
     let l = t .before .loop in
-    going-next _ (s t .pre .0) _ (s t .pre .1) _ _ _ _ _ (l .inv) _ _ _ _ (more t) (rw (part-from (l .done) (l .triples)) at (w .write-check .ensures))
+    split-next _ (s t .pre .0) _ (s t .pre .1) _ _ _ _ _ (l .inv) _ _ _ _ (more t) (rw (part-from (l .done) (l .triples)) at (w .write-check .ensures))
     (c .after-check .ensures) (omega (arith, n .turns .ensures .0)) (omega (arith, d .triple-count .ensures .0))
 
 returns : tie.Need-returns Inv-loop μ-loop
 unfolding systemOf codeOf
 returns c =
     let s = c .before .before .before .before .before .before .before in
-    going-end _ (s .pre .0) _ (s .pre .1) _ _ _ _ _ (c .before .loop .inv) (omega (arith, c .loop-test .left, c .before .before .before .before .two-bytes .ensures .0))
+    split-end _ (s .pre .0) _ (s .pre .1) _ _ _ _ _ (c .before .loop .inv) (omega (arith, c .loop-test .left, c .before .before .before .before .two-bytes .ensures .0))
 
 pub write-triples-spec : {M : Type 1} → statement M
 write-triples-spec =
