@@ -105,7 +105,7 @@ fn positive(x: i32) -> i32
     if x < 0 { 0 } else { x }
 }
 
-// "s becomes p + sum - U": row r.
+// "s becomes p + sum − U": row r.
 fn renewed_row(s: [i32; 4], sums: [i32; 4], r: usize) -> i32
     requires { ⌜ (r < 4) × (natAbs (at s r) ≤ mostRow) × (natAbs (at sums r) ≤ 3 * unit) ⌝ }
     ensures { λ z. ⌜ z ≡ renewed (at s r) (at sums r) ⌝ }

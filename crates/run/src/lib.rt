@@ -134,7 +134,7 @@ fn run_from(
     ending
 }
 
-// The run of the system that the lists hold, from the start: "each s is at first 0".
+// The run of the system that the lists hold, from the start, where each s is "at first 0".
 pub fn run(
     settings: Settings,
     triples: &[u16],
