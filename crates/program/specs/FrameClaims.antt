@@ -11,7 +11,8 @@ use Rattle.model.specs.declared.Settings.{Settings}
 use Rattle.model.specs.Code.{Code, triples}
 use Rattle.model.specs.Records.{bitCount, checkCount, afterChecks, codeOf, judge}
 use Rattle.model.specs.Calls.{Lists, HasRoom, decoderCause, decoder}
-use Rattle.program.specs.Frames.{heldBits, heldTriples, judgeHeldHeader, judgeHeldCheck, judgeHeldChecks, judgeSettings, costsOf, judgeFrame, refusal, line, frameLine}
+use Rattle.program.specs.Frames.{heldBits, heldTriples, judgeHeldHeader, judgeHeldCheck, judgeHeldChecks, judgeSettings, costsOf, judgeFrame}
+use Rattle.program.specs.Frames.{refusal, line, frameLine}
 
 -- ---- the bytes kept, which the input begins with
 
