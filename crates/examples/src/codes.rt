@@ -1,5 +1,4 @@
 // Code records too long to write out. Each function writes at `at` what there is room for, and hands back the place behind it.
-ghost use mathlib.Core.Path.{_≡_};
 ghost use Prim.Native.Nat.{_+_, _*_, _≤_};
 ghost use lib.ListN.{length};
 

@@ -1,6 +1,5 @@
 // Tables of examples. A line is one example; its fields stand between bars, and the first is its label. In a field of code records LH and LC
 // are the marks 0x4C48 and 0x4C43, LX is none. A field of numbers has one space between them.
-ghost use mathlib.Core.Path.{_≡_};
 ghost use Prim.Native.Nat.{_≤_, _<_};
 ghost use lib.ListN.{length};
 use crate::example;

@@ -1,7 +1,6 @@
 -- `examples::codes::check` meets its contract: the record has room. Assumes nothing.
 use mathlib.Core.Path.{_≡_}
 use Prim.Native.Nat.{_-_}
-use native.Mathlib.Omega.{arith}
 use borrow.Author.Needs.{needs}
 use lib.ListN.{length}
 use Rattle.examples.proofs.codes.check.Statement.{statement}
