@@ -15,6 +15,7 @@ ghost use Rattle.model.specs.Calls.{decodingTold};
 ghost use Rattle.model.specs.Told.{decodingKind};
 use model::Decoding;
 use model::Ending;
+use model::MOST_BITS;
 
 // "c above 0 is bit 1, below 0 is bit 0"
 fn bit(value: i16) -> u8
@@ -71,7 +72,7 @@ fn first_odd(code: &[u8], bits: usize, checks: usize, values: &[i16]) -> usize
     requires { ⌜ (bits ≤ mostBits) × (bits ≤ length (now values)) ⌝ }
     ensures { λ j. ⌜ j ≡ firstOdd (codeOf (now (code .entry))) (wordOf (codeOf (now (code .entry))) (now (values .entry))) ⌝ }
 {
-    let mut aside = [0u8; records::MOST_BITS];
+    let mut aside = [0u8; MOST_BITS];
     first_odd_in(code, bits, checks, values, &mut aside)
 }
 

@@ -6,6 +6,9 @@ ghost use Rattle.lists.specs.Tabulated.{written};
 ghost use Rattle.model.specs.Causes.{accepted};
 ghost use Rattle.model.specs.Records.{judge};
 ghost use Rattle.program.specs.Frames as Frames;
+use model::MOST_ITERATIONS;
+use model::MOST_RATIO;
+use model::MOST_WEIGHT;
 use model::Reading;
 use model::Settings;
 use program::HELD_BITS;
@@ -76,20 +79,20 @@ pub fn judge_settings(s: &[u8]) -> u32
         return 1;
     }
     let weight = records::two_bytes(s, 2);
-    if (weight < 1) | (65535 < weight) {
+    if (weight < 1) | ((MOST_WEIGHT as usize) < weight) {
         return 11;
     }
     if len < 6 {
         return 1;
     }
-    if 1023 < records::two_bytes(s, 4) {
+    if (MOST_RATIO as usize) < records::two_bytes(s, 4) {
         return 11;
     }
     if len < 8 {
         return 1;
     }
     let limit = records::two_bytes(s, 6);
-    if (limit < 1) | (1000 < limit) {
+    if (limit < 1) | ((MOST_ITERATIONS as usize) < limit) {
         return 11;
     }
     if len < 12 { 1 } else { 0 }

@@ -83,5 +83,5 @@ returns-10 c = rw (limit (c .before), le-ltb _ 12 (c .if9 .left))
 
 pub judge-settings-spec : {M : Type 1} → statement M
 judge-settings-spec =
-    tie.close (tie.spec returns (λ c κs. search needs) returns-2 returns-3 (λ c κs. search needs) returns-4 returns-5 (λ c κs. search needs) returns-6
-    returns-7 (λ c κs. search needs) returns-8 returns-9 returns-10)
+    tie.close (tie.spec returns (λ c κs. search needs) returns-2 returns-3 (λ c κs. search needs) (λ c. search needs) returns-4 returns-5
+    (λ c. search needs) (λ c κs. search needs) returns-6 returns-7 (λ c κs. search needs) (λ c. search needs) returns-8 returns-9 returns-10)

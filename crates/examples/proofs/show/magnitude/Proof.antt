@@ -57,5 +57,4 @@ returns-2 : tie.Need-returns-2
 returns-2 c = rw (x-is (c .before) .is) refl
 
 pub magnitude-spec : {M : Type 1} → statement M
-magnitude-spec =
-    tie.close (tie.spec add-result sub-result cast-result add-result-2 cast-result-2 returns returns-2)
+magnitude-spec = tie.close (tie.spec add-result sub-result cast-result add-result-2 cast-result-2 returns returns-2)

@@ -16,5 +16,5 @@ product l = mul-le-mul (l .before .before .pre .1) (l .loop .inv .1)
 pub natural-spec : {M : Type 1} → statement M
 natural-spec =
     tie.close (tie.spec Inv-loop μ-loop (λ c. omega arith) (λ c. omega arith) (λ c κs. tt) (λ c. omega arith) (λ c. omega arith)
-    (λ c. omega (arith, product (c .before .before .before .before))) (λ c. omega (arith, product (c .before .before .before .before)))
-    (λ c. omega arith) (λ c. omega arith) (λ c. omega arith) (λ c. omega arith))
+    (λ c. omega (arith, product (c .before .before .before .before))) (λ c. omega (arith, product (c .before .before .before .before))) (λ c. omega arith)
+    (λ c. omega arith) (λ c. omega arith) (λ c. omega arith))
