@@ -63,13 +63,13 @@ fn digit(byte: u8) -> usize {
         return 16;
     }
     if byte <= 57 {
-        return records::wide(byte - 48);
+        return slices::byte(byte - 48);
     }
     if byte < 97 {
         return 16;
     }
     if byte <= 102 {
-        return records::wide(byte - 87);
+        return slices::byte(byte - 87);
     }
     16
 }

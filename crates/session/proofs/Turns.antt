@@ -22,7 +22,7 @@ asks Frame st b d e = omega (arith, d .want)
 asks Over st b d e = let z : _≡_ {A = ℕ} 0 1 = cc in absurd (omega arith)
 
 record AfterTurns (s : List ℕ) (n : ℕ) (st : State) (b rest out : List ℕ) : Type 0 where
-  pub held : Kept st b
+  pub kept : Kept st b
   pub all : out ++ toWrite st b rest ≡ frames s
   pub count : isOver (st .part) ≡ false → n + length rest ≤ length s
 
@@ -65,13 +65,13 @@ module _ (s : List ℕ) where
       let more = toWrite after (take (after .at) buffer) (drop (st .want) rest) in
       let whole : isOver (after .part) ≡ false → st .want ≤ length came = λ z. not-cut (length came) (st .want) (isOver (after .part)) z (step .ends) in
       record {
-        held = step .holds;
+        kept = step .holds;
         all = append-assoc out wrote more ∙ ap (λ (l : List ℕ). out ++ l) (sym (step .writes rest e) ∙ ap (λ (k : List ℕ). toWrite st k rest) kept) ∙ g .all;
-        count = λ z. omega (arith, g .count (not-over st b (g .held) asked), whole z, length-take (st .want) rest, length-drop (st .want) rest);
+        count = λ z. omega (arith, g .count (not-over st b (g .kept) asked), whole z, length-take (st .want) rest, length-drop (st .want) rest);
       }
 
   pub program : Program s
   program = record {
-    writes = λ {n} {st} {b} {rest} {out} t w. (let g = after-turns t in sym (append-nil out) ∙ rw (is-over st b (g .held) w) at (g .all));
-    ends = λ t w. (let g = after-turns t in omega (arith, g .count (not-over _ _ (g .held) w)));
+    writes = λ {n} {st} {b} {rest} {out} t w. (let g = after-turns t in sym (append-nil out) ∙ rw (is-over st b (g .kept) w) at (g .all));
+    ends = λ t w. (let g = after-turns t in omega (arith, g .count (not-over _ _ (g .kept) w)));
   }
