@@ -6,6 +6,7 @@ ghost use lib.Dec.{ltb};
 ghost use lib.ListN.{length};
 ghost use Rattle.lists.specs.Tabulated.{written};
 ghost use Rattle.quotient.specs.Quotient.{quotient};
+ghost use Rattle.model.specs.Limits.{mostTriples};
 ghost use Rattle.model.specs.Causes.{_if_, firstOf};
 ghost use Rattle.model.specs.Code as Code;
 ghost use Rattle.model.specs.Records.{codeOf, judge};
@@ -36,7 +37,7 @@ struct Room {
 
 // 10: a lent list that is too short.
 fn no_room(bits: usize, total: usize, variables: usize, room: Room) -> bool
-    requires { ⌜ total ≤ 8192 ⌝ }
+    requires { ⌜ total ≤ mostTriples ⌝ }
     ensures { λ r. ⌜ r ≡ (ltb (room .triples) (3 * total) || (ltb (room .counts) variables || (ltb (room .sums) variables
         || (ltb (room .values) variables || (ltb (room .rows) (4 * total) || ltb (room .word) bits))))) ⌝ }
 {

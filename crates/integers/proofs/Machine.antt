@@ -59,8 +59,8 @@ pub unsigned : (w : Width) (n b : ℕ) → T (ltb b (2 ^ hbits w)) → n ≤ b �
 unsigned w n b t h = record { is = toZ-pos w (lt-of-le-of-lt h (ltb→lt b (2 ^ hbits w) t)); within = h }
 
 -- a number of which only the magnitude's bound is known
-pub held : (w : Width) (z : ℤ) (b : ℕ) → T (ltb b (2 ^ hbits w)) → natAbs z ≤ b → Worth (toZ w (ofZ w z)) z b
-held w z b t h = stored (record { is = refl; within = h }) w t
+pub param : (w : Width) (z : ℤ) (b : ℕ) → T (ltb b (2 ^ hbits w)) → natAbs z ≤ b → Worth (toZ w (ofZ w z)) z b
+param w z b t h = stored (record { is = refl; within = h }) w t
 
 pub literal : (z : ℤ) → Worth z z (natAbs z)
 literal z = record { is = refl; within = omega arith }

@@ -6,9 +6,9 @@ use lib.IntN.{ℤ, pos, natAbs}
 use lib.ListN.{length}
 use lib.Signed.{_≤ℤ_, _<ℤ_}
 use Rattle.lists.specs.Tabulated.{tab}
-use Rattle.quotient.specs.Quotient.{unit, quotient}
+use Rattle.quotient.specs.Quotient.{unit, mostDivisor, quotient}
 use Rattle.model.specs.declared.Settings.{Settings}
-use Rattle.model.specs.Limits.{mostChecks, mostTriples, mostWeight, mostRatio, mostCost, mostDone, mostDivisor}
+use Rattle.model.specs.Limits.{mostChecks, mostTriples, mostWeight, mostRatio, mostCost, mostDone, mostNumerator}
 use Rattle.model.specs.Code.{Code}
 use Rattle.model.specs.Splitting.{System, Named}
 use Rattle.model.specs.Iteration.{at, multiplier, slack, occurrences, numerator, divisor, State, iterate}
@@ -47,7 +47,7 @@ pub record Bounds (g : System) (o : Settings) (costs : List ℤ) (n : ℕ) (a : 
   pub divisor-least : (v : ℕ) → v < g .variables → pos 0 <ℤ divisor (4 * occurrences (g .members) (g .triples) v) (o .ratio)
   pub divisor-most : (v : ℕ) → v < g .variables → divisor (4 * occurrences (g .members) (g .triples) v) (o .ratio) ≤ℤ pos mostDivisor
   pub sums : (v : ℕ) → natAbs (at (iterate quotient g o costs a .sums) v) ≤ mostTriples * (32768 * (n + 2))
-  pub numerators : n ≤ mostDone → (v : ℕ) → natAbs (numerator (o .weight) (at (iterate quotient g o costs a .sums) v) (at costs v)) ≤ 2 ^ 48
+  pub numerators : n ≤ mostDone → (v : ℕ) → natAbs (numerator (o .weight) (at (iterate quotient g o costs a .sums) v) (at costs v)) ≤ mostNumerator
   pub values : (v : ℕ) → natAbs (at (iterate quotient g o costs a .values) v) ≤ unit
   pub rows : RowsWithin (suc n) (iterate quotient g o costs a .rows)
   pub multiplier-total : changes multiplier (g .triples) (a .rows) (iterate quotient g o costs a .rows) ≤ 2 ^ 47

@@ -49,12 +49,8 @@ abbrev pub mostSum : ℕ
 mostSum = 2 ^ 40
 
 abbrev pub mostNumerator : ℕ
-mostNumerator = 2 ^ 49
+mostNumerator = 2 ^ 48
 
 -- a cost that is not −32,768 is at most this large
 abbrev pub mostCost : ℕ
 mostCost = 32767
-
--- 256 × e − A of a variable in every check
-abbrev pub mostDivisor : ℕ
-mostDivisor = 1024 * mostChecks

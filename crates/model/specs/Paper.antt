@@ -11,7 +11,7 @@ use Rattle.integers.specs.Sum.{sumℤ}
 use Rattle.quotient.specs.Quotient.{unit, quotient}
 use Rattle.model.specs.declared.Settings.{Settings}
 use Rattle.model.specs.Splitting.{System, member}
-use Rattle.model.specs.Iteration.{at, sign, row, slack, multiplier, _when_, sumOf, occurrences, numerator, divisor, State, iterate}
+use Rattle.model.specs.Iteration.{at, valueAt, sign, row, slack, multiplier, _when_, sumOf, occurrences, numerator, divisor, State, iterate}
 
 -- b, the right sides of the rows: 0, 0, 0, 2 (equations 5 and 8c)
 abbrev pub right : ℕ → ℤ
@@ -40,7 +40,7 @@ module _ (g : System) (o : Settings) (costs : List ℤ) (a : State) where
   -- 2U times b − a v − y/mu, with the values c and the old multiplier: z before its projection (equation 17)
   unfoldable pub residual17 : List ℤ → ℕ → ℕ → ℤ
   residual17 c t r =
-      pos (2 * unit) *ℤ right r -ℤ sumℤ 3 (λ p. sign r p *ℤ (pos unit +ℤ at c (member (g .members) t p))) -ℤ pos (multiplier (row (a .rows) t r))
+      pos (2 * unit) *ℤ right r -ℤ sumℤ 3 (λ p. sign r p *ℤ (pos unit +ℤ valueAt c (member (g .members) t p))) -ℤ pos (multiplier (row (a .rows) t r))
 
   -- the numerator and the divisor of variable v in document 01, the new values, and row r of triple t afterwards
   abbrev pub num : ℕ → ℤ

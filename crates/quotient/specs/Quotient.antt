@@ -11,6 +11,14 @@ pub mod Laws
 abbrev pub unit : ℕ
 unit = 16384
 
+-- no divisor of a run is larger: 256 × e − A of a variable in 2,048 triples
+abbrev pub mostDivisor : ℕ
+mostDivisor = 1024 * 2048
+
+-- and none that is prepared: in 63 triples
+abbrev pub mostPrepared : ℕ
+mostPrepared = 1024 * 63
+
 -- of magnitudes: nearest, halves up, at most U
 limited : ℕ → ℕ → ℕ
 limited n d = min (nearest n d) unit

@@ -3,7 +3,7 @@ ghost use mathlib.Core.Path.{_≡_};
 ghost use Prim.Native.Nat.{_+_, _*_, _/_, _≤_, _^_, min};
 ghost use lib.IntN.{ℤ, pos, negℤ, natAbs, _-ℤ_, _*ℤ_};
 ghost use lib.Signed.{_≤ℤ_, _<ℤ_};
-ghost use Rattle.quotient.specs.Quotient.{unit, signed, quotient};
+ghost use Rattle.quotient.specs.Quotient.{unit, mostDivisor, mostPrepared, signed, quotient};
 ghost use Rattle.quotient.specs.Prepared.{Prepared};
 
 const UNIT: i64 = 16384;
@@ -16,7 +16,7 @@ const RAISE: i64 = 2305913377957871616;
 
 // x, limited to -limit..=limit.
 fn limited(x: i64, limit: i64) -> i64
-    requires { ⌜ (pos 0 ≤ℤ limit) × (natAbs limit ≤ unit * 2097152) ⌝ }
+    requires { ⌜ (pos 0 ≤ℤ limit) × (natAbs limit ≤ unit * mostDivisor) ⌝ }
     ensures { λ r. ⌜ r ≡ signed x (min (natAbs x) (natAbs limit)) ⌝ }
 {
     let high = if limit < x { limit } else { x };
@@ -28,7 +28,7 @@ fn limited(x: i64, limit: i64) -> i64
 
 // d with the sign of x.
 fn with_sign(d: i64, x: i64) -> i64
-    requires { ⌜ (pos 0 ≤ℤ d) × (natAbs d ≤ 2097152) ⌝ }
+    requires { ⌜ (pos 0 ≤ℤ d) × (natAbs d ≤ mostDivisor) ⌝ }
     ensures { λ r. ⌜ r ≡ signed x (natAbs d) ⌝ }
 {
     if x < 0 { -d } else { d }
@@ -36,7 +36,7 @@ fn with_sign(d: i64, x: i64) -> i64
 
 // x / den, rounded to the nearest whole number, halves away from zero: half of den is added with the sign of x, both doubled, and `/` cuts toward zero.
 fn rounded(x: i64, den: i64) -> i16
-    requires { ⌜ (pos 0 <ℤ den) × (den ≤ℤ pos 2097152) × (natAbs x ≤ unit * natAbs den) ⌝ }
+    requires { ⌜ (pos 0 <ℤ den) × (den ≤ℤ pos mostDivisor) × (natAbs x ≤ unit * natAbs den) ⌝ }
     ensures { λ r. ⌜ r ≡ quotient x den ⌝ }
 {
     ((2 * x + with_sign(den, x)) / (2 * den)) as i16
@@ -45,7 +45,7 @@ fn rounded(x: i64, den: i64) -> i16
 // num / den, rounded to the nearest whole number, halves away from zero, and limited to -16384..=16384.
 // The dividend is limited first: no branch depends on the data, and no quotient exceeds the limit.
 pub fn divide(num: i64, den: i64) -> i16
-    requires { ⌜ (pos 0 <ℤ den) × (den ≤ℤ pos 2097152) ⌝ }
+    requires { ⌜ (pos 0 <ℤ den) × (den ≤ℤ pos mostDivisor) ⌝ }
     ensures { λ r. ⌜ r ≡ quotient num den ⌝ }
 {
     rounded(limited(num, UNIT * den), den)
@@ -61,7 +61,7 @@ pub struct Divisor {
 
 // 16384 * den, and the next whole number above 2^47 / den.
 pub fn prepare(den: i64) -> Divisor
-    requires { ⌜ (pos 0 <ℤ den) × (den ≤ℤ pos 64512) ⌝ }
+    requires { ⌜ (pos 0 <ℤ den) × (den ≤ℤ pos mostPrepared) ⌝ }
     ensures { λ r. ⌜ Prepared den (r .limit) (r .inverse) ⌝ }
 {
     Divisor {

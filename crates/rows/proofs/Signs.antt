@@ -2,7 +2,7 @@
 use Rattle.integers.proofs.Prelude.{_≡_, ap, _∙_, true, false, ℕ, _<_, arith, ℤ, pos, negsuc, natAbs, ltZ, w32, toZ, ofZ}
 use native.Mathlib.Nat.{le-of-eq}
 use Rattle.integers.proofs.Linear.{readℤ, above-abs}
-use Rattle.integers.proofs.Machine.{held}
+use Rattle.integers.proofs.Machine.{param}
 use Rattle.model.specs.Iteration.{sign}
 use Rattle.model.proofs.Rows.{sign-one}
 
@@ -15,7 +15,7 @@ below (negsuc n) e t = ap negsuc (omega arith)
 
 module _ (r p : ℕ) (h : r < 4) (l : p < 3) where
   read : raw (sign r p) ≡ sign r p
-  read = held w32 (sign r p) 1 tt (le-of-eq (sign-one r p h l)) .is
+  read = param w32 (sign r p) 1 tt (le-of-eq (sign-one r p h l)) .is
 
   pub is-minus : ltZ (raw (sign r p)) (pos 0) ≡ true → sign r p ≡ negsuc 0
   is-minus t = below (sign r p) (sign-one r p h l) (rw read at t)

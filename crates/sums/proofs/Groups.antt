@@ -5,7 +5,7 @@ use mathlib.Core.Logic.{_⊎_, inl, inr, _≢_}
 use lib.Seq.{length-sets, getD-set-same, getD-set-other}
 use Rattle.integers.specs.Sum.{sumℤ}
 use Rattle.integers.proofs.Sums.{sumℤ-same}
-use Rattle.integers.proofs.Machine.{held}
+use Rattle.integers.proofs.Machine.{param}
 use Rattle.lists.specs.Tabulated.{tab}
 use Rattle.lists.proofs.Tabulated.{getD-tab, tab-same}
 use Rattle.model.specs.Limits.{mostDone, mostRow}
@@ -33,7 +33,7 @@ pub read-formed : (q x : List ℤ) (p : ℕ) → ((r : ℕ) → natAbs (at q r) 
 unfolding share
 read-formed q x p h l e =
     let is : at x p ≡ share q 0 p = ap (λ (k : List ℤ). at k p) e ∙ getD-tab 3 (share q 0) p (pos 0) l in
-    held w32 (at x p) (4 * mostRow) tt (rw is (share-small q 0 p l (λ r. h (4 * 0 + r)))) .is ∙ is
+    param w32 (at x p) (4 * mostRow) tt (rw is (share-small q 0 p l (λ r. h (4 * 0 + r)))) .is ∙ is
 
 module _ (T : ℕ) (s : List ℤ) where
   -- one of the first triples

@@ -6,7 +6,7 @@ use lib.IntN.{+ℤ-idr, +ℤ-assoc}
 use Rattle.integers.specs.Sum.{sumℤ}
 use Rattle.integers.proofs.Sums.{sumℕ-bound, sumℤ-bound}
 use Rattle.integers.proofs.Linear.{about, abs-add}
-use Rattle.integers.proofs.Machine.{held}
+use Rattle.integers.proofs.Machine.{param}
 use Rattle.lists.specs.Tabulated.{tab}
 use Rattle.lists.proofs.Tabulated.{length-tab, getD-tab, tab-same, tab-set}
 use Rattle.model.specs.Limits.{mostTriples, mostDone, mostRow}
@@ -35,7 +35,7 @@ share-small s t p l h =
 
 -- a share, as it is read
 pub read-share : (s : List ℤ) (t p : ℕ) (x : ℤ) → RowsWithin mostDone s → p < 3 → x ≡ share s t p → toZ w32 (ofZ w32 x) ≡ share s t p
-read-share s t p x w l e = held w32 x (4 * mostRow) tt (rw e (share-small s t p l (λ r. reached s w (4 * t + r)))) .is ∙ e
+read-share s t p x w l e = param w32 x (4 * mostRow) tt (rw e (share-small s t p l (λ r. reached s w (4 * t + r)))) .is ∙ e
 
 -- the three of triple t + i, read from a list of shares
 pub read-three : (s q : List ℤ) (t n i : ℕ) → RowsWithin mostDone s → Shared s t n q → i < n

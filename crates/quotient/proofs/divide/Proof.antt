@@ -1,7 +1,7 @@
 -- `quotient::divide` meets its contract: what is cut off changes no quotient. Assumes nothing.
 use Rattle.integers.proofs.Prelude.{_≡_, sym, ap, ap₂, _∙_, ℕ, _*_, _≤_, _<_, min, arith, ℤ, pos, natAbs, _*ℤ_, w16, w64, toZ, ofZ, toZ-ofZ}
 use Rattle.integers.proofs.Linear.{readℤ}
-use Rattle.integers.proofs.Machine.{Worth, held, literal, also, times, fits, stored, read-back}
+use Rattle.integers.proofs.Machine.{Worth, param, literal, also, times, fits, stored, read-back}
 use Rattle.quotient.specs.Quotient.{unit, quotient, signed}
 use Rattle.quotient.proofs.Magnitudes.{positive, abs-signed, quotient-limited}
 use Rattle.quotient.proofs.divide.Statement.{statement}
@@ -15,7 +15,7 @@ module _ (s : tie.Start) where
   d-is = positive (s .args .den) 2097152 (s .pre .0) (s .pre .1)
 
   limit-is : Worth (pos unit *ℤ toZ w64 (ofZ w64 (s .args .den))) (pos (unit * d)) (unit * 2097152)
-  limit-is = times (literal (pos unit)) (also (held w64 (s .args .den) 2097152 tt (d-is .1)) (d-is .2))
+  limit-is = times (literal (pos unit)) (also (param w64 (s .args .den) 2097152 tt (d-is .1)) (d-is .2))
 
 mul-limited : tie.Need-mul-limited
 mul-limited c = fits (limit-is c) w64 tt

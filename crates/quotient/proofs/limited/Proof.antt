@@ -3,7 +3,7 @@ use mathlib.Core.Logic.{inl, inr}
 use Rattle.integers.proofs.Prelude.{_≡_, ap, _∙_, _*_, min, arith, pos, natAbs, negℤ, _-ℤ_, w64, toZ, ofZ, toZ-ofZ}
 use Rattle.integers.specs.Parts.{up, dn}
 use Rattle.integers.proofs.Linear.{readℤ, ltZ-true, ltZ-false, about, about-neg}
-use Rattle.integers.proofs.Machine.{Worth, held, negative, fits, stored}
+use Rattle.integers.proofs.Machine.{Worth, param, negative, fits, stored}
 use Rattle.quotient.specs.Quotient.{unit}
 use Rattle.quotient.proofs.Magnitudes.{limited-is}
 use Rattle.quotient.proofs.limited.Statement.{statement}
@@ -13,7 +13,7 @@ x-is : (s : tie.Start) → toZ w64 (ofZ w64 (s .args .x)) ≡ s .args .x
 x-is s = toZ-ofZ (s .fits .x)
 
 limit-is : (s : tie.Start) → Worth (toZ w64 (ofZ w64 (s .args .limit))) (s .args .limit) (unit * 2097152)
-limit-is s = held w64 (s .args .limit) (unit * 2097152) tt (s .pre .1)
+limit-is s = param w64 (s .args .limit) (unit * 2097152) tt (s .pre .1)
 
 least-is : (s : tie.Start) → Worth (pos 0 -ℤ toZ w64 (ofZ w64 (s .args .limit))) (negℤ (s .args .limit)) (unit * 2097152)
 least-is s = negative (limit-is s)

@@ -2,7 +2,7 @@
 use Rattle.integers.proofs.Prelude.{_≡_, ap, ℕ, _+_, _*_, _/_, _^_, _≤_, _<_, arith, pos, natAbs, _+ℤ_, _*ℤ_, w64, toZ, ofZ}
 use native.Mathlib.Nat.{div-le-self}
 use lib.Signed.{quotZ}
-use Rattle.integers.proofs.Machine.{Worth, held, literal, also, plus, times, fits, stored}
+use Rattle.integers.proofs.Machine.{Worth, param, literal, also, plus, times, fits, stored}
 use Rattle.quotient.specs.Quotient.{unit}
 use Rattle.quotient.proofs.Magnitudes.{positive}
 use Rattle.quotient.proofs.Products.{inverseOf, prepared-at}
@@ -17,7 +17,7 @@ module _ (s : tie.Start) where
   d-is = positive (s .args .den) 64512 (s .pre .0) (s .pre .1)
 
   den-is : Worth (toZ w64 (ofZ w64 (s .args .den))) (pos d) 64512
-  den-is = also (held w64 (s .args .den) 64512 tt (d-is .1)) (d-is .2)
+  den-is = also (param w64 (s .args .den) 64512 tt (d-is .1)) (d-is .2)
 
   limit-is : Worth (pos unit *ℤ toZ w64 (ofZ w64 (s .args .den))) (pos (unit * d)) (unit * 64512)
   limit-is = times (literal (pos unit)) den-is

@@ -2,7 +2,7 @@
 use Rattle.integers.proofs.Prelude.{_≡_, sym, ap, ap₂, _∙_, ℕ, _+_, _*_, _≤_, _<_, arith, ℤ, pos, natAbs, _+ℤ_, _*ℤ_, w16, w64, toZ, ofZ}
 use lib.Signed.{quotZ}
 use Rattle.integers.proofs.Linear.{readℤ}
-use Rattle.integers.proofs.Machine.{Worth, held, literal, local, also, plus, times, fits, stored}
+use Rattle.integers.proofs.Machine.{Worth, param, literal, local, also, plus, times, fits, stored}
 use Rattle.quotient.specs.Quotient.{unit, quotient, signed}
 use Rattle.quotient.specs.Quotient.Laws.{quotient-range}
 use Rattle.quotient.proofs.Magnitudes.{positive, abs-signed, cut-quotient}
@@ -20,10 +20,10 @@ module _ (s : tie.Start) where
   d-is = positive (s .args .den) 2097152 (s .pre .0) (s .pre .1)
 
   den-is : Worth (toZ w64 (ofZ w64 (s .args .den))) (pos d) 2097152
-  den-is = also (held w64 (s .args .den) 2097152 tt (d-is .1)) (d-is .2)
+  den-is = also (param w64 (s .args .den) 2097152 tt (d-is .1)) (d-is .2)
 
   doubled : Worth (pos 2 *ℤ toZ w64 (ofZ w64 x)) (pos 2 *ℤ x) (2 * (unit * 2097152))
-  doubled = times (literal (pos 2)) (held w64 x (unit * 2097152) tt (omega (arith, s .pre .2, d-is .1)))
+  doubled = times (literal (pos 2)) (param w64 x (unit * 2097152) tt (omega (arith, s .pre .2, d-is .1)))
 
   divisor : Worth (pos 2 *ℤ toZ w64 (ofZ w64 (s .args .den))) (pos (2 * d)) (2 * 2097152)
   divisor = times (literal (pos 2)) den-is
@@ -34,7 +34,7 @@ module _ (c : tie.After-with-sign) where
 
   half : Worth (toZ w64 (ofZ w64 (c .with-sign .result))) (signed (x s) (d s)) 2097152
   half =
-      local w64 2097152 (c .with-sign .ok) (c .with-sign .ensures ∙ ap₂ (λ (y z : ℤ). signed y (natAbs z)) (held w64 (x s) (unit * 2097152) tt (omega (arith, s .pre .2, d-is s .1)) .is) (den-is s .is))
+      local w64 2097152 (c .with-sign .ok) (c .with-sign .ensures ∙ ap₂ (λ (y z : ℤ). signed y (natAbs z)) (param w64 (x s) (unit * 2097152) tt (omega (arith, s .pre .2, d-is s .1)) .is) (den-is s .is))
       (rw (abs-signed (x s) (d s)) (d-is s .1))
 
   dividend : Worth (toZ w64 (ofZ w64 (pos 2 *ℤ toZ w64 (ofZ w64 (x s)))) +ℤ toZ w64 (ofZ w64 (c .with-sign .result))) (pos 2 *ℤ x s +ℤ signed (x s) (d s)) (2 * (unit * 2097152) + 2097152)

@@ -1,6 +1,6 @@
 -- `rows::change_at` meets its contract. Assumes nothing.
 use Rattle.integers.proofs.Prelude.{ap₂, _∙_, needs, ℤ, _*ℤ_, w32}
-use Rattle.integers.proofs.Machine.{Worth, within-raw, fits, stored, held, times}
+use Rattle.integers.proofs.Machine.{Worth, within-raw, fits, stored, param, times}
 use Rattle.model.specs.Limits.{mostRow}
 use Rattle.model.specs.Iteration.{at, multiplier}
 use Rattle.model.specs.Run.{squareOfChange}
@@ -10,13 +10,13 @@ use Rattle.rows.proofs.change_at.Tie as tie
 
 module _ (s : tie.Start) where
   side : Worth (raw (s .args .side)) (s .args .side) 1
-  side = held w32 (s .args .side) 1 tt (s .pre .1)
+  side = param w32 (s .args .side) 1 tt (s .pre .1)
 
   old : Worth (raw (s .args .side) *ℤ raw (at (s .args .t1) (s .args .r))) (s .args .side *ℤ at (s .args .t1) (s .args .r)) mostRow
-  old = times side (held w32 (at (s .args .t1) (s .args .r)) mostRow tt (s .pre .2))
+  old = times side (param w32 (at (s .args .t1) (s .args .r)) mostRow tt (s .pre .2))
 
   new : Worth (raw (s .args .side) *ℤ raw (at (s .args .t2) (s .args .r))) (s .args .side *ℤ at (s .args .t2) (s .args .r)) mostRow
-  new = times side (held w32 (at (s .args .t2) (s .args .r)) mostRow tt (s .pre .3))
+  new = times side (param w32 (at (s .args .t2) (s .args .r)) mostRow tt (s .pre .3))
 
 change-requires : tie.Need-change-requires
 change-requires c κs = let s = c .before .before in (within-raw (stored (old s) w32 tt), within-raw (stored (new s) w32 tt))

@@ -2,7 +2,7 @@
 use Rattle.integers.proofs.Prelude.{_≡_, ap, _∙_, ℕ, _+_, _*_, _≤_, arith, ℤ, w32}
 use Rattle.integers.specs.Sum.{sumℕ}
 use Rattle.integers.proofs.Sums.{sumℕ-bound}
-use Rattle.integers.proofs.Machine.{Worth, within-raw, held}
+use Rattle.integers.proofs.Machine.{Worth, within-raw, param}
 use Rattle.model.specs.Limits.{mostRow}
 use Rattle.model.specs.Iteration.{at}
 use Rattle.rows.specs.Sides.{changeOf, mostChanges}
@@ -17,7 +17,7 @@ module _ (s : tie.Start) where
   of side r = changeOf side (at (s .args .old) r) (at (s .args .new) r)
 
   side : Worth (raw (s .args .side)) (s .args .side) 1
-  side = held w32 (s .args .side) 1 tt (s .pre .0)
+  side = param w32 (s .args .side) 1 tt (s .pre .0)
 
   is : (r n : ℕ) → n ≡ of (raw (s .args .side)) r → n ≡ of (s .args .side) r
   is r n e = e ∙ ap (λ (z : ℤ). of z r) (side .is)

@@ -1,7 +1,7 @@
 -- `rows::plus` meets its contract: a sign is 1 or -1. Assumes nothing.
 use Rattle.integers.proofs.Prelude.{_≡_, arith, needs, ℤ, pos, negsuc, _+ℤ_, _*ℤ_, w32}
 use Rattle.integers.proofs.Linear.{split, toℕ}
-use Rattle.integers.proofs.Machine.{held}
+use Rattle.integers.proofs.Machine.{param}
 use Rattle.quotient.specs.Quotient.{unit}
 use Rattle.model.specs.Iteration.{sign}
 use Rattle.rows.proofs.Signs.{is-minus, is-plus}
@@ -24,7 +24,7 @@ returns-2 : tie.Need-returns-2
 unfolding sign
 returns-2 c =
     let s = c .before .before in
-    rw (held w32 (s .args .x) unit tt (s .pre .2) .is, is-plus (s .args .r) (s .args .p) (s .pre .0) (s .pre .1) (c .if1 .left)) (twice (s .args .x))
+    rw (param w32 (s .args .x) unit tt (s .pre .2) .is, is-plus (s .args .r) (s .args .p) (s .pre .0) (s .pre .1) (c .if1 .left)) (twice (s .args .x))
 
 pub plus-spec : {M : Type 1} → statement M
 plus-spec =

@@ -1,6 +1,6 @@
 -- `rows::renewed_row` meets its contract. Assumes nothing.
 use Rattle.integers.proofs.Prelude.{_≡_, ap, _∙_, _*_, arith, needs, ℤ, pos, _+ℤ_, _-ℤ_, w32, toZ, ofZ}
-use Rattle.integers.proofs.Machine.{Worth, fits, stored, local, held, literal, plus, minus}
+use Rattle.integers.proofs.Machine.{Worth, fits, stored, local, param, literal, plus, minus}
 use Rattle.integers.proofs.Linear.{split, toℕ, about}
 use Rattle.model.specs.Limits.{mostRow}
 use Rattle.quotient.specs.Quotient.{unit}
@@ -17,12 +17,12 @@ sum s = at (s .args .t2) (s .args .r)
 multiplier-is : (c : tie.After-positive) → Worth (toZ w32 (ofZ w32 (c .positive .result))) (pos (multiplier (row (c .before .before)))) mostRow
 multiplier-is c =
     let s = c .before .before in
-    local w32 mostRow (c .positive .ok) (c .positive .ensures ∙ ap (λ (z : ℤ). pos (multiplier z)) (held w32 (row s) mostRow tt (s .pre .1) .is))
+    local w32 mostRow (c .positive .ok) (c .positive .ensures ∙ ap (λ (z : ℤ). pos (multiplier z)) (param w32 (row s) mostRow tt (s .pre .1) .is))
     (omega (arith, about (row s), s .pre .1))
 
 -- sum - U
 lowered : (s : tie.Start) → Worth (toZ w32 (ofZ w32 (sum s)) -ℤ pos unit) (sum s -ℤ pos unit) 65536
-lowered s = minus (held w32 (sum s) (3 * unit) tt (s .pre .2)) (literal (pos unit))
+lowered s = minus (param w32 (sum s) (3 * unit) tt (s .pre .2)) (literal (pos unit))
 
 -- p + (sum - U) is p + sum - U
 regrouped : (a b c : ℤ) → a +ℤ (b -ℤ c) ≡ a +ℤ b -ℤ c

@@ -3,7 +3,7 @@ use Rattle.integers.proofs.Prelude.{_≡_, refl, sym, ap, _∙_, ℕ, _*_, _^_,
 use lib.Signed.{mag}
 use mir.Val.{hbits}
 use Rattle.integers.proofs.Linear.{split, toℕ, abs-add, abs-mul}
-use Rattle.integers.proofs.Machine.{Worth, fits, stored, local, held, literal, plus, minus, times}
+use Rattle.integers.proofs.Machine.{Worth, fits, stored, local, param, literal, plus, minus, times}
 use Rattle.quotient.specs.Quotient.{unit}
 use Rattle.model.specs.Iteration.{sign, rowSum}
 use Rattle.model.proofs.Rows.{signed-abs}
@@ -15,7 +15,7 @@ raw z = toZ w32 (ofZ w32 z)
 
 -- what a call of `plus` gave
 half : (r p : ℕ) (x z : ℤ) → natAbs x ≤ unit → pos 2 *ℤ z ≡ sign r p *ℤ raw x +ℤ raw x → pos 2 *ℤ z ≡ sign r p *ℤ x +ℤ x
-half r p x z k e = e ∙ ap (λ (y : ℤ). sign r p *ℤ y +ℤ y) (held w32 x unit tt k .is)
+half r p x z k e = e ∙ ap (λ (y : ℤ). sign r p *ℤ y +ℤ y) (param w32 x unit tt k .is)
 
 given : (r p : ℕ) (x z : ℤ) → r < 4 → p < 3 → natAbs x ≤ unit → mag z < 2 ^ hbits w32 → pos 2 *ℤ z ≡ sign r p *ℤ raw x +ℤ raw x → Worth (raw z) z unit
 given r p x z h l k f e =
@@ -51,10 +51,10 @@ module _ (c : tie.After-plus3) where
   twice = times (literal (pos 2)) (stored those w32 tt)
 
   two : Worth (raw (s .args .a) +ℤ raw (s .args .b)) (s .args .a +ℤ s .args .b) 32768
-  two = plus (held w32 (s .args .a) unit tt (s .pre .1)) (held w32 (s .args .b) unit tt (s .pre .2))
+  two = plus (param w32 (s .args .a) unit tt (s .pre .1)) (param w32 (s .args .b) unit tt (s .pre .2))
 
   three : Worth (raw (raw (s .args .a) +ℤ raw (s .args .b)) +ℤ raw (s .args .c)) (s .args .a +ℤ s .args .b +ℤ s .args .c) (3 * unit)
-  three = plus (stored two w32 tt) (held w32 (s .args .c) unit tt (s .pre .3))
+  three = plus (stored two w32 tt) (param w32 (s .args .c) unit tt (s .pre .3))
 
   less : Worth (raw (pos 2 *ℤ raw (raw (raw u +ℤ raw v) +ℤ raw w)) -ℤ raw (raw (raw (s .args .a) +ℤ raw (s .args .b)) +ℤ raw (s .args .c)))
       (pos 2 *ℤ (u +ℤ v +ℤ w) -ℤ (s .args .a +ℤ s .args .b +ℤ s .args .c)) 147456

@@ -3,7 +3,7 @@ use Rattle.integers.proofs.Prelude.{_≡_, ap, _∙_, ℕ, _*_, _^_, _≤_, _<_
 use lib.Signed.{mag}
 use mir.Val.{hbits}
 use Rattle.integers.proofs.Linear.{split, toℕ}
-use Rattle.integers.proofs.Machine.{Worth, fits, stored, local, held, plus}
+use Rattle.integers.proofs.Machine.{Worth, fits, stored, local, param, plus}
 use Rattle.model.specs.Limits.{mostRow}
 use Rattle.model.specs.Iteration.{sign}
 use Rattle.model.proofs.Rows.{signed-abs}
@@ -14,7 +14,7 @@ use Rattle.rows.proofs.share.Tie as tie
 -- what a call of `signed` gave
 given : (s : tie.Start) (r : ℕ) (x z : ℤ) → r < 4 → natAbs x ≤ mostRow → mag z < 2 ^ hbits w32 → z ≡ sign r (s .args .p) *ℤ raw x → Worth (raw z) (sign r (s .args .p) *ℤ x) mostRow
 given s r x z h k f e =
-    local w32 mostRow f (e ∙ ap (λ (y : ℤ). sign r (s .args .p) *ℤ y) (held w32 x mostRow tt k .is)) (omega (arith, signed-abs r (s .args .p) x h (s .pre .0)))
+    local w32 mostRow f (e ∙ ap (λ (y : ℤ). sign r (s .args .p) *ℤ y) (param w32 x mostRow tt k .is)) (omega (arith, signed-abs r (s .args .p) x h (s .pre .0)))
 
 two : (c : tie.After-signed2) → let s = c .before .before in let p = s .args .p in
     Worth (raw (c .before .signed .result) +ℤ raw (c .signed2 .result)) (sign 3 p *ℤ s .args .d +ℤ sign 2 p *ℤ s .args .c) (2 * mostRow)

@@ -1,7 +1,7 @@
 -- `rows::signed` meets its contract: a sign is 1 or -1. Assumes nothing.
 use Rattle.integers.proofs.Prelude.{_≡_, _∙_, arith, needs, ℤ, pos, negsuc, negℤ, _-ℤ_, _*ℤ_, w32}
 use Rattle.integers.proofs.Linear.{split, toℕ}
-use Rattle.integers.proofs.Machine.{Worth, fits, stored, held, negative}
+use Rattle.integers.proofs.Machine.{Worth, fits, stored, param, negative}
 use Rattle.model.specs.Limits.{mostRow}
 use Rattle.model.specs.Iteration.{sign}
 use Rattle.rows.proofs.Signs.{raw, is-minus, is-plus}
@@ -9,7 +9,7 @@ use Rattle.rows.proofs.signed.Statement.{statement}
 use Rattle.rows.proofs.signed.Tie as tie
 
 x : (s : tie.Start) → Worth (raw (s .args .x)) (s .args .x) mostRow
-x s = held w32 (s .args .x) mostRow tt (s .pre .2)
+x s = param w32 (s .args .x) mostRow tt (s .pre .2)
 
 negated : (s : tie.Start) → Worth (pos 0 -ℤ raw (s .args .x)) (negℤ (s .args .x)) mostRow
 negated s = negative (x s)

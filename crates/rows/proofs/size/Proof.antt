@@ -1,6 +1,6 @@
 -- `rows::size` meets its contract: one of the two parts is 0. Assumes nothing.
 use Rattle.integers.proofs.Prelude.{_≡_, sym, ap, _∙_, _+_, arith, ℤ, pos, natAbs, negℤ, _-ℤ_, ltZ, w32, toZ, ofZ}
-use Rattle.integers.proofs.Machine.{Worth, fits, stored, held, negative}
+use Rattle.integers.proofs.Machine.{Worth, fits, stored, param, negative}
 use Rattle.integers.proofs.Linear.{about, below-abs, above-abs}
 use Rattle.model.specs.Limits.{mostRow}
 use Rattle.model.specs.Iteration.{slack, multiplier}
@@ -11,7 +11,7 @@ whole : (z : ℤ) → natAbs z ≡ slack z + multiplier z
 whole z = omega (arith, about z)
 
 row : (s : tie.Start) → Worth (toZ w32 (ofZ w32 (s .args .s))) (s .args .s) mostRow
-row s = held w32 (s .args .s) mostRow tt (s .pre)
+row s = param w32 (s .args .s) mostRow tt (s .pre)
 
 negated : (c : tie.Then1) → Worth (pos 0 -ℤ toZ w32 (ofZ w32 (c .before .args .s))) (negℤ (c .before .args .s)) mostRow
 negated c = negative (row (c .before))

@@ -1,6 +1,6 @@
 -- `rows::square` meets its contract. Assumes nothing.
 use Rattle.integers.proofs.Prelude.{ap, _*_, arith, pos, natAbs, _*ℤ_, w64, toZ, ofZ}
-use Rattle.integers.proofs.Machine.{Worth, fits, stored, held, also, times}
+use Rattle.integers.proofs.Machine.{Worth, fits, stored, param, also, times}
 use Rattle.integers.proofs.Linear.{square-abs}
 use Rattle.model.specs.Limits.{mostRow}
 use Rattle.rows.proofs.square.Statement.{statement}
@@ -8,7 +8,7 @@ use Rattle.rows.proofs.square.Tie as tie
 
 value : (s : tie.Start) → Worth (toZ w64 (ofZ w64 (s .args .x)) *ℤ toZ w64 (ofZ w64 (s .args .x))) (pos (natAbs (s .args .x) * natAbs (s .args .x))) (2 * mostRow * (2 * mostRow))
 value s =
-    let x = held w64 (s .args .x) (2 * mostRow) tt (s .pre) in
+    let x = param w64 (s .args .x) (2 * mostRow) tt (s .pre) in
     also (times x x) (square-abs (s .args .x))
 
 cast-result : tie.Need-cast-result

@@ -1,6 +1,6 @@
 -- `sums::add` meets its contract. Assumes nothing.
 use Rattle.integers.proofs.Prelude.{ap, _∙_, _+_, _^_, _<_, arith, needs, ℤ, pos, _+ℤ_, length, set, w32, w64, toZ, ofZ}
-use Rattle.integers.proofs.Machine.{Worth, fits, stored, held, plus}
+use Rattle.integers.proofs.Machine.{Worth, fits, stored, param, plus}
 use Rattle.lists.proofs.Tabulated.{length-tab, getD-tab}
 use Rattle.model.specs.Iteration.{at}
 use Rattle.slices.proofs.Wider.{read}
@@ -12,7 +12,7 @@ abbrev old : tie.Start → ℤ
 old s = at (s .args .sums .now) (s .args .v)
 
 sum : (s : tie.Start) → Worth (toZ w64 (ofZ w64 (old s)) +ℤ toZ w64 (ofZ w64 (toZ w32 (ofZ w32 (s .args .x))))) (old s +ℤ s .args .x) (2 ^ 60 + 2 ^ 31)
-sum s = plus (held w64 (old s) (2 ^ 60) tt (s .pre .1)) (stored (read w32 (s .fits .x)) w64 tt)
+sum s = plus (param w64 (old s) (2 ^ 60) tt (s .pre .1)) (stored (read w32 (s .fits .x)) w64 tt)
 
 returns : tie.Need-returns
 returns c n f e =

@@ -1,6 +1,6 @@
 -- `values::divide` meets its contract. Assumes nothing.
 use Rattle.integers.proofs.Prelude.{_≡_, ap, ap₂, _∙_, _-_, _*_, needs, ℤ, pos, negℤ, _-ℤ_, w16, w64, toZ, ofZ, toZ-ofZ}
-use Rattle.integers.proofs.Machine.{Worth, kept, fits, stored, read-back, held, negative}
+use Rattle.integers.proofs.Machine.{Worth, kept, fits, stored, read-back, param, negative}
 use Rattle.quotient.specs.Quotient.{quotient}
 use Rattle.quotient.specs.Prepared.{Prepared}
 use Rattle.model.specs.Limits.{mostChecks, mostNumerator}
@@ -32,8 +32,8 @@ returns c =
     read-back w16 (c .divide-opposite .ok) (c .divide-opposite .ensures den (prepared (c .before)) ∙ ap (λ (y : ℤ). quotient (negℤ y) den) (toZ-ofZ (s .fits .x)))
 
 -- ---- by `/`
-opposite : (s : tie.Start) → Worth (pos 0 -ℤ toZ w64 (ofZ w64 (s .args .x))) (negℤ (s .args .x)) mostNumerator
-opposite s = negative (held w64 (s .args .x) mostNumerator tt (s .pre .0 .0))
+opposite : (s : tie.Start) → Worth (pos 0 -ℤ toZ w64 (ofZ w64 (s .args .x))) (negℤ (s .args .x)) (2 * mostNumerator)
+opposite s = negative (param w64 (s .args .x) (2 * mostNumerator) tt (s .pre .0 .0))
 
 den-is : (c : tie.After-divisor) → let a = c .before .before .args in toZ w64 (ofZ w64 (c .divisor .result)) ≡ divisor (4 * a .count) (a .ratio)
 den-is c = read-back w64 (c .divisor .ok) (c .divisor .ensures)

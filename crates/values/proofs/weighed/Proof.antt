@@ -1,6 +1,6 @@
 -- `values::weighed` meets its contract. Assumes nothing.
 use Rattle.integers.proofs.Prelude.{ap, _+_, _*_, arith, needs, ℤ, pos, natAbs, _+ℤ_, _*ℤ_, w16, w64, toZ, ofZ}
-use Rattle.integers.proofs.Machine.{Worth, fits, stored, unsigned, held, literal, plus, times}
+use Rattle.integers.proofs.Machine.{Worth, fits, stored, unsigned, param, literal, plus, times}
 use Rattle.model.specs.Limits.{mostWeight, mostCost, mostSum}
 use Rattle.values.proofs.weighed.Statement.{statement}
 use Rattle.values.proofs.weighed.Tie as tie
@@ -13,10 +13,10 @@ module _ (s : tie.Start) where
   cost = toZ w16 (ofZ w16 (s .args .cost))
 
   scaled : Worth (pos 256 *ℤ sum) (pos 256 *ℤ s .args .sum) (256 * mostSum)
-  scaled = times (literal (pos 256)) (held w64 (s .args .sum) mostSum tt (s .pre .1))
+  scaled = times (literal (pos 256)) (param w64 (s .args .sum) mostSum tt (s .pre .1))
 
   cost-is : Worth cost (s .args .cost) mostCost
-  cost-is = held w16 (s .args .cost) mostCost tt (s .pre .2)
+  cost-is = param w16 (s .args .cost) mostCost tt (s .pre .2)
 
   weighted : Worth (toZ w64 (s .args .weight) *ℤ toZ w64 (ofZ w64 cost)) (pos (s .args .weight) *ℤ s .args .cost) (mostWeight * mostCost)
   weighted = times (unsigned w64 (s .args .weight) mostWeight tt (s .pre .0)) (stored cost-is w64 tt)

@@ -1,7 +1,7 @@
 -- `values::write_range` meets its contract: the values below v are written. Assumes nothing.
 use Rattle.integers.proofs.Prelude.{_≡_, ap, ap₂, _∙_, ℕ, _+_, _-_, _*_, _≤_, _<_, arith, needs, ℤ, pos, negℤ, _+ℤ_, _*ℤ_, length, sets, w16, w64, toZ, ofZ}
 use lib.Seq.{length-sets}
-use Rattle.integers.proofs.Machine.{kept, read-back, held}
+use Rattle.integers.proofs.Machine.{kept, read-back, param}
 use Rattle.lists.specs.Tabulated.{tab}
 use Rattle.quotient.specs.Quotient.{quotient}
 use Rattle.model.specs.Limits.{mostSum}
@@ -59,7 +59,7 @@ module _ (c : tie.After-cost-of Inv-loop μ-loop) where
   variable = below turn (c .before .before .loop-test .taken)
 
   sum-is : toZ w64 (ofZ w64 sum) ≡ sum
-  sum-is = held w64 sum mostSum tt (given turn .sum (turn .loop .v) variable) .is
+  sum-is = param w64 sum mostSum tt (given turn .sum (turn .loop .v) variable) .is
 
   cost-is : toZ w16 (ofZ w16 (c .cost-of .result)) ≡ cost
   cost-is = read-back w16 (c .cost-of .ok) (c .cost-of .ensures)
