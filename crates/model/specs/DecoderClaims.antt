@@ -75,7 +75,7 @@ pub record Course (g : System) (o : Settings) (costs : List ℤ) (more k : ℕ) 
   pub kinds : e .settled ≤ 1
 
 -- the lists of a state, written to lists that were l
-pub record Left (a : State) (l m : Lists) : Type 0 where
+pub record Leaves (a : State) (l m : Lists) : Type 0 where
   pub sums : m .sums ≡ written (a .sums) (l .sums)
   pub values : m .values ≡ written (a .values) (l .values)
   pub rows : m .rows ≡ written (a .rows) (l .rows)
@@ -86,7 +86,7 @@ pub record Iterated (b : List ℕ) (o : Settings) (costs : List ℤ) (l : Lists)
   pub range : (1 ≤ d .answer .k) × (d .answer .k ≤ o .limit)
   pub settled : d .answer .settled ≡ runOf b o costs .settled
   -- the lists have the k-th iterate
-  pub left : Left (iterateOf b o costs (d .answer .k)) l (d .lists)
+  pub left : Leaves (iterateOf b o costs (d .answer .k)) l (d .lists)
   -- "always from −U to U", and "s never leaves −65,536 .. 32,768 × K"
   pub centred : (v : ℕ) → v < variables (codeOf b) → natAbs (at (d .lists .values) v) ≤ unit
   pub multipliers : (i : ℕ) → i < 4 * triples (codeOf b) → multiplier (at (d .lists .rows) i) ≤ 32768 * o .limit

@@ -134,9 +134,13 @@ unfoldable pub checkRecords : List (List ℕ) → List ℕ
 checkRecords [] = []
 checkRecords (c ∷ cs) = recordOf c ++ checkRecords cs
 
--- "Header: mark 0x4C48, bits n (3 to 4,096), checks m (1 to 2,048), two bytes each.", "Then m check records"
+-- "Header: mark 0x4C48, bits n (3 to 4,096), checks m (1 to 2,048), two bytes each."
+abbrev pub headerOf : ℕ → ℕ → List ℕ
+headerOf n m = two 0x4C48 ++ (two n ++ two m)
+
+-- "Then m check records"
 unfoldable pub recordsOf : Code → List ℕ
-recordsOf k = 0x4C ∷ 0x48 ∷ (two (k .bits) ++ (two (length (k .checks)) ++ checkRecords (k .checks)))
+recordsOf k = headerOf (k .bits) (length (k .checks)) ++ checkRecords (k .checks)
 
 -- how many bytes they have
 abbrev pub recordSize : List ℕ → ℕ

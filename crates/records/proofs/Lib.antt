@@ -2,7 +2,7 @@
 --
 --   of the reader's answer: told-code, with the sizes of the code; told-refused                        Answers
 --   a loop over the checks keeps Walk: walk-start, walk-next; walk-check, walk-judged, walk-total      Walk
---   of what was written, a header and check after check: records-are, checks-next                                       Written
+--   check records written one behind the other: checks-next                                            Written
 --   what else an accepted code is: `accepted` and `bytes-sound` of the model
 --
 -- `Marks` is the reader's own.

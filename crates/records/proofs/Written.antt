@@ -1,9 +1,7 @@
 -- Records that are written: how long they are, and how the records of a code grow. Assumes nothing.
 use Rattle.integers.proofs.Prelude.{_≡_, refl, sym, List, [], _∷_, _++_, append-assoc, append-nil, ℕ, suc, _*_, _<_, arith, length, getD, take, take-suc}
-use Rattle.model.specs.Code.{Code}
-use Rattle.model.specs.Records.{two, bytesOf, recordOf, checkRecords, recordsOf}
+use Rattle.model.specs.Records.{two, bytesOf, recordOf, checkRecords}
 use Rattle.model.proofs.RecordClaims.{length-record}
-use Rattle.records.specs.Written.{headerOf}
 
 pub length-bytes : (c : List ℕ) → length (bytesOf c) ≡ 2 * length c
 unfolding recordOf
@@ -24,8 +22,3 @@ pub checks-next : (cs : List (List ℕ)) (c : List ℕ) → checkRecords (cs ++ 
 unfolding checkRecords
 checks-next [] c = append-nil (recordOf c)
 checks-next (d ∷ cs) c = rw (checks-next cs c) (sym (append-assoc (recordOf d) (checkRecords cs) (recordOf c)))
-
--- a header, and behind it the checks, are the records of a code
-pub records-are : (k : Code) → recordsOf k ≡ headerOf (k .bits) (length (k .checks)) ++ checkRecords (k .checks)
-unfolding recordsOf headerOf
-records-are k = refl

@@ -1,3 +1,2 @@
 pub mod Judged
 pub mod Marks
-pub mod Written

@@ -23,44 +23,44 @@ use Rattle.rows.proofs.Four.{rows-are, side-multiplier, side-slack}
 use Rattle.layout.specs.Transposed.{cell, Fours, lane, stored, place, straight, Aligned}
 use Rattle.layout.proofs.Arranged.{arranged-at, sum-arranged}
 use Rattle.layout.proofs.Places.{place-first, place-four, fours-are, cell-is, cells-are, transposed}
-use Rattle.renewal.specs.InPlace.{Small, tripleChanges, fourChanges, renewedFour, renewedIn, renewedAll, Left, renewedFrom, changesFrom, Renewed}
+use Rattle.renewal.specs.InPlace.{SmallRow, tripleChanges, fourChanges, renewedFour, renewedIn, renewedAll, Left, renewedFrom, changesFrom, Renewed}
 
 -- ---- how large
-pub small-abs : (z : ℤ) → Small z → natAbs z ≤ mostRow
+pub small-abs : (z : ℤ) → SmallRow z → natAbs z ≤ mostRow
 small-abs z h = omega (arith, about z, h .0, h .1)
 
 -- the rows of a triple and of four, before
-pub old-rows : (s : List ℤ) (t : ℕ) → ((i : ℕ) → 4 * t ≤ i → Small (at s i)) → Rows (tab 4 (λ r. row s t r))
+pub old-rows : (s : List ℤ) (t : ℕ) → ((i : ℕ) → 4 * t ≤ i → SmallRow (at s i)) → Rows (tab 4 (λ r. row s t r))
 old-rows s t small = rows-are (λ r. row s t r) (λ r _. small-abs (row s t r) (small (4 * t + r) (omega arith)))
 
-pub old-fours : (s : List ℤ) (t : ℕ) → ((i : ℕ) → 4 * t ≤ i → Small (at s i)) → Fours (tab 4 (lane s t))
+pub old-fours : (s : List ℤ) (t : ℕ) → ((i : ℕ) → 4 * t ≤ i → SmallRow (at s i)) → Fours (tab 4 (lane s t))
 old-fours s t small = fours-are (λ k r. row s (t + r) k) (λ k r _ _. small-abs (row s (t + r) k) (small (4 * (t + r) + k) (omega arith)))
 
 module _ (ts : List ℕ) (c : List ℤ) (unit-most : (v : ℕ) → natAbs (at c v) ≤ unit) where
   sum-small : (t r : ℕ) → r < 4 → natAbs (sumAt ts c t r) ≤ 3 * unit
   sum-small t r l = rowSum-bound r _ _ _ l (unit-most (member ts t 0)) (unit-most (member ts t 1)) (unit-most (member ts t 2))
 
-  new-abs : (z : ℤ) (t r : ℕ) → r < 4 → Small z → natAbs (renewed z (sumAt ts c t r)) ≤ mostRow
+  new-abs : (z : ℤ) (t r : ℕ) → r < 4 → SmallRow z → natAbs (renewed z (sumAt ts c t r)) ≤ mostRow
   new-abs z t r l h = let sum = sumAt ts c t r in let k = sum-small t r l in omega (arith, about (renewed z sum), renewed-multiplier z sum k, renewed-slack z sum k, h .0)
 
   -- the square of a change: by 65,536 at most, on both sides
-  multiplier-most : (z : ℤ) (t r : ℕ) → r < 4 → Small z → changeOf (pos 1) z (renewed z (sumAt ts c t r)) ≤ 4294967296
+  multiplier-most : (z : ℤ) (t r : ℕ) → r < 4 → SmallRow z → changeOf (pos 1) z (renewed z (sumAt ts c t r)) ≤ 4294967296
   multiplier-most z t r l h =
       let sum = sumAt ts c t r in
       let d = multiplier-change z sum (sum-small t r l) in
       rw (side-multiplier z, side-multiplier (renewed z sum)) (mul-le-mul d d)
 
-  slack-most : (z : ℤ) (t r : ℕ) → r < 4 → Small z → changeOf (negsuc 0) z (renewed z (sumAt ts c t r)) ≤ 4294967296
+  slack-most : (z : ℤ) (t r : ℕ) → r < 4 → SmallRow z → changeOf (negsuc 0) z (renewed z (sumAt ts c t r)) ≤ 4294967296
   slack-most z t r l h =
       let sum = sumAt ts c t r in
       let d = abs-difference (slack (renewed z sum)) (slack z) 65536 (omega (arith, renewed-slack z sum (sum-small t r l))) (omega (arith, h .1)) in
       rw (side-slack z, side-slack (renewed z sum)) (mul-le-mul d d)
 
   -- and after
-  pub new-rows : (s : List ℤ) (t : ℕ) → ((i : ℕ) → 4 * t ≤ i → Small (at s i)) → Rows (tab 4 (λ r. renewed (row s t r) (sumAt ts c t r)))
+  pub new-rows : (s : List ℤ) (t : ℕ) → ((i : ℕ) → 4 * t ≤ i → SmallRow (at s i)) → Rows (tab 4 (λ r. renewed (row s t r) (sumAt ts c t r)))
   new-rows s t small = rows-are (λ r. renewed (row s t r) (sumAt ts c t r)) (λ r l. new-abs (row s t r) t r l (small (4 * t + r) (omega arith)))
 
-  pub new-fours : (s : List ℤ) (t : ℕ) → ((i : ℕ) → 4 * t ≤ i → Small (at s i)) → Fours (renewedFour ts s c t)
+  pub new-fours : (s : List ℤ) (t : ℕ) → ((i : ℕ) → 4 * t ≤ i → SmallRow (at s i)) → Fours (renewedFour ts s c t)
   new-fours s t small =
       fours-are (λ k r. renewed (row s (t + r) k) (sumAt ts c (t + k) r)) (λ k r _ l. new-abs (row s (t + r) k) (t + k) r l (small (4 * (t + r) + k) (omega arith)))
 
@@ -197,7 +197,7 @@ module _ (T : ℕ) (ts : List ℕ) (c : List ℤ) where
 
   -- ---- how large the totals get
   module _ (few : T ≤ mostTriples) (unit-most : (v : ℕ) → natAbs (at c v) ≤ unit) where
-    most : (side : ℤ) → ((z : ℤ) (t r : ℕ) → r < 4 → Small z → changeOf side z (renewed z (sumAt ts c t r)) ≤ 4294967296) → (s : List ℤ) → Left T 0 s → changesFrom T ts c side 0 s ≤ 2 ^ 47
+    most : (side : ℤ) → ((z : ℤ) (t r : ℕ) → r < 4 → SmallRow z → changeOf side z (renewed z (sumAt ts c t r)) ≤ 4294967296) → (s : List ℤ) → Left T 0 s → changesFrom T ts c side 0 s ≤ 2 ^ 47
     most side one s left =
         omega (
           arith,

@@ -24,8 +24,8 @@ abbrev pub Valued : List ℕ → List ℤ → Type 0
 Valued ts c = Named ts (length c) × ((v : ℕ) → natAbs (at c v) ≤ unit)
 
 -- a row of fewer than 4,000 iterations
-abbrev pub Small : ℤ → Type 0
-Small z = (multiplier z ≤ 32768 * mostDone) × (slack z ≤ 65536)
+abbrev pub SmallRow : ℤ → Type 0
+SmallRow z = (multiplier z ≤ 32768 * mostDone) × (slack z ≤ 65536)
 
 -- ---- the squares of the changes of one side: of the rows of a triple, and of four
 abbrev pub tripleChanges : ℤ → List ℤ → List ℤ → ℕ
@@ -50,7 +50,7 @@ renewedAll T ts s c = tab (4 * T) (renewedAt ts (straight T s) c)
 -- a list of their rows of which the entries from triple t on are yet to be renewed
 pub record Left (T t : ℕ) (s : List ℤ) : Type 0 where
   pub long : length s ≡ 4 * T
-  pub small : (i : ℕ) → 4 * t ≤ i → Small (at s i)
+  pub small : (i : ℕ) → 4 * t ≤ i → SmallRow (at s i)
 
 module _ (T : ℕ) (ts : List ℕ) (c : List ℤ) where
   -- what the list will be when they are renewed

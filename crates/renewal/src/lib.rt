@@ -17,7 +17,7 @@ ghost use Rattle.model.specs.Run.{settledBy};
 ghost use Rattle.model.specs.Bounds.{RowsWithin};
 ghost use Rattle.rows.specs.Sides.{Rows, mostChanges};
 ghost use Rattle.layout.specs.Transposed.{cell, Fours, lane, stored, straight, Aligned};
-ghost use Rattle.renewal.specs.InPlace.{Sized, Valued, Small, tripleChanges, fourChanges, renewedFour, renewedAll, Left, renewedFrom, Renewed};
+ghost use Rattle.renewal.specs.InPlace.{Sized, Valued, SmallRow, tripleChanges, fourChanges, renewedFour, renewedAll, Left, renewedFrom, Renewed};
 
 // The value of the variable at position p of triple t.
 fn value_at(triples: &[u16], values: &[i16], t: usize, p: usize) -> i32
@@ -61,7 +61,7 @@ fn renewed_four(triples: &[u16], values: &[i16], t: usize, s: [[i32; 4]; 4]) -> 
 fn renew_four(triples: &[u16], values: &[i16], rows: &mut [i32], t: usize) -> [[[i32; 4]; 4]; 2]
     requires { ⌜ (t + 4 ≤ mostTriples) × (3 * t + 11 < length (now triples)) × (4 * t + 15 < length (now rows)) ⌝ }
     requires { ⌜ Valued (now triples) (now values) ⌝ }
-    requires { ⌜ ((i : ℕ) → 4 * t ≤ i → Small (at (now rows) i)) ⌝ }
+    requires { ⌜ ((i : ℕ) → 4 * t ≤ i → SmallRow (at (now rows) i)) ⌝ }
     ensures { λ l. ⌜ l ≡ tab 4 (lane (now (rows .entry)) t) ∷ renewedFour (now (triples .entry)) (now (rows .entry)) (now (values .entry)) t ∷ [] ⌝ }
     ensures { λ _. ⌜ now (rows .exit)
         ≡ stored (now (rows .entry)) t (renewedFour (now (triples .entry)) (now (rows .entry)) (now (values .entry)) t) ⌝ }

@@ -14,7 +14,7 @@ use Rattle.model.specs.Bounds.{RowsWithin}
 use Rattle.model.proofs.Rows.{at-tab}
 use Rattle.layout.specs.Transposed.{lane, straight}
 use Rattle.layout.proofs.Places.{straight-first, straight-four}
-use Rattle.sums.specs.Shares.{Shared, Fours}
+use Rattle.sums.specs.Shares.{Shared, InFours}
 use Rattle.sums.proofs.Sums.{reached, share-small}
 
 -- what `rows::shares` forms of four rows
@@ -44,7 +44,7 @@ module _ (T : ℕ) (s : List ℤ) where
       (λ r l. ap (λ (k : List ℤ). at k r) e ∙ getD-tab 4 (λ r. row s t r) r (pos 0) l ∙ sym (straight-first T s (4 * t + r) (omega arith))))
 
   -- triple k of the four from t on
-  pub lane-share : (t k p : ℕ) → Fours T t 4 → k < 4 → share (lane s t k) 0 p ≡ share (straight T s) (t + k) p
+  pub lane-share : (t k p : ℕ) → InFours T t 4 → k < 4 → share (lane s t k) 0 p ≡ share (straight T s) (t + k) p
   lane-share t k p f l =
       share-is (lane s t k) (straight T s) (t + k) p
       (λ r m. getD-tab 4 (λ r. row s (t + r) k) r (pos 0) m ∙ sym (straight-four T s t k r (f .first) (f .whole) (omega (arith, f .room)) l m))

@@ -20,7 +20,7 @@ abbrev pub Shared : List ℤ → ℕ → ℕ → List ℤ → Type 0
 Shared s t n q = (p i : ℕ) → p < 3 → i < n → at q (64 * p + i) ≡ share s (t + i) p
 
 -- the n triples from t on are fours of T triples
-pub record Fours (T t n : ℕ) : Type 0 where
+pub record InFours (T t n : ℕ) : Type 0 where
   pub first : T % 4 ≤ t
   pub whole : (T - t) % 4 ≡ 0
   pub room : t + n ≤ T

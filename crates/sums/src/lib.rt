@@ -12,7 +12,7 @@ ghost use Rattle.model.specs.Splitting.{Named};
 ghost use Rattle.model.specs.Iteration.{at, share, _when_, sumOf};
 ghost use Rattle.model.specs.Bounds.{RowsWithin};
 ghost use Rattle.layout.specs.Transposed.{straight};
-ghost use Rattle.sums.specs.Shares.{Summed, Shared, Fours};
+ghost use Rattle.sums.specs.Shares.{Summed, Shared, InFours};
 
 // The variable v is given x.
 fn add(sums: &mut [i64], v: usize, x: i32)
@@ -53,7 +53,7 @@ fn give_first(triples: &[u16], rows: &[i32], count: usize, sums: &mut [i64])
 fn share_four(rows: &[i32], t: usize, b: usize, shares: &mut [i32])
     requires { ⌜ (t + 4 * b + 4 ≤ mostTriples) × (4 * (t + 4 * b + 4) ≤ length (now rows)) × (RowsWithin mostDone (now rows)) ⌝ }
     requires { ⌜ (b < 16) × (length (now shares) ≡ 192) ⌝ }
-    ensures { λ _. ⌜ ((T : ℕ) → Fours T t (4 * (b + 1)) → Shared (straight T (now (rows .entry))) t (4 * b) (now (shares .entry))
+    ensures { λ _. ⌜ ((T : ℕ) → InFours T t (4 * (b + 1)) → Shared (straight T (now (rows .entry))) t (4 * b) (now (shares .entry))
         → Shared (straight T (now (rows .entry))) t (4 * (b + 1)) (now (shares .exit))) ⌝ }
 {
     let s = layout::load_four(rows, t + 4 * b);
@@ -70,7 +70,7 @@ fn share_four(rows: &[i32], t: usize, b: usize, shares: &mut [i32])
 fn share_group(rows: &[i32], t: usize, n: usize, shares: &mut [i32])
     requires { ⌜ (n ≤ 16) × (t + 4 * n ≤ mostTriples) × (4 * (t + 4 * n) ≤ length (now rows)) × (RowsWithin mostDone (now rows)) ⌝ }
     requires { ⌜ length (now shares) ≡ 192 ⌝ }
-    ensures { λ _. ⌜ ((T : ℕ) → Fours T t (4 * n) → Shared (straight T (now (rows .entry))) t (4 * n) (now (shares .exit))) ⌝ }
+    ensures { λ _. ⌜ ((T : ℕ) → InFours T t (4 * n) → Shared (straight T (now (rows .entry))) t (4 * n) (now (shares .exit))) ⌝ }
 {
     for b in 0..n {
         share_four(rows, t, b, shares);

@@ -1,12 +1,10 @@
 -- `records::write_header` meets its contract: the mark, the bits, the checks. Assumes nothing.
 use Rattle.integers.proofs.Prelude.{needs}
 use Rattle.text.proofs.Appended.{then}
-use Rattle.records.specs.Written.{headerOf}
 use Rattle.records.proofs.write_header.Statement.{statement}
 use Rattle.records.proofs.write_header.Tie as tie
 
 returns : tie.Need-returns
-unfolding headerOf
 returns c =
     let m = c .before .before in
     let n = m .before .before .before .before in

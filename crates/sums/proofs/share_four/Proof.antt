@@ -7,7 +7,7 @@ use Rattle.model.specs.Iteration.{at, share}
 use Rattle.model.proofs.Rows.{at-tab}
 use Rattle.rows.proofs.Four.{four-are}
 use Rattle.layout.specs.Transposed.{lane, straight}
-use Rattle.sums.specs.Shares.{Fours}
+use Rattle.sums.specs.Shares.{InFours}
 use Rattle.sums.proofs.Sums.{reached, share-small}
 use Rattle.sums.proofs.Groups.{formed, read-formed, lane-share, four-small, shared-next}
 use Rattle.sums.proofs.share_four.Statement.{statement}
@@ -94,7 +94,7 @@ store-requires-3 c κs =
     ((omega (arith, s .pre .1), omega (arith, s .pre .1, x .store .kept .0, y .store2 .kept .0)), stores (first (x .before)) 2 (omega arith))
 
 -- ---- each in its place
-shared : (s : tie.Start) (T : ℕ) → Fours T (s .args .t) (4 * (s .args .b + 1)) → (p k : ℕ) → k < 4
+shared : (s : tie.Start) (T : ℕ) → InFours T (s .args .t) (4 * (s .args .b + 1)) → (p k : ℕ) → k < 4
     → share (lane (rs s) (t s) k) 0 p ≡ share (straight T (rs s)) (s .args .t + (4 * s .args .b + k)) p
 shared s T f p k h =
     let e : t s + k ≡ s .args .t + (4 * s .args .b + k) = omega arith in

@@ -1,12 +1,12 @@
 -- `sums::share_group` meets its contract: after b fours the shares of 4b triples are in the list. Assumes nothing.
 use Rattle.integers.proofs.Prelude.{_≡_, sym, _∙_, ℕ, _-_, _*_, _≤_, arith, length}
 use Rattle.layout.specs.Transposed.{straight}
-use Rattle.sums.specs.Shares.{Shared, Fours}
+use Rattle.sums.specs.Shares.{Shared, InFours}
 use Rattle.sums.proofs.share_group.Statement.{statement}
 use Rattle.sums.proofs.share_group.Tie as tie
 
 abbrev Inv-loop : tie.InvT-loop
-Inv-loop rows t n shares₀ b₀ shares b = (b ≤ n) × (length shares ≡ 192) × ((T : ℕ) → Fours T t (4 * n) → Shared (straight T rows) t (4 * b) shares)
+Inv-loop rows t n shares₀ b₀ shares b = (b ≤ n) × (length shares ≡ 192) × ((T : ℕ) → InFours T t (4 * n) → Shared (straight T rows) t (4 * b) shares)
 
 abbrev μ-loop : tie.MeasureT-loop
 μ-loop rows t n shares₀ b₀ shares b = n - b
