@@ -112,7 +112,7 @@ fn decode_answer(decoding: Decoding) -> DecodeAnswer
 pub extern "C" fn widagbe_read(code: &[u8]) -> CodeAnswer
     ensures { λ r. ⌜ ReaderCall (now (code .entry)) (codeAnswer r) ⌝ }
 {
-    code_answer(records::read(code))
+    code_answer(reader::read(code))
 }
 
 #[no_mangle]

@@ -14,7 +14,7 @@ ghost use Rattle.model.specs.Points.{pointOf};
 ghost use Rattle.model.specs.Calls.{verdictTold};
 ghost use Rattle.model.specs.Told.{verdictKind};
 ghost use Rattle.model.specs.Promises.{TestCall, ExtensionCall};
-ghost use Rattle.records.specs.Judged.{Whole};
+ghost use Rattle.records.specs.Whole.{Whole};
 use model::Reading;
 use model::Verdict;
 
@@ -55,7 +55,7 @@ pub fn test(code: &[u8], word: &[u8]) -> Verdict
     ensures call { λ r. ⌜ TestCall (now (code .entry)) (now (word .entry)) (verdictTold r) ⌝ }
     ensures kind { λ r. ⌜ verdictKind r ⌝ }
 {
-    match records::read(code) {
+    match reader::read(code) {
         Reading::Refused(cause) => Verdict::Refused(cause),
         Reading::Code {
             bits,
@@ -132,7 +132,7 @@ pub fn extend(code: &[u8], word: &[u8], point: &mut [u8]) -> Verdict
         (record { outcome = verdictTold r; point = now (point .exit) }) ⌝ }
     ensures kind { λ r. ⌜ verdictKind r ⌝ }
 {
-    match records::read(code) {
+    match reader::read(code) {
         Reading::Refused(cause) => Verdict::Refused(cause),
         Reading::Code {
             bits,

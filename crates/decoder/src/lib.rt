@@ -165,7 +165,7 @@ pub fn decode(
         DecoderCall (now (code .entry)) settings (now (costs .entry)) before (record { answer = decodingTold d; lists = after })) ⌝ }
     ensures kind { λ d. ⌜ decodingKind d ⌝ }
 {
-    let reading = records::read(code);
+    let reading = reader::read(code);
     match reading {
         Reading::Refused(refused) => Decoding::Refused(refused),
         Reading::Code {

@@ -88,7 +88,7 @@ fn room(s: &[u8]) -> usize
 
 // The reader's number and, of an accepted code, n, m and the number of triples.
 fn reading(code: &[u8]) {
-    match records::read(code) {
+    match reader::read(code) {
         Reading::Refused(cause) => {
             number(cause as usize);
         }

@@ -1,17 +1,12 @@
-// The reader of code records (document 01, 'Code records').
+// Code records (document 01, 'Code records'): what a header and a check say, the judgement of each, and their writer.
 ghost use mathlib.Core.Path.{_≡_};
 ghost use Prim.Native.Nat.{_+_, _-_, _*_, _≤_, _<_};
 ghost use lib.ListN.{length, getD, drop};
 ghost use Rattle.model.specs.Causes.{outside};
-ghost use Rattle.model.specs.Limits.{mostBits, mostChecks};
 ghost use Rattle.model.specs.Code.{turns, tripleCount};
-ghost use Rattle.model.specs.Records.{twoBytes, degree, indices, afterCheck, checksIn, covered, judgeHeader, judgeIndices, judgeCheck, judgeChecks};
+ghost use Rattle.model.specs.Records.{twoBytes, degree, indices, afterCheck, judgeHeader, judgeIndices, judgeCheck};
 ghost use Rattle.model.specs.Records.{two, bytesOf, headerOf, recordOf, recordSize};
-ghost use Rattle.model.specs.Calls.{readingTold};
-ghost use Rattle.model.specs.Told.{readingKind};
-ghost use Rattle.model.specs.Promises.{ReaderCall};
-ghost use Rattle.records.specs.Judged.{Whole, Judged};
-ghost use Rattle.records.specs.Marks.{allMarked, Marks};
+ghost use Rattle.records.specs.Whole.{Whole};
 ghost use Rattle.text.specs.Appended.{Appended};
 use model::LEAST_DEGREE;
 use model::MOST_BITS;
@@ -154,117 +149,6 @@ pub fn judge_check(s: &[u8], bits: usize) -> u32
         return 4;
     }
     judge_indices(&s[3..], d, bits)
-}
-
-// What the judgement of check records finds: the first cause, or 0; how many triples they have, and how many bytes follow them.
-struct Judgement {
-    cause: u32,
-    triples: usize,
-    after: usize,
-}
-
-// The judgement of the check records that `s` begins with.
-fn judge_checks(s: &[u8], bits: usize, checks: usize) -> Judgement
-    requires { ⌜ checks ≤ mostChecks ⌝ }
-    ensures { λ r. ⌜ Judged bits checks (now (s .entry)) (r .cause) (r .triples) (r .after) ⌝ }
-{
-    let mut rest = s;
-    let mut triples = 0usize;
-    for j in 0..checks {
-        let cause = judge_check(rest, bits);
-        if cause != 0 {
-            return Judgement {
-                cause,
-                triples: 0,
-                after: 0,
-            };
-        }
-        triples += triple_count(rest);
-        let after = after_check(rest);
-        rest = after;
-    }
-    Judgement {
-        cause: 0,
-        triples,
-        after: rest.len(),
-    }
-}
-
-// A mark at each bit of the check record that `s` begins with.
-fn mark(s: &[u8], bits: usize, seen: &mut [u8; MOST_BITS])
-    requires { ⌜ bits ≤ mostBits ⌝ }
-    requires { ⌜ judgeCheck bits (now s) ≡ 0 ⌝ }
-    ensures { λ _. ⌜ Marks (indices (now (s .entry))) (now (seen .entry)) (now (seen .exit)) ⌝ }
-{
-    let d = degree(s);
-    for i in 0..d {
-        let b = index(s, i);
-        seen[b] = 1;
-    }
-}
-
-// Whether each of the first n entries has a mark.
-fn all_marked(seen: &[u8; MOST_BITS], n: usize) -> bool
-    requires { ⌜ n ≤ mostBits ⌝ }
-    ensures { λ r. ⌜ r ≡ allMarked (now (seen .entry)) n ⌝ }
-{
-    for b in 0..n {
-        if seen[b] == 0 {
-            return false;
-        }
-    }
-    true
-}
-
-// Whether each bit lies in some of the check records that `s` begins with.
-fn covers(s: &[u8], bits: usize, checks: usize) -> bool
-    requires { ⌜ bits ≤ mostBits ⌝ }
-    requires { ⌜ judgeChecks bits checks (now s) ≡ 0 ⌝ }
-    ensures { λ r. ⌜ r ≡ covered (record { bits = bits; checks = checksIn checks (now (s .entry)) }) ⌝ }
-{
-    let mut seen = [0u8; MOST_BITS];
-    let mut rest = s;
-    for j in 0..checks {
-        mark(rest, bits, &mut seen);
-        let after = after_check(rest);
-        rest = after;
-    }
-    all_marked(&seen, bits)
-}
-
-// The reader: n, m and the number of triples of a sound code, or the first cause.
-pub fn read(code: &[u8]) -> Reading
-    ensures call { λ r. ⌜ ReaderCall (now (code .entry)) (readingTold r) ⌝ }
-    ensures kind { λ r. ⌜ readingKind r ⌝ }
-{
-    let cause = judge_header(code);
-    if cause != 0 {
-        return Reading::Refused(cause);
-    }
-    let bits = two_bytes(code, 2);
-    let checks = two_bytes(code, 4);
-    let body = after_header(code);
-    let found = judge_checks(body, bits, checks);
-    let next = found.cause;
-    if next != 0 {
-        return Reading::Refused(next);
-    }
-    let after = found.after;
-    let triples = found.triples;
-    if 0 < after {
-        return Reading::Refused(9);
-    }
-    if MOST_TRIPLES < triples {
-        return Reading::Refused(7);
-    }
-    if !covers(body, bits, checks) {
-        return Reading::Refused(8);
-    }
-    Reading::Code {
-        bits,
-        checks,
-        triples,
-    }
 }
 
 // ---- the writer

@@ -51,7 +51,7 @@ pub fn judge_check(s: &[u8], bits: usize, triples: usize) -> u32
 pub fn judge_code(code: &[u8]) -> u32
     ensures { λ r. ⌜ r ≡ judge (now (code .entry)) ⌝ }
 {
-    let reading = records::read(code);
+    let reading = reader::read(code);
     match reading {
         Reading::Refused(cause) => cause,
         Reading::Code {

@@ -7,7 +7,7 @@ use Rattle.model.specs.Records.{bitCount, checkCount, indices, afterCheck, chec
 use Rattle.model.specs.Sound.{SoundCheck, SoundChecks}
 use Rattle.model.proofs.Accepted.{accepted, bytes-sound, record-sound, check-sound, checks-sound}
 use Rattle.model.proofs.Sound.{rising-more, variables-most}
-use Rattle.records.specs.Judged.{Whole}
+use Rattle.records.specs.Whole.{Whole}
 use Rattle.records.proofs.Walk.{Walk, walk-start, walk-next, walk-total, walk-judged, judge-within, total-within}
 
 -- the check records, and the first auxiliary of check j

@@ -11,7 +11,7 @@ ghost use Rattle.model.specs.Splitting.{triplesOf, systemOf, Named};
 ghost use Rattle.model.specs.TripleRule.{items};
 ghost use Rattle.model.specs.Iteration.{occurrences, countsOf};
 ghost use Rattle.model.specs.Promises.{SplitterCall};
-ghost use Rattle.records.specs.Judged.{Whole};
+ghost use Rattle.records.specs.Whole.{Whole};
 ghost use Rattle.triples.specs.Counting.{counted};
 use model::Reading;
 
@@ -131,7 +131,7 @@ pub fn split(code: &[u8], triples: &mut [u16], counts: &mut [u16]) -> u32
     ensures { λ r. ⌜ SplitterCall (now (code .entry)) (now (triples .entry)) (now (counts .entry))
         (record { number = r; triples = now (triples .exit); counts = now (counts .exit) }) ⌝ }
 {
-    let reading = records::read(code);
+    let reading = reader::read(code);
     match reading {
         Reading::Refused(cause) => cause,
         Reading::Code {

@@ -3,7 +3,7 @@ use Rattle.integers.proofs.Prelude.{_≡_, refl, sym, _∙_, _≤_, arith, need
 use Rattle.model.specs.declared.Verdict.{Verdict}
 use Rattle.model.specs.Code.{variables}
 use Rattle.model.specs.Records.{codeOf}
-use Rattle.records.proofs.Answers.{Read, told-code, told-refused}
+use Rattle.reader.proofs.Answers.{Read, told-code, told-refused}
 use Rattle.codeword.proofs.Verdicts.{word-cause, word-long, no-room, causes, by-code, by-word, by-rest, odd-told, even-told, extend-refused, extend-passed}
 use Rattle.codeword.proofs.extend.Statement.{statement}
 use Rattle.codeword.proofs.extend.Tie as tie

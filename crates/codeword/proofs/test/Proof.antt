@@ -1,7 +1,7 @@
 -- `codeword::test` meets its contract: the causes in their order, then the first odd check. Assumes nothing.
 use Rattle.integers.proofs.Prelude.{_≡_, sym, _∙_, [], arith, needs}
 use Rattle.model.specs.declared.Verdict.{Verdict}
-use Rattle.records.proofs.Answers.{Read, told-code, told-refused}
+use Rattle.reader.proofs.Answers.{Read, told-code, told-refused}
 use Rattle.codeword.proofs.Verdicts.{word-cause, word-long, causes, by-code, by-word, by-rest, odd-told, even-told, test-refused, test-passed}
 use Rattle.codeword.proofs.test.Statement.{statement}
 use Rattle.codeword.proofs.test.Tie as tie

@@ -6,7 +6,7 @@ use Rattle.model.specs.Causes.{_if_, firstOf, short}
 use Rattle.model.specs.Records.{codeOf}
 use Rattle.model.specs.Code.{Code, triples}
 use Rattle.model.proofs.Causes.{Clear, clear, unless, or-false}
-use Rattle.records.proofs.Answers.{Read, told-code, told-refused}
+use Rattle.reader.proofs.Answers.{Read, told-code, told-refused}
 use Rattle.decoder.proofs.Decoded.{after-judgement, unsound, refused, accepted-is}
 use Rattle.decoder.proofs.decode.Statement.{statement}
 use Rattle.decoder.proofs.decode.Tie as tie

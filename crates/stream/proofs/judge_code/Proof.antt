@@ -1,6 +1,6 @@
 -- `stream::judge_code` meets its contract: the reader's number. Assumes nothing.
 use Rattle.integers.proofs.Prelude.{sym, needs}
-use Rattle.records.proofs.Answers.{told-code, told-refused}
+use Rattle.reader.proofs.Answers.{told-code, told-refused}
 use Rattle.stream.proofs.judge_code.Statement.{statement}
 use Rattle.stream.proofs.judge_code.Tie as tie
 

@@ -9,7 +9,7 @@ use Rattle.model.specs.Iteration.{countsOf}
 use Rattle.model.specs.Calls.{Split, splitter}
 use Rattle.model.specs.Promises.{SplitterCall}
 use Rattle.model.proofs.Promises.{splitter-call}
-use Rattle.records.proofs.Answers.{Read, told-code, told-refused}
+use Rattle.reader.proofs.Answers.{Read, told-code, told-refused}
 use Rattle.triples.proofs.split.Statement.{statement}
 use Rattle.triples.proofs.split.Tie as tie
 

@@ -1,4 +1,4 @@
--- `records::covers` meets its contract: the bits of the checks so far are marked. Assumes nothing.
+-- `reader::covers` meets its contract: the bits of the checks so far are marked. Assumes nothing.
 use Rattle.integers.proofs.Prelude.{_≡_, refl, sym, _∙_, List, ℕ, _-_, _≤_, _<_, arith, needs, eqb, length}
 use lib.ListN.{getD-replicate}
 use Rattle.lists.specs.Entries.{some}
@@ -6,11 +6,11 @@ use Rattle.lists.proofs.Entries.{every-same}
 use Rattle.model.specs.Limits.{mostBits}
 use Rattle.model.specs.Records.{checksIn, judgeCheck, covered}
 use Rattle.model.proofs.Accepted.{record-sound}
-use Rattle.records.specs.Marks.{marked, allMarked}
+use Rattle.reader.specs.Marks.{marked, allMarked}
 use Rattle.records.proofs.Walk.{Walk, walk-start, walk-next, walk-checks, walk-judged}
-use Rattle.records.proofs.Marks.{some-last}
-use Rattle.records.proofs.covers.Statement.{statement}
-use Rattle.records.proofs.covers.Tie as tie
+use Rattle.reader.proofs.Marks.{some-last}
+use Rattle.reader.proofs.covers.Statement.{statement}
+use Rattle.reader.proofs.covers.Tie as tie
 
 abbrev Inv-loop : tie.InvT-loop
 Inv-loop s bits checks seen₀ rest₀ j₀ seen rest j =

@@ -1,14 +1,14 @@
--- `records::read` meets its contract: the causes in their order, and the answer of an accepted code. Assumes nothing.
+-- `reader::read` meets its contract: the causes in their order, and the answer of an accepted code. Assumes nothing.
 use Rattle.integers.proofs.Prelude.{_≡_, sym, _∙_, Bool, true, false, not, List, [], _∷_, ℕ, suc, _-_, arith, needs, lt-ltb, le-ltb, ltb, drop}
 use Rattle.model.specs.Limits.{mostTriples}
 use Rattle.model.specs.Causes.{_if_, firstOf}
 use Rattle.model.specs.RecordClaims.{Bytes}
 use Rattle.model.specs.Records.{bitCount, checkCount, codeOf, judgeHeader, judgeChecks, covered, judge}
 use Rattle.model.proofs.Accepted.{SoundHeader, header-sound}
-use Rattle.records.specs.Judged.{Judged}
-use Rattle.records.proofs.Answers.{refused-told, code-told}
-use Rattle.records.proofs.read.Statement.{statement}
-use Rattle.records.proofs.read.Tie as tie
+use Rattle.reader.specs.Judged.{Judged}
+use Rattle.reader.proofs.Answers.{refused-told, code-told}
+use Rattle.reader.proofs.read.Statement.{statement}
+use Rattle.reader.proofs.read.Tie as tie
 
 -- ---- the judgement in its order; c, t and a are what `judge_checks` found
 module _ (b : List ℕ) where

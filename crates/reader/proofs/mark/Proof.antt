@@ -1,14 +1,14 @@
--- `records::mark` meets its contract: the indices so far are marked. Assumes nothing.
+-- `reader::mark` meets its contract: the indices so far are marked. Assumes nothing.
 use Rattle.integers.proofs.Prelude.{_≡_, refl, sym, _∙_, _||_, ℕ, _-_, _<_, arith, add-one, needs, eqb, length, take, length-set, take-all, take-suc}
 use mathlib.Core.Bool.{or-assoc}
 use Rattle.lists.specs.Entries.{some}
 use Rattle.model.specs.Records.{indices}
 use Rattle.model.proofs.Accepted.{SoundRecord, record-sound}
 use Rattle.model.proofs.Sound.{rising-below}
-use Rattle.records.specs.Marks.{marked}
-use Rattle.records.proofs.Marks.{marked-set, some-last}
-use Rattle.records.proofs.mark.Statement.{statement}
-use Rattle.records.proofs.mark.Tie as tie
+use Rattle.reader.specs.Marks.{marked}
+use Rattle.reader.proofs.Marks.{marked-set, some-last}
+use Rattle.reader.proofs.mark.Statement.{statement}
+use Rattle.reader.proofs.mark.Tie as tie
 
 abbrev Inv-loop : tie.InvT-loop
 Inv-loop s bits seen₀ d i₀ seen i =

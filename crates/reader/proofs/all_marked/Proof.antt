@@ -1,12 +1,12 @@
--- `records::all_marked` meets its contract: what is left to test decides. Assumes nothing.
+-- `reader::all_marked` meets its contract: what is left to test decides. Assumes nothing.
 use Rattle.integers.proofs.Prelude.{_≡_, refl, sym, _∙_, Bool, true, false, List, ℕ, _-_, _<_, arith, add-one, needs, eq-eqb, ne-eqb, getD, drop}
 use Rattle.lists.specs.Tabulated.{tab}
 use Rattle.lists.specs.Entries.{every}
 use Rattle.lists.proofs.Tabulated.{length-tab, getD-tab}
 use Rattle.lists.proofs.Entries.{every-next, every-stop, every-end}
-use Rattle.records.specs.Marks.{marked, allMarked}
-use Rattle.records.proofs.all_marked.Statement.{statement}
-use Rattle.records.proofs.all_marked.Tie as tie
+use Rattle.reader.specs.Marks.{marked, allMarked}
+use Rattle.reader.proofs.all_marked.Statement.{statement}
+use Rattle.reader.proofs.all_marked.Tie as tie
 
 abbrev places : ℕ → List ℕ
 places n = tab n (λ b. b)

@@ -1,13 +1,13 @@
--- `records::judge_checks` meets its contract: the records so far are sound. Assumes nothing.
+-- `reader::judge_checks` meets its contract: the records so far are sound. Assumes nothing.
 use Rattle.integers.proofs.Prelude.{_≡_, refl, sym, ap, _∙_, _-_, _*_, _≤_, arith, needs, length}
 use Rattle.lists.specs.Entries.{total}
 use Rattle.model.specs.Code.{tripleCount}
 use Rattle.model.specs.Records.{checksIn, judgeCheck, judgeChecks}
 use Rattle.model.proofs.Accepted.{record-sound}
-use Rattle.records.specs.Judged.{Whole}
+use Rattle.records.specs.Whole.{Whole}
 use Rattle.records.proofs.Walk.{Walk, walk-start, walk-next, walk-total, walk-passed, walk-refused}
-use Rattle.records.proofs.judge_checks.Statement.{statement}
-use Rattle.records.proofs.judge_checks.Tie as tie
+use Rattle.reader.proofs.judge_checks.Statement.{statement}
+use Rattle.reader.proofs.judge_checks.Tie as tie
 
 abbrev Inv-loop : tie.InvT-loop
 Inv-loop s bits checks rest₀ triples₀ j₀ rest triples j =

@@ -1,15 +1,11 @@
--- A whole check record, and what the judgement of m check records finds. Definitions only.
+-- What the judgement of m check records finds. Definitions only.
 use mathlib.Core.Path.{_≡_}
 use mathlib.Core.List.{List}
-use Prim.Native.Nat.{ℕ, _+_, _*_, _≤_}
+use Prim.Native.Nat.{ℕ}
 use lib.ListN.{length}
 use Rattle.lists.specs.Entries.{total}
 use Rattle.model.specs.Code.{tripleCount}
-use Rattle.model.specs.Records.{degree, checksIn, afterChecks, judgeChecks}
-
--- s begins with a check record whose indices are all there
-abbrev pub Whole : List ℕ → Type 0
-Whole s = 3 + 2 * degree s ≤ length s
+use Rattle.model.specs.Records.{checksIn, afterChecks, judgeChecks}
 
 -- the first cause and, where there is none, the number of triples and of the bytes that follow
 pub record Judged (n m : ℕ) (s : List ℕ) (cause triples after : ℕ) : Type 0 where

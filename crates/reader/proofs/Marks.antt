@@ -2,7 +2,7 @@
 use Rattle.integers.proofs.Prelude.{_≡_, refl, Bool, true, false, _||_, List, [], _∷_, _++_, ℕ, _<_, eqb-true, eqb-false, eqb, length, set}
 use lib.Seq.{getD-set-same, getD-set-other}
 use Rattle.lists.specs.Entries.{some}
-use Rattle.records.specs.Marks.{marked}
+use Rattle.reader.specs.Marks.{marked}
 
 -- one mark more
 pub marked-set : (l : List ℕ) (x b : ℕ) → b < length l → marked (set l x 1) b ≡ (eqb b x || marked l b)
