@@ -33,6 +33,14 @@ pub struct DecodeAnswer {
     pub settled: u32,
 }
 
+/// What import and export hand back: how many bytes were written.
+#[repr(C)]
+#[derive(Clone, Copy, Debug, Default, PartialEq, Eq)]
+pub struct BytesAnswer {
+    pub number: u32,
+    pub bytes: usize,
+}
+
 /// The settings of a run: W, A, K and X of document 01.
 #[derive(Clone, Copy, Debug, Default, PartialEq, Eq)]
 pub struct Settings {
@@ -146,4 +154,16 @@ pub trait Library: Decoder {
 
     /// Extends a codeword to its point.
     fn extend(&self, code: &[u8], word: &[u8], point: &mut [u8]) -> WordAnswer;
+}
+
+/// Codes as alist text (document 02, L1).
+pub trait Alist {
+    /// Code records of an alist text.
+    fn import(&self, text: &[u8], code: &mut [u8]) -> BytesAnswer;
+
+    /// The alist text of code records.
+    fn export(&self, code: &[u8], text: &mut [u8]) -> BytesAnswer;
+
+    /// How many bytes that text has.
+    fn export_size(&self, code: &[u8]) -> BytesAnswer;
 }

@@ -1,6 +1,6 @@
 //! The C functions of the compiled library. A list is a pointer and a length.
 
-use interface::{CodeAnswer, DecodeAnswer, WordAnswer};
+use interface::{BytesAnswer, CodeAnswer, DecodeAnswer, WordAnswer};
 
 extern "C" {
     pub fn widagbe_read(code: *const u8, code_len: usize) -> CodeAnswer;
@@ -86,4 +86,20 @@ extern "C" {
         word: *mut u8,
         word_len: usize,
     ) -> DecodeAnswer;
+
+    pub fn widagbe_import(
+        text: *const u8,
+        text_len: usize,
+        code: *mut u8,
+        code_len: usize,
+    ) -> BytesAnswer;
+
+    pub fn widagbe_export(
+        code: *const u8,
+        code_len: usize,
+        text: *mut u8,
+        text_len: usize,
+    ) -> BytesAnswer;
+
+    pub fn widagbe_export_size(code: *const u8, code_len: usize) -> BytesAnswer;
 }

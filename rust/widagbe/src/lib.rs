@@ -77,3 +77,17 @@ impl Library for Widagbe {
         call! { widagbe_extend([code], [word], [mut point]) }
     }
 }
+
+impl Alist for Widagbe {
+    fn import(&self, text: &[u8], code: &mut [u8]) -> BytesAnswer {
+        call! { widagbe_import([text], [mut code]) }
+    }
+
+    fn export(&self, code: &[u8], text: &mut [u8]) -> BytesAnswer {
+        call! { widagbe_export([code], [mut text]) }
+    }
+
+    fn export_size(&self, code: &[u8]) -> BytesAnswer {
+        call! { widagbe_export_size([code]) }
+    }
+}
