@@ -17,6 +17,9 @@ pub mod Text
 -- statements about them
 pub mod Sound
 pub mod RecordClaims
+pub mod Alist
+pub mod AlistClaims
+pub mod AlistTexts
 pub mod TripleRule
 pub mod Bounds
 pub mod Claims
@@ -30,3 +33,4 @@ pub mod Told
 pub mod Order
 pub mod DecoderClaims
 pub mod Promises
+pub mod AlistPromises

@@ -1,4 +1,4 @@
--- The limits that document 01 sets and that a run's numbers keep, by name. Definitions only.
+-- The limits that documents 01 and 02 set and that a run's numbers keep, by name. Definitions only.
 use Prim.Native.Nat.{ℕ, _+_, _*_, _^_}
 
 -- ---- 'Code records'
@@ -23,6 +23,11 @@ leastDegree = 3
 
 abbrev pub mostDegree : ℕ
 mostDegree = 32
+
+-- ---- document 02, L1
+-- "Numbers are decimal digits, at most 65,535 in value"
+abbrev pub mostNumber : ℕ
+mostNumber = 65535
 
 -- ---- what the code of a run takes
 -- so many iterations may be done before one more

@@ -20,9 +20,9 @@ abbrev pub runCauses : Code → List ℤ → List ℕ
 runCauses k c = 16 if ltb (firstUndecided k c) (k .bits) ∷ oddCauses k (wordOf k c)
 
 -- ---- the order of the causes that are judged after all reading
--- "Then 9, 7, 8, 11, 12, 13, 14, 15, 10, then the run or, in test and extension, 17.", the run with 16 before 17
+-- "Then 9, 7, 8, 11, 12, 13, 14, 15, 10, then the run or, in test and extension, 17.", the run with 16 before 17; in front of them, of document 02, "18 first", then 19
 abbrev pub documentOrder : List ℕ
-documentOrder = 9 ∷ 7 ∷ 8 ∷ 11 ∷ 12 ∷ 13 ∷ 14 ∷ 15 ∷ 10 ∷ 16 ∷ 17 ∷ []
+documentOrder = 18 ∷ 19 ∷ 9 ∷ 7 ∷ 8 ∷ 11 ∷ 12 ∷ 13 ∷ 14 ∷ 15 ∷ 10 ∷ 16 ∷ 17 ∷ []
 
 -- the place of x in it
 abbrev pub rank : ℕ → ℕ

@@ -19,6 +19,8 @@ pub const MOST_RATIO: u32 = 1023;
 
 pub const MOST_ITERATIONS: u32 = 1000;
 
+pub const MOST_NUMBER: usize = 65535;
+
 // ---- what is handed over and told
 
 // The settings of a run: cost weight W, ratio A, iterations K and tolerance X of document 01.
@@ -71,4 +73,10 @@ pub enum Decoding {
     Undecided(usize, Ending),
     Odd(usize, Ending),
     Refused(u32),
+}
+
+// The answer of import and export: how many bytes were written, 0 when refused.
+pub struct Written {
+    pub number: u32,
+    pub bytes: usize,
 }
