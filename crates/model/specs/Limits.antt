@@ -17,6 +17,10 @@ mostTriples = 8192
 abbrev pub mostVariables : ℕ
 mostVariables = mostBits + mostTriples
 
+-- nor do its checks have more bits together: a check has at most two more than triples
+abbrev pub mostPlaces : ℕ
+mostPlaces = mostTriples + 2 * mostChecks
+
 -- "a one-byte degree d (3 to 32)"
 abbrev pub leastDegree : ℕ
 leastDegree = 3

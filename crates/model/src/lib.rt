@@ -13,6 +13,8 @@ pub const MOST_DEGREE: usize = 32;
 
 pub const MOST_TRIPLES: usize = 8192;
 
+pub const MOST_PLACES: usize = 12288;
+
 pub const MOST_WEIGHT: u32 = 65535;
 
 pub const MOST_RATIO: u32 = 1023;

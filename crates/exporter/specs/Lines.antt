@@ -1,0 +1,34 @@
+-- A side of an alist file as its degrees and the indices of all its lists, one behind the other. Definitions only.
+use mathlib.Core.Path.{_≡_}
+use mathlib.Core.List.{List, [], _∷_, _++_, map}
+use Prim.Native.Nat.{ℕ, _≤_}
+use lib.ListN.{length, take, drop}
+use Rattle.lists.specs.Entries.{total}
+use Rattle.model.specs.Limits.{mostBits, mostTriples}
+use Rattle.model.specs.Code.{tripleCount}
+use Rattle.model.specs.Records.{checksIn, judgeChecks}
+use Rattle.model.specs.Sound.{Sound}
+use Rattle.model.specs.Alist.{largest, fill, lineOf, textOf}
+
+-- the lists, by their degrees
+abbrev pub cut : List ℕ → List ℕ → List (List ℕ)
+cut [] entries = []
+cut (d ∷ degrees) entries = take d entries ∷ cut degrees (drop d entries)
+
+-- the lists of a side of an accepted code: no more entries than degrees say, and none of them empty
+pub record Side (degrees entries : List ℕ) : Type 0 where
+  pub long : length entries ≡ total (λ d. d) degrees
+  pub some : 1 ≤ largest degrees
+  pub few : length degrees ≤ mostBits
+
+-- the lines of the lists, each filled to so many numbers
+abbrev pub listsText : ℕ → List ℕ → List ℕ → List ℕ
+listsText most degrees entries = textOf (map (fill most) (cut degrees entries))
+
+-- the line of the degrees and those of the lists
+abbrev pub sideText : List ℕ → List ℕ → List ℕ
+sideText degrees entries = lineOf degrees ++ listsText (largest degrees) degrees entries
+
+-- check records of an accepted code
+abbrev pub SoundChecksOf : ℕ → ℕ → List ℕ → Type 0
+SoundChecksOf bits checks s = (judgeChecks bits checks s ≡ 0) × Sound (record { bits = bits; checks = checksIn checks s })
