@@ -1,0 +1,230 @@
+// Cause 19 of an alist text (document 02, L1): whether columns and rows name the same places, each equally often. No list is kept: a window of rows by columns has a
+// counter for each of its places; the rows count up, the columns count down, and the window agrees where no counter would fall below 0 and all end at 0.
+use alist::Form;
+use alist::Side;
+
+// So many counters a window can have.
+const COUNTERS: usize = 131072;
+
+// Rows `top` .. and columns `left` .., from 0.
+struct Window {
+    top: usize,
+    height: usize,
+    left: usize,
+    width: usize,
+}
+
+// Whether all went well, how many entries are counted up and not yet down, and where the text goes on.
+struct Walk {
+    fine: bool,
+    open: usize,
+    end: usize,
+}
+
+// Counts the indices of one row, `most` numbers from `at` on, in the columns left + 1 .. left + width; a counter for each of these columns.
+fn row_up(text: &[u8], at: usize, most: usize, left: usize, counters: &mut [u16]) -> Walk {
+    let width = counters.len();
+    let mut open = 0usize;
+    let mut end = at;
+    for i in 0..most {
+        let x = numbers::next(text, end);
+        let value = x.value;
+        end = x.end;
+        if left < value && value <= left + width {
+            counters[value - left - 1] += 1;
+            open += 1;
+        }
+    }
+    Walk {
+        fine: true,
+        open,
+        end,
+    }
+}
+
+// Counts the rows of a window up.
+fn rows_up(text: &[u8], at: usize, most: usize, window: Window, counters: &mut [u16]) -> Walk {
+    let height = window.height;
+    let width = window.width;
+    let left = window.left;
+    let mut open = 0usize;
+    let mut end = at;
+    for r in 0..height {
+        let first = r * width;
+        let next = first + width;
+        let row = row_up(text, end, most, left, &mut counters[first..next]);
+        open += row.open;
+        end = row.end;
+    }
+    Walk {
+        fine: true,
+        open,
+        end,
+    }
+}
+
+// Counts one column down, the `column`-th of the window.
+fn column_down(
+    text: &[u8],
+    at: usize,
+    most: usize,
+    window: Window,
+    column: usize,
+    open: usize,
+    counters: &mut [u16],
+) -> Walk {
+    let top = window.top;
+    let height = window.height;
+    let width = window.width;
+    let mut left = open;
+    let mut end = at;
+    for i in 0..most {
+        let x = numbers::next(text, end);
+        let value = x.value;
+        end = x.end;
+        if top < value && value <= top + height {
+            let place = (value - top - 1) * width + column;
+            if counters[place] == 0 {
+                return Walk {
+                    fine: false,
+                    open: left,
+                    end,
+                };
+            }
+            counters[place] -= 1;
+            left -= 1;
+        }
+    }
+    Walk {
+        fine: true,
+        open: left,
+        end,
+    }
+}
+
+// Counts the columns of a window down.
+fn columns_down(
+    text: &[u8],
+    at: usize,
+    most: usize,
+    window: Window,
+    open: usize,
+    counters: &mut [u16],
+) -> Walk {
+    let width = window.width;
+    let mut left = open;
+    let mut end = at;
+    for c in 0..width {
+        let column = column_down(text, end, most, window, c, left, counters);
+        left = column.open;
+        end = column.end;
+        if !column.fine {
+            return Walk {
+                fine: false,
+                open: left,
+                end,
+            };
+        }
+    }
+    Walk {
+        fine: left == 0,
+        open: left,
+        end,
+    }
+}
+
+fn least(x: usize, y: usize) -> usize {
+    if x < y { x } else { y }
+}
+
+// Whether columns and rows agree in the rows top .. top + height - 1, window by window.
+fn band(
+    text: &[u8],
+    rows_at: usize,
+    row_most: usize,
+    columns: Side,
+    top: usize,
+    height: usize,
+    wide: usize,
+    counters: &mut [u16],
+) -> bool {
+    let count = columns.count;
+    let column_most = columns.most;
+    let mut columns_at = columns.lists;
+    let mut left = 0usize;
+    while left < count {
+        let width = least(wide, count - left);
+        let window = Window {
+            top,
+            height,
+            left,
+            width,
+        };
+        let size = height * width;
+        let up = rows_up(text, rows_at, row_most, window, &mut counters[..size]);
+        let down = columns_down(
+            text,
+            columns_at,
+            column_most,
+            window,
+            up.open,
+            &mut counters[..size],
+        );
+        if !down.fine {
+            return false;
+        }
+        columns_at = down.end;
+        left += width;
+    }
+    true
+}
+
+// How wide a window is best: rows are walked once for each window beside the first, columns once for each band of rows.
+fn window_width(columns: Side, rows: Side, row_bytes: usize, column_bytes: usize) -> usize {
+    let n = columns.count;
+    let m = rows.count;
+    let mut width = 1usize;
+    while width < COUNTERS && (column_bytes * m) / (COUNTERS / width) < (row_bytes * n) / width {
+        width *= 2;
+    }
+    width
+}
+
+// Whether columns and rows agree in all windows.
+fn windows_agree(text: &[u8], columns: Side, rows: Side, wide: usize) -> bool {
+    let mut counters = [0u16; COUNTERS];
+    let high = COUNTERS / wide;
+    let count = rows.count;
+    let most = rows.most;
+    let mut at = rows.lists;
+    let mut top = 0usize;
+    while top < count {
+        let height = least(high, count - top);
+        if !band(text, at, most, columns, top, height, wide, &mut counters) {
+            return false;
+        }
+        let passed = numbers::largest(text, at, height * most);
+        at = passed.end;
+        top += height;
+    }
+    true
+}
+
+// Whether columns and rows name the same places, each equally often.
+pub fn agree(text: &[u8], form: Form) -> bool {
+    let columns = form.columns;
+    let rows = form.rows;
+    let in_columns = numbers::largest(text, columns.lists, columns.count * columns.most);
+    let in_rows = numbers::largest(text, rows.lists, rows.count * rows.most);
+    if rows.count < in_columns.largest || columns.count < in_rows.largest {
+        return false;
+    }
+    let scale = text.len() / 16777216 + 1;
+    let width = window_width(
+        columns,
+        rows,
+        (in_rows.end - rows.lists) / scale,
+        (in_columns.end - columns.lists) / scale,
+    );
+    windows_agree(text, columns, rows, width)
+}
