@@ -3,6 +3,7 @@ pub mod Accepted
 pub mod Order
 pub mod RecordClaims
 pub mod AlistForm
+pub mod AlistLines
 pub mod Sound
 pub mod Rows
 pub mod Runs
