@@ -25,3 +25,4 @@ pub mod DecoderCalls
 pub mod Courses
 pub mod ReflectedCalls
 pub mod Promises
+pub mod Spelling
