@@ -9,6 +9,9 @@ pub and-right : (s t : Bool) → (s && t) ≡ true → t ≡ true
 and-right true t h = h
 and-right false t h = cc
 
+pub and-both : (s t : Bool) → s ≡ true → t ≡ true → (s && t) ≡ true
+and-both s t h k = rw (h, k)
+
 pub and-false : (s t : Bool) → (s && t) ≡ false → t ≡ true → s ≡ false
 and-false true t h e = sym e ∙ h
 and-false false t h e = refl

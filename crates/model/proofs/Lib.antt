@@ -2,6 +2,7 @@ pub mod Causes
 pub mod Accepted
 pub mod Order
 pub mod RecordClaims
+pub mod AlistForm
 pub mod Sound
 pub mod Rows
 pub mod Runs
