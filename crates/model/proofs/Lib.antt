@@ -27,3 +27,4 @@ pub mod Courses
 pub mod ReflectedCalls
 pub mod Promises
 pub mod Spelling
+pub mod AlistParts
