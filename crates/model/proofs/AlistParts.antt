@@ -1,12 +1,13 @@
 -- Numbers that are well formed are those of a file with the columns and rows that they name. Assumes nothing.
 use Rattle.integers.proofs.Prelude.{_≡_, refl, sym, ap, ap₂, subst, _∙_, true, _&&_, List, [], _∷_, _++_, map, append-assoc, append-nil, ℕ, zero, suc, _+_, _-_}
-use Rattle.integers.proofs.Prelude.{_*_, _≤_, arith, eqb-true, T, eqb, ltb, leb, length, getD, take, drop, length-map, length-drop, take-append-drop, drop-of-length-le}
-use Rattle.integers.proofs.Prelude.{length-take-le, drop-drop}
+use Rattle.integers.proofs.Prelude.{_*_, _≤_, arith, eqb-true, T, eqb, ltb, leb, length, getD, take, drop, length-map, length-drop, take-append-drop}
+use Rattle.integers.proofs.Prelude.{drop-of-length-le, length-take-le, drop-drop}
 use lib.ListN.{replicate}
 use Rattle.lists.specs.Entries.{every}
 use Rattle.lists.proofs.Tests.{and-left, and-right}
 use Rattle.model.specs.Limits.{mostNumber}
-use Rattle.model.specs.Alist.{largest, pieces, filled, allFilled, soundSide, listed, named, columns, rows, numberCount, wellFormed, fill, largestOf, linesOf}
+use Rattle.model.specs.Alist.{largest, pieces, filled, allFilled, soundSide, listed, named, columns, rows, numberCount, wellFormed}
+use Rattle.model.specs.Alist.{fill, largestOf, linesOf}
 use Rattle.model.specs.AlistClaims.{joined}
 use Rattle.model.proofs.AlistForm.{file-joined}
 
@@ -96,7 +97,9 @@ side-back count size ds l e h k =
     record {
       degrees = f .degrees;
       above = f .above;
-      whole = ap (λ (c : ℕ). joined (map (fill c) ls) ++ drop (count * size) l) top ∙ ap (λ (c : ℕ). joined (map (fill size) ls) ++ drop (c * size) l) (sym e) ∙ f .whole;
+      whole =
+          ap (λ (c : ℕ). joined (map (fill c) ls) ++ drop (count * size) l) top
+          ∙ ap (λ (c : ℕ). joined (map (fill size) ls) ++ drop (c * size) l) (sym e) ∙ f .whole;
       long = sym (length-map ls length) ∙ ap length (f .degrees) ∙ e;
       most = top;
     }
