@@ -8,6 +8,7 @@ pub mod Rows
 pub mod Runs
 pub mod Queue
 pub mod TripleRule
+pub mod Agreement
 pub mod Bounds
 pub mod Reflection
 pub mod Paper
