@@ -29,3 +29,4 @@ pub mod ReflectedCalls
 pub mod Promises
 pub mod Spelling
 pub mod AlistParts
+pub mod AlistSizes
