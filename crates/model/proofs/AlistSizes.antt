@@ -1,11 +1,10 @@
 -- Columns and rows that name the same places name as many, and the records of an accepted code are not longer than a text of it. Assumes nothing.
-use Rattle.integers.proofs.Prelude.{_≡_, refl, sym, ap₂, _∙_, true, List, [], _∷_, map, ℕ, zero, suc, _+_, _-_, _*_, _≤_, _<_, arith, ltb, leb, length, getD}
+use Rattle.integers.proofs.Prelude.{_≡_, refl, sym, ap₂, _∙_, true, List, [], _∷_, map, ℕ, suc, _+_, _*_, _≤_, arith, ltb, leb, length, getD}
 use Rattle.integers.proofs.Prelude.{length-map}
 use Rattle.integers.specs.Sum.{sumℕ}
 use Rattle.integers.proofs.Sums.{sumℕ-same, sumℕ-first, sumℕ-swap}
 use Rattle.lists.specs.Entries.{every, total}
 use Rattle.lists.proofs.Entries.{every-at}
-use Rattle.model.specs.Code.{Code}
 use Rattle.model.specs.Records.{recordsOf, recordSize}
 use Rattle.model.specs.Sound.{SoundChecks, Sound}
 use Rattle.model.specs.Alist.{times, upTo, largestOf}
@@ -53,7 +52,7 @@ checks-total n f (l ∷ ls) h = omega (arith, checks-total n f ls (h .1), h .0 .
 pub records-fit : (cs rs : List (List ℕ)) (f : ℕ → ℕ) → Sound (record { bits = length cs; checks = map (map f) rs })
     → every (every (ltb 0)) cs ≡ true → every (every (ltb 0)) rs ≡ true → SamePlaces cs rs
     → suc (length (recordsOf (record { bits = length cs; checks = map (map f) rs })))
-      ≤ 2 * (4 + (length cs + (length rs + (length cs * largestOf cs + length rs * largestOf rs))))
+    ≤ 2 * (4 + (length cs + (length rs + (length cs * largestOf cs + length rs * largestOf rs))))
 records-fit cs rs f s p q h =
     let size = length-code (record { bits = length cs; checks = map (map f) rs }) in
     let rows = largest-total (largestOf rs) rs (omega arith) in

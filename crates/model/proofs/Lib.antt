@@ -30,3 +30,5 @@ pub mod Promises
 pub mod Spelling
 pub mod AlistParts
 pub mod AlistSizes
+pub mod AlistCauses
+pub mod AlistText

@@ -1,13 +1,13 @@
 -- The numbers of a text: how a loop over its bytes finds them, their sizes, and the texts that write given numbers. Assumes nothing.
-use Rattle.integers.proofs.Prelude.{_≡_, refl, sym, ap, _∙_, Bool, true, false, cond, _||_, List, [], _∷_, _++_, append-nil, ℕ, zero, suc, _+_, _-_, _*_}
-use Rattle.integers.proofs.Prelude.{_≤_, _<_, min, arith, ltb-true, lt-ltb, le-leb, ne-eqb, eqb, ltb, leb, length, getD, drop, drop-of-length-le, drop-cons}
+use Rattle.integers.proofs.Prelude.{_≡_, refl, sym, ap, _∙_, Bool, true, false, cond, List, [], _∷_, _++_, append-nil, ℕ, zero, suc, _+_, _-_, _*_}
+use Rattle.integers.proofs.Prelude.{_≤_, _<_, min, arith, ltb-true, lt-ltb, le-leb, ne-eqb, ltb, leb, length, getD, drop, drop-of-length-le, drop-cons}
 use mathlib.Core.Logic.{_↔_}
 use Rattle.lists.specs.Entries.{every}
 use Rattle.lists.proofs.Tests.{and-left, and-right}
 use Rattle.model.specs.Limits.{mostNumber}
 use Rattle.model.specs.Causes.{outside}
 use Rattle.model.specs.Alist.{separator, further, ended, numbersOf}
-use Rattle.model.specs.AlistClaims.{Digits, valueOf, Separators, Apart, Begins, Spells}
+use Rattle.model.specs.AlistClaims.{Digits, valueOf, Separators, Apart, Spells}
 use Rattle.model.proofs.Causes.{within, inside}
 
 -- ---- one byte
