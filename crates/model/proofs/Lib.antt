@@ -10,6 +10,8 @@ pub mod Runs
 pub mod Queue
 pub mod TripleRule
 pub mod Agreement
+pub mod AlistCode
+pub mod AlistTrips
 pub mod Bounds
 pub mod Reflection
 pub mod Paper
