@@ -3,12 +3,15 @@ pub mod Accepted
 pub mod Order
 pub mod RecordClaims
 pub mod AlistForm
+pub mod AlistLines
 pub mod Sound
 pub mod Rows
 pub mod Runs
 pub mod Queue
 pub mod TripleRule
 pub mod Agreement
+pub mod AlistCode
+pub mod AlistTrips
 pub mod Bounds
 pub mod Reflection
 pub mod Paper
