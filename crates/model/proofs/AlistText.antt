@@ -4,18 +4,20 @@ use mathlib.Core.Logic.{_↔_}
 use lib.Dec.{leb·suc-suc}
 use Rattle.lists.specs.Entries.{every, some}
 use Rattle.model.specs.Limits.{mostNumber}
+use Rattle.model.specs.Causes.{firstOf}
 use Rattle.model.specs.Code.{Code}
 use Rattle.model.specs.Records.{recordsOf}
 use Rattle.model.specs.RecordClaims.{codeCauses, judgeCode}
 use Rattle.model.specs.Sound.{Sound}
 use Rattle.model.specs.Alist.{numbersOf, wellFormed, agree, named, columns, rows, linesOf, numberCount, codeIn, codeOfText, judgeText}
 use Rattle.model.specs.AlistClaims.{joined, AlistText, SamePlaces, TextClaims}
-use Rattle.model.proofs.Order.{Listed, number-listed}
+use Rattle.model.proofs.Order.{Listed, listed, both, first-of-listed, number-listed}
 use Rattle.model.proofs.RecordClaims.{sound}
 use Rattle.model.proofs.Spelling.{spelled, numbers-room}
 use Rattle.model.proofs.AlistForm.{named-columns, named-rows, code-lines, count-lines, well-formed}
 use Rattle.model.proofs.AlistParts.{form-back}
 use Rattle.model.proofs.Agreement.{rows-upTo, agreement}
+use Rattle.model.proofs.AlistTrips.{text-sound}
 use Rattle.model.proofs.AlistSizes.{records-fit}
 use Rattle.model.proofs.AlistCauses.{rows-below, code-listed}
 
@@ -97,9 +99,24 @@ module _ (s : List ℕ) where
   unfolding judgeCode
   code-number h k c e = number-listed (codeCauses (codeOfText s)) (3 ∷ 4 ∷ 6 ∷ 7 ∷ 8 ∷ []) c (codes-listed [] h k) e
 
+  -- the number of a text that is judged before the causes `rest`
+  pub text-number : (more rest : List ℕ) → Listed (3 ∷ 4 ∷ 6 ∷ 7 ∷ 8 ∷ more) (18 ∷ []) → Listed (3 ∷ 4 ∷ 6 ∷ 7 ∷ 8 ∷ more) (19 ∷ [])
+      → Listed (3 ∷ 4 ∷ 6 ∷ 7 ∷ 8 ∷ more) rest → (c : ℕ) → firstOf (judgeText s ∷ rest) ≡ suc c → some (eqb (suc c)) (3 ∷ 4 ∷ 6 ∷ 7 ∷ 8 ∷ more) ≡ true
+  unfolding judgeCode
+  text-number more rest a b d =
+      let table : List ℕ = 3 ∷ 4 ∷ 6 ∷ 7 ∷ 8 ∷ more in
+      let causes = codeCauses (codeOfText s) in
+      by-judgement (λ j. (c : ℕ) → firstOf (j ∷ rest) ≡ suc c → some (eqb (suc c)) table ≡ true)
+      (λ h c. number-listed (18 ∷ []) table c a) (λ h k c. number-listed (19 ∷ []) table c b)
+      (λ h k c. number-listed (firstOf causes ∷ rest) table c (both table (firstOf causes ∷ []) rest (first-of-listed table causes (codes-listed more h k)) d))
+
+  pub judged-number : (c : ℕ) → judgeText s ≡ suc c → some (eqb (suc c)) (3 ∷ 4 ∷ 6 ∷ 7 ∷ 8 ∷ 18 ∷ 19 ∷ []) ≡ true
+  judged-number c e =
+      let table : List ℕ = 3 ∷ 4 ∷ 6 ∷ 7 ∷ 8 ∷ 18 ∷ 19 ∷ [] in
+      text-number (18 ∷ 19 ∷ []) [] (listed table ((18, true) ∷ []) refl) (listed table ((19, true) ∷ []) refl) (listed table [] refl) c (rw e)
+
   pub never-five : judgeText s ≡ 5 → ⊥
-  never-five =
-      by-judgement (λ c. c ≡ 5 → ⊥) (λ h e. omega arith) (λ h k e. omega arith) (λ h k e. subst T (sym (code-number h k 4 e)) tt)
+  never-five e = subst T (sym (judged-number 4 e)) tt
 
   pub eighteen : (judgeText s ≡ 18) ↔ ((cs rs : List (List ℕ)) → AlistText s cs rs → ⊥)
   eighteen = (
@@ -134,17 +151,16 @@ module _ (s : List ℕ) where
   after cs rs t p = code-judged (text-form cs rs t) (text-same cs rs t .1 p) ∙ ap judgeCode (only cs rs t .2)
 
   -- ---- the accepted texts
-  sound-text : judgeText s ≡ 0 → (wellFormed l ≡ true) × (agree cs rs ≡ true) × Sound (codeOfText s)
-  sound-text =
-      by-judgement (λ c. c ≡ 0 → (wellFormed l ≡ true) × (agree cs rs ≡ true) × Sound (codeOfText s))
-      (λ h e. absurd (omega arith)) (λ h k e. absurd (omega arith)) (λ h k e. (h, k, sound (codeOfText s) .0 e))
+  judged-sound : judgeText s ≡ 0 → (wellFormed l ≡ true) × (agree cs rs ≡ true)
+  judged-sound =
+      by-judgement (λ c. c ≡ 0 → (wellFormed l ≡ true) × (agree cs rs ≡ true)) (λ h e. absurd (omega arith)) (λ h k e. absurd (omega arith)) (λ h k e. (h, k))
 
   pub accepted : (judgeText s ≡ 0) ↔ ((cs : List (List ℕ)) × (rs : List (List ℕ)) × AlistText s cs rs × SamePlaces cs rs × Sound (codeFor cs rs))
   accepted = (
     λ h.
-        let x = sound-text h in
+        let x = judged-sound h in
         let t = form-text (x .0) in
-        (cs, rs, t, agreement cs rs .0 (x .1), subst Sound (only cs rs t .2) (x .2)),
+        (cs, rs, t, agreement cs rs .0 (x .1), subst Sound (only cs rs t .2) (text-sound s h)),
     λ t. after (t .0) (t .1) (t .2) (t .3) ∙ sound (codeFor (t .0) (t .1)) .1 (t .4),
   )
 

@@ -35,3 +35,4 @@ pub mod AlistParts
 pub mod AlistSizes
 pub mod AlistCauses
 pub mod AlistText
+pub mod AlistPromises

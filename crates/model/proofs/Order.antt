@@ -89,13 +89,19 @@ first-of (suc n ∷ l) c e = record { place = 0; here = e; earlier = λ i h. abs
 pub number-listed : (l table : List ℕ) (c : ℕ) → Listed table l → firstOf l ≡ suc c → some (eqb (suc c)) table ≡ true
 number-listed l table c h e = first-listed table l (h .all) c e
 
-pub ordered : (l table : List ℕ) (number : ℕ) → Listed table l → number ≡ firstOf l → Ordered l table number
-ordered l table number h e = record {
+-- where the first cause is in the table
+pub ordered-first : (l table : List ℕ) (number : ℕ) → ((c : ℕ) → firstOf l ≡ suc c → some (eqb (suc c)) table ≡ true) → number ≡ firstOf l
+    → Ordered l table number
+ordered-first l table number h e = record {
   refused = λ c f.
       let x = first-of l c (sym e ∙ f) in
-      record { place = x .place; cause = x .here ∙ sym f; earlier = x .earlier; listed = rw f (first-listed table l (h .all) c (sym e ∙ f)) };
+      record { place = x .place; cause = x .here ∙ sym f; earlier = x .earlier; listed = rw f (h c (sym e ∙ f)) };
   sound = λ f. none-of l (sym e ∙ f);
 }
+
+-- or all of them are
+pub ordered : (l table : List ℕ) (number : ℕ) → Listed table l → number ≡ firstOf l → Ordered l table number
+ordered l table number h = ordered-first l table number (λ c. number-listed l table c h)
 
 -- by a table of numbers up to 15, what is not 0 is a refusal's number
 pub refuses : (l table : List ℕ) (c : ℕ) → every (λ y. leb y 15) table ≡ true → Ordered l table (suc c) → Refuses (suc c)
