@@ -1,5 +1,5 @@
 -- How often a list names a number, and what it means that columns and rows agree. Assumes nothing.
-use Rattle.integers.proofs.Prelude.{_≡_, refl, sym, ap, _∙_, Bool, true, false, _&&_, _||_, List, [], _∷_, _++_, map, ℕ, zero, suc, _+_, _-_, _≤_, _<_, arith}
+use Rattle.integers.proofs.Prelude.{_≡_, refl, sym, ap, _∙_, Bool, true, false, _||_, List, [], _∷_, _++_, map, ℕ, zero, suc, _+_, _-_, _≤_, _<_, arith}
 use Rattle.integers.proofs.Prelude.{decLt, leb-true, leb-false, ltb-true, eqb-true, eq-eqb, ne-eqb, eqb, ltb, leb, length, getD, take, List·getD-eq-default}
 use mathlib.Core.Logic.{_↔_, _⊎_, inl, inr}
 use lib.Dec.{eqb·suc-suc}

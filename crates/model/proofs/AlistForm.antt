@@ -4,7 +4,7 @@ use Rattle.integers.proofs.Prelude.{_≤_, arith, eq-eqb, eqb, ltb, leb, length
 use Rattle.integers.proofs.Prelude.{take-append-seam}
 use lib.ListN.{replicate, length-replicate}
 use Rattle.lists.specs.Entries.{every}
-use Rattle.lists.proofs.Tests.{and-left, and-right, and-both}
+use Rattle.lists.proofs.Tests.{and-left, and-right}
 use Rattle.model.specs.Limits.{mostNumber}
 use Rattle.model.specs.Alist.{pieces, filled, allFilled, soundSide, wellFormed, listed, named, columns, rows, numberCount, fill, largestOf, linesOf}
 use Rattle.model.specs.Alist.{codeIn}

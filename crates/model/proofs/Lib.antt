@@ -10,6 +10,8 @@ pub mod Runs
 pub mod Queue
 pub mod TripleRule
 pub mod Agreement
+pub mod AlistCode
+pub mod AlistTrips
 pub mod Bounds
 pub mod Reflection
 pub mod Paper
@@ -28,3 +30,9 @@ pub mod DecoderCalls
 pub mod Courses
 pub mod ReflectedCalls
 pub mod Promises
+pub mod Spelling
+pub mod AlistParts
+pub mod AlistSizes
+pub mod AlistCauses
+pub mod AlistText
+pub mod AlistPromises
