@@ -8,7 +8,7 @@ use lib.ListN.{length, getD, take, drop}
 use Rattle.lists.specs.Entries.{every}
 use Rattle.model.specs.Limits.{mostNumber}
 use Rattle.model.specs.Alist.{numbersOf, columnDegrees, rowDegrees, columnLists, rowLists, wellFormed}
-use Rattle.alist.specs.declared.Side.{Side}
+use Rattle.numbers.specs.declared.Side.{Side}
 use Rattle.alist.specs.declared.Form.{Form}
 use Rattle.numbers.specs.Walked.{from, Small}
 use Rattle.alist.specs.declared.Sizes.{Sizes}

@@ -6,14 +6,7 @@ ghost use lib.ListN.{length};
 ghost use Rattle.numbers.specs.Walked.{from};
 ghost use Rattle.alist.specs.Form.{filledList, filledLists, Walks, Formed, Sized};
 use model::MOST_NUMBER;
-
-// The columns or the rows of a text: how many there are, the largest degree, and where the degrees and the lists begin.
-pub struct Side {
-    pub count: usize,
-    pub most: usize,
-    pub degrees: usize,
-    pub lists: usize,
-}
+use numbers::Side;
 
 // Whether a text has the form of an alist file, and its two sides.
 pub struct Form {

@@ -1,11 +1,11 @@
 // Import: the code records of an alist text (document 02, L1).
 use alist::Form;
-use alist::Side;
 use model::MOST_BITS;
 use model::MOST_CHECKS;
 use model::MOST_DEGREE;
 use model::MOST_TRIPLES;
 use model::Written;
+use numbers::Side;
 
 // The bits of a row of `degree` indices from `at` on, from 0; where the row goes on.
 fn read_row(text: &[u8], at: usize, indices: &mut [u16]) -> usize {
@@ -149,7 +149,9 @@ pub fn import(text: &[u8], code: &mut [u8]) -> Written {
             bytes: 0,
         };
     }
-    if !places::agree(text, form) {
+    let columns = form.columns;
+    let rows = form.rows;
+    if !places::agree(text, columns, rows) {
         return Written {
             number: 19,
             bytes: 0,

@@ -16,6 +16,14 @@ pub struct Number {
     pub end: usize,
 }
 
+// The columns or the rows of a text: how many there are, the largest degree, and where their degrees and their lists begin.
+pub struct Side {
+    pub count: usize,
+    pub most: usize,
+    pub degrees: usize,
+    pub lists: usize,
+}
+
 // The largest of several numbers, and where the last of them ends.
 pub struct Scan {
     pub largest: usize,

@@ -1,7 +1,9 @@
 // Cause 19 of an alist text (document 02, L1): whether columns and rows name the same places, each equally often. No list is kept: a window of rows by columns has a
 // counter for each of its places; the rows count up, the columns count down, and the window agrees where no counter would fall below 0 and all end at 0.
-use alist::Form;
-use alist::Side;
+ghost use mathlib.Core.Path.{_≡_};
+ghost use Rattle.model.specs.Alist.{agree};
+ghost use Rattle.places.specs.Held.{Held, listsOf};
+use numbers::Side;
 
 // So many counters a window can have.
 const COUNTERS: usize = 131072;
@@ -211,9 +213,10 @@ fn windows_agree(text: &[u8], columns: Side, rows: Side, wide: usize) -> bool {
 }
 
 // Whether columns and rows name the same places, each equally often.
-pub fn agree(text: &[u8], form: Form) -> bool {
-    let columns = form.columns;
-    let rows = form.rows;
+pub fn agree(text: &[u8], columns: Side, rows: Side) -> bool
+    requires { ⌜ Held (now text) columns × Held (now text) rows ⌝ }
+    ensures { λ r. ⌜ r ≡ agree (listsOf (now (text .entry)) columns) (listsOf (now (text .entry)) rows) ⌝ }
+{
     let in_columns = numbers::largest(text, columns.lists, columns.count * columns.most);
     let in_rows = numbers::largest(text, rows.lists, rows.count * rows.most);
     if rows.count < in_columns.largest || columns.count < in_rows.largest {
