@@ -12,6 +12,7 @@ pub mod TripleRule
 pub mod Agreement
 pub mod AlistCode
 pub mod AlistTrips
+pub mod AlistTexts
 pub mod Bounds
 pub mod Reflection
 pub mod Paper
