@@ -47,3 +47,9 @@ pub record Ended (s : List ℕ) (at value end : ℕ) : Type 0 where
   pub list : at < length s → separator (getD s at 0) ≡ false → from s at ≡ value ∷ from s end
   pub most : value ≤ suc mostNumber
   pub within : end ≤ length s
+
+-- the numbers from `at` on, as many as there are values, and where they end
+pub record Filled (s : List ℕ) (at : ℕ) (values : List ℕ) (end : ℕ) : Type 0 where
+  pub list : values ≡ take (length values) (from s at)
+  pub rest : from s end ≡ drop (length values) (from s at)
+  pub within : end ≤ length s

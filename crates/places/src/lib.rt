@@ -6,7 +6,10 @@ ghost use Rattle.places.specs.Held.{Held, listsOf};
 use numbers::Side;
 
 // So many counters a window can have.
-const COUNTERS: usize = 131072;
+const COUNTERS: usize = 65536;
+
+// So many numbers are read at a time.
+const BLOCK: usize = 64;
 
 // Rows `top` .. and columns `left` .., from 0.
 struct Window {
@@ -16,91 +19,104 @@ struct Window {
     width: usize,
 }
 
-// Whether all went well, how many entries are counted up and not yet down, and where the text goes on.
+// Whether no counter would have fallen below 0, how many indices are counted up and not down again, and where the text goes on.
 struct Walk {
     fine: bool,
     open: usize,
     end: usize,
 }
 
-// Counts the indices of one row, `most` numbers from `at` on, in the columns left + 1 .. left + width; a counter for each of these columns.
-fn row_up(text: &[u8], at: usize, most: usize, left: usize, counters: &mut [u16]) -> Walk {
-    let width = counters.len();
-    let mut open = 0usize;
-    let mut end = at;
-    for i in 0..most {
-        let x = numbers::next(text, end);
-        let value = x.value;
-        end = x.end;
-        if left < value && value <= left + width {
-            counters[value - left - 1] += 1;
-            open += 1;
-        }
-    }
-    Walk {
-        fine: true,
-        open,
-        end,
-    }
+// The first two of these.
+struct Count {
+    fine: bool,
+    open: usize,
 }
 
-// Counts the rows of a window up.
-fn rows_up(text: &[u8], at: usize, most: usize, window: Window, counters: &mut [u16]) -> Walk {
-    let height = window.height;
-    let width = window.width;
-    let left = window.left;
-    let mut open = 0usize;
-    let mut end = at;
-    for r in 0..height {
-        let first = r * width;
-        let next = first + width;
-        let row = row_up(text, end, most, left, &mut counters[first..next]);
-        open += row.open;
-        end = row.end;
-    }
-    Walk {
-        fine: true,
-        open,
-        end,
-    }
-}
-
-// Counts one column down, the `column`-th of the window.
-fn column_down(
-    text: &[u8],
-    at: usize,
+// Counts up the indices of the rows in the window's columns: `values` are numbers of its rows, from the `first` on. How many there are.
+fn count_up(
+    values: &[u16],
+    first: usize,
     most: usize,
     window: Window,
-    column: usize,
+    counters: &mut [u16],
+) -> usize {
+    let left = window.left;
+    let width = window.width;
+    let mut row = first / most * width;
+    let mut i = first % most;
+    let mut open = 0usize;
+    for k in 0..values.len() {
+        let value = slices::index(values[k]);
+        if left < value && value <= left + width {
+            counters[row + (value - left - 1)] += 1;
+            open += 1;
+        }
+        i += 1;
+        if i == most {
+            i = 0;
+            row += width;
+        }
+    }
+    open
+}
+
+// Counts the rows of a window up: `most` numbers of each, from `at` on.
+fn rows_up(text: &[u8], at: usize, most: usize, window: Window, counters: &mut [u16]) -> Walk {
+    let total = window.height * most;
+    let mut values = [0u16; BLOCK];
+    let mut open = 0usize;
+    let mut end = at;
+    let mut done = 0usize;
+    while done < total {
+        let size = least(BLOCK, total - done);
+        end = numbers::read(text, end, &mut values[..size]);
+        open += count_up(&values[..size], done, most, window, counters);
+        done += size;
+    }
+    Walk {
+        fine: true,
+        open,
+        end,
+    }
+}
+
+// Counts down the indices of the columns in the window's rows: `values` are numbers of its columns, from the `first` on.
+fn count_down(
+    values: &[u16],
+    first: usize,
+    most: usize,
+    window: Window,
     open: usize,
     counters: &mut [u16],
-) -> Walk {
+) -> Count {
     let top = window.top;
     let height = window.height;
     let width = window.width;
+    let mut column = first / most;
+    let mut i = first % most;
     let mut left = open;
-    let mut end = at;
-    for i in 0..most {
-        let x = numbers::next(text, end);
-        let value = x.value;
-        end = x.end;
+    for k in 0..values.len() {
+        let value = slices::index(values[k]);
         if top < value && value <= top + height {
             let place = (value - top - 1) * width + column;
             if counters[place] == 0 {
-                return Walk {
+                return Count {
                     fine: false,
                     open: left,
-                    end,
                 };
             }
             counters[place] -= 1;
             left -= 1;
         }
+        i += 1;
+        if i == most {
+            i = 0;
+            column += 1;
+        }
     }
-    Walk {
+    Count {
         fine: true,
         open: left,
-        end,
     }
 }
 
@@ -113,20 +129,24 @@ fn columns_down(
     open: usize,
     counters: &mut [u16],
 ) -> Walk {
-    let width = window.width;
+    let total = window.width * most;
+    let mut values = [0u16; BLOCK];
     let mut left = open;
     let mut end = at;
-    for c in 0..width {
-        let column = column_down(text, end, most, window, c, left, counters);
-        left = column.open;
-        end = column.end;
-        if !column.fine {
+    let mut done = 0usize;
+    while done < total {
+        let size = least(BLOCK, total - done);
+        end = numbers::read(text, end, &mut values[..size]);
+        let counted = count_down(&values[..size], done, most, window, left, counters);
+        left = counted.open;
+        if !counted.fine {
             return Walk {
                 fine: false,
                 open: left,
                 end,
             };
         }
+        done += size;
     }
     Walk {
         fine: left == 0,
