@@ -1,5 +1,5 @@
 // Import: the code records of an alist text (document 02, L1).
-use alist::Form;
+ghost use Rattle.model.specs.AlistPromises.{ImportCall};
 use model::MOST_BITS;
 use model::MOST_CHECKS;
 use model::MOST_DEGREE;
@@ -7,38 +7,33 @@ use model::MOST_TRIPLES;
 use model::Written;
 use numbers::Side;
 
-// The bits of a row of `degree` indices from `at` on, from 0; where the row goes on.
-fn read_row(text: &[u8], at: usize, indices: &mut [u16]) -> usize {
-    let mut end = at;
-    for i in 0..indices.len() {
-        let x = numbers::next(text, end);
-        let value = x.value;
-        end = x.end;
-        indices[i] = (value - 1) as u16;
-    }
-    end
-}
+// The most bytes of the record of a check.
+const MOST_RECORD: usize = 67;
 
-// What the judgement of the rows finds: the first cause, or 0; how many triples they have, and how many bytes their records.
+// What the judgement of rows finds: the first cause, or 0; how many triples they have, and how many bytes their records.
 struct Judgement {
     cause: u32,
     triples: usize,
     bytes: usize,
 }
 
-// The cause of one row, 0 for none.
+// The bits that a row names, as many as the list has entries, from `at` on.
+fn read_row(text: &[u8], at: usize, bits: &mut [u16]) {
+    numbers::read(text, at, bits);
+    for i in 0..bits.len() {
+        bits[i] -= 1;
+    }
+}
+
+// The judgement of one row, as its record.
 fn judge_row(text: &[u8], at: usize, degree: usize, bits: usize) -> Judgement {
     if MOST_DEGREE < degree {
-        return Judgement {
-            cause: 4,
-            triples: 0,
-            bytes: 0,
-        };
+        return refused(4);
     }
-    let mut indices = [0u16; MOST_DEGREE];
-    let mut record = [0u8; 67];
-    read_row(text, at, &mut indices[..degree]);
-    let bytes = records::write_check(&indices[..degree], &mut record, 0);
+    let mut row = [0u16; MOST_DEGREE];
+    let mut record = [0u8; MOST_RECORD];
+    read_row(text, at, &mut row[..degree]);
+    let bytes = records::write_check(&row[..degree], &mut record, 0);
     Judgement {
         cause: records::judge_check(&record, bits),
         triples: records::triple_count(&record),
@@ -46,13 +41,22 @@ fn judge_row(text: &[u8], at: usize, degree: usize, bits: usize) -> Judgement {
     }
 }
 
+fn refused(cause: u32) -> Judgement {
+    Judgement {
+        cause,
+        triples: 0,
+        bytes: 0,
+    }
+}
+
+// The judgement of all rows.
 fn judge_rows(text: &[u8], rows: Side, bits: usize) -> Judgement {
     let count = rows.count;
     let most = rows.most;
     let mut degrees = rows.degrees;
     let mut at = rows.lists;
     let mut triples = 0usize;
-    let mut bytes = 6usize;
+    let mut bytes = 0usize;
     for j in 0..count {
         let degree = numbers::next(text, degrees);
         degrees = degree.end;
@@ -62,8 +66,8 @@ fn judge_rows(text: &[u8], rows: Side, bits: usize) -> Judgement {
         }
         triples += row.triples;
         bytes += row.bytes;
-        let passed = numbers::largest(text, at, most);
-        at = passed.end;
+        let list = numbers::largest(text, at, most);
+        at = list.end;
     }
     Judgement {
         cause: 0,
@@ -72,7 +76,7 @@ fn judge_rows(text: &[u8], rows: Side, bits: usize) -> Judgement {
     }
 }
 
-// Whether each of the degrees from `at` on is above 0.
+// Whether each of `count` degrees from `at` on is above 0.
 fn all_named(text: &[u8], at: usize, count: usize) -> bool {
     let mut end = at;
     for b in 0..count {
@@ -85,63 +89,52 @@ fn all_named(text: &[u8], at: usize, count: usize) -> bool {
     true
 }
 
-// The judgement of the code: 3 to 8.
-fn judge(text: &[u8], form: Form) -> Judgement {
-    let columns = form.columns;
-    let rows = form.rows;
+// The judgement of the code that the rows are: 3 to 8. A bit lies in some check where its column names one.
+fn judge(text: &[u8], columns: Side, rows: Side) -> Judgement {
     let bits = columns.count;
     let checks = rows.count;
-    if bits < 3 || MOST_BITS < bits || checks < 1 || MOST_CHECKS < checks {
-        return Judgement {
-            cause: 3,
-            triples: 0,
-            bytes: 0,
-        };
+    if bits < 3 || MOST_BITS < bits {
+        return refused(3);
+    }
+    if checks < 1 || MOST_CHECKS < checks {
+        return refused(3);
     }
     let found = judge_rows(text, rows, bits);
     if found.cause != 0 {
         return found;
     }
     if MOST_TRIPLES < found.triples {
-        return Judgement {
-            cause: 7,
-            triples: 0,
-            bytes: 0,
-        };
+        return refused(7);
     }
     if !all_named(text, columns.degrees, bits) {
-        return Judgement {
-            cause: 8,
-            triples: 0,
-            bytes: 0,
-        };
+        return refused(8);
     }
     found
 }
 
-// The records of the code.
-fn write(text: &[u8], form: Form, code: &mut [u8]) {
-    let columns = form.columns;
-    let rows = form.rows;
-    let most = rows.most;
+// The records of the code, from the front.
+fn write_records(text: &[u8], columns: Side, rows: Side, code: &mut [u8]) {
     let count = rows.count;
-    let mut indices = [0u16; MOST_DEGREE];
+    let most = rows.most;
+    let mut row = [0u16; MOST_DEGREE];
     let mut degrees = rows.degrees;
     let mut at = rows.lists;
     let mut next = records::write_header(columns.count, count, code);
     for j in 0..count {
         let degree = numbers::next(text, degrees);
         degrees = degree.end;
-        let d = degree.value;
-        read_row(text, at, &mut indices[..d]);
-        next = records::write_check(&indices[..d], code, next);
-        let passed = numbers::largest(text, at, most);
-        at = passed.end;
+        let size = degree.value;
+        read_row(text, at, &mut row[..size]);
+        next = records::write_check(&row[..size], code, next);
+        let list = numbers::largest(text, at, most);
+        at = list.end;
     }
 }
 
 // Import: the records of an alist text.
-pub fn import(text: &[u8], code: &mut [u8]) -> Written {
+pub fn import(text: &[u8], code: &mut [u8]) -> Written
+    ensures { λ r. ⌜ ImportCall (now (text .entry)) (now (code .entry)) (record { number = r .number; bytes = r .bytes; list = now (code .exit) }) ⌝ }
+{
     let form = alist::read_form(text);
     if !form.sound {
         return Written {
@@ -157,20 +150,21 @@ pub fn import(text: &[u8], code: &mut [u8]) -> Written {
             bytes: 0,
         };
     }
-    let found = judge(text, form);
-    if found.cause != 0 {
+    let found = judge(text, columns, rows);
+    let cause = found.cause;
+    if cause != 0 {
         return Written {
-            number: found.cause,
+            number: cause,
             bytes: 0,
         };
     }
-    let bytes = found.bytes;
+    let bytes = 6 + found.bytes;
     if code.len() < bytes {
         return Written {
             number: 10,
             bytes: 0,
         };
     }
-    write(text, form, code);
+    write_records(text, columns, rows, code);
     Written { number: 0, bytes }
 }
