@@ -1,10 +1,14 @@
 // The form of an alist text (document 02, L1): whether it is one (18), its sizes, and where its parts stand.
 ghost use mathlib.Core.Path.{_≡_};
 ghost use mathlib.Core.Bool.{false};
-ghost use Prim.Native.Nat.{_*_, _≤_};
+ghost use mathlib.Core.List.{[], _∷_};
+ghost use Prim.Native.Nat.{_≤_};
+ghost use lib.Dec.{leb};
 ghost use lib.ListN.{length};
+ghost use Rattle.lists.specs.Entries.{every};
+ghost use Rattle.model.specs.Limits.{mostNumber};
 ghost use Rattle.numbers.specs.Walked.{from};
-ghost use Rattle.alist.specs.Form.{filledList, filledLists, Walks, Formed, Sized};
+ghost use Rattle.alist.specs.Form.{filledList, Walks, WalksSide, Formed, Sized};
 use model::MOST_NUMBER;
 use numbers::Side;
 
@@ -57,8 +61,7 @@ fn walk_list(text: &[u8], at: usize, degree: usize, most: usize) -> Walk
 // Whether the lists of a side are so, each for its degree.
 fn walk_lists(text: &[u8], side: Side) -> Walk
     requires { ⌜ (side .degrees ≤ length (now text)) × (side .lists ≤ length (now text)) ⌝ }
-    ensures { λ r. ⌜ Walks (now (text .entry)) (side .lists) (side .count * side .most)
-        (filledLists (side .count) (side .most) (from (now (text .entry)) (side .degrees)) (from (now (text .entry)) (side .lists))) (r .fine) (r .end) ⌝ }
+    ensures { λ r. ⌜ WalksSide (now (text .entry)) side (r .fine) (r .end) ⌝ }
 {
     let count = side.count;
     let most = side.most;
@@ -76,6 +79,22 @@ fn walk_lists(text: &[u8], side: Side) -> Walk
     Walk { fine: true, end }
 }
 
+// Whether four numbers are at most MOST_NUMBER.
+fn all_small(a: usize, b: usize, c: usize, d: usize) -> bool
+    ensures { λ r. ⌜ r ≡ every (λ x. leb x mostNumber) (a ∷ b ∷ c ∷ d ∷ []) ⌝ }
+{
+    if MOST_NUMBER < a {
+        return false;
+    }
+    if MOST_NUMBER < b {
+        return false;
+    }
+    if MOST_NUMBER < c {
+        return false;
+    }
+    d <= MOST_NUMBER
+}
+
 // The first four numbers.
 fn read_sizes(text: &[u8]) -> Sizes
     ensures { λ r. ⌜ Sized (now (text .entry)) r ⌝ }
@@ -85,10 +104,7 @@ fn read_sizes(text: &[u8]) -> Sizes
     let c = numbers::next(text, m.end);
     let r = numbers::next(text, c.end);
     Sizes {
-        fine: n.value <= MOST_NUMBER
-            && m.value <= MOST_NUMBER
-            && c.value <= MOST_NUMBER
-            && r.value <= MOST_NUMBER,
+        fine: all_small(n.value, m.value, c.value, r.value),
         columns: n.value,
         rows: m.value,
         column_most: c.value,

@@ -1,5 +1,6 @@
 -- What crates above cite of a walk over the numbers of a text (`numbers::next`, `numbers::largest`):
 --
---   the number at a place that stands after j numbers, and the place after it: next-at; whether it is there: there      Walk
---   so many numbers of at most 65,535: small-none, small-next, small-at                                                  Walk
+--   the number at a place that stands after j numbers, and the place after it: next-at; whether it is there: there, same-at  Walk
+--   so many numbers of at most 65,535: small-none, small-next, small-cons, small-at; with what is behind them: small-join, small-front,
+--   small-behind, small-all                                                                                              Walk
 pub mod Walk

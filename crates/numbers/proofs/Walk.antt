@@ -1,10 +1,10 @@
 -- The numbers of a text from a place on, and numbers of at most 65,535. Assumes nothing.
-use Rattle.integers.proofs.Prelude.{_≡_, refl, sym, ap, _∙_, Bool, true, false, cond, List, [], _∷_, ℕ, zero, suc, _+_, _-_, _≤_, _<_, max, arith, decLt}
+use Rattle.integers.proofs.Prelude.{_≡_, refl, sym, ap, _∙_, Bool, true, false, cond, _&&_, List, [], _∷_, ℕ, zero, suc, _+_, _-_, _≤_, _<_, max, arith, decLt}
 use Rattle.integers.proofs.Prelude.{leb-true, le-leb, leb, length, getD, take, drop, drop-of-length-le, List·getD-eq-default, length-take-le, drop-drop}
-use Rattle.integers.proofs.Prelude.{drop-cons, getD-take, getD-drop}
+use Rattle.integers.proofs.Prelude.{drop-cons, getD-take, getD-drop, length-drop, take-append-drop, take-add}
 use native.Mathlib.Nat.{add-zero}
 use Rattle.lists.specs.Entries.{every}
-use Rattle.lists.proofs.Entries.{every-at}
+use Rattle.lists.proofs.Entries.{every-at, every-append}
 use Rattle.lists.proofs.Tests.{and-left, and-right}
 use Rattle.model.specs.Limits.{mostNumber}
 use Rattle.model.specs.Alist.{separator, further, ended, numbersOf, largest}
@@ -63,6 +63,12 @@ there l j h = by (decLt j (length l))
     by (yes k) = k
     by (no k) = absurd (omega (arith, List·getD-eq-default l none {n = j} (omega arith)))
 
+-- and is the same whatever stands for one that is not
+pub same-at : (l : List ℕ) (j d e : ℕ) → j < length l → getD l j d ≡ getD l j e
+same-at [] j d e h = absurd (omega arith)
+same-at (x ∷ l) zero d e h = refl
+same-at (x ∷ l) (suc j) d e h = same-at l j d e (omega arith)
+
 -- ---- numbers of at most 65,535
 abbrev pub small : ℕ → Bool
 small x = leb x mostNumber
@@ -87,6 +93,31 @@ pub small-next : (n : ℕ) (l : List ℕ) → Small n l → getD l n none ≤ mo
 small-next n l h k =
     let i : n < length l = there l n (omega arith) in
     record { long = omega arith; small = every-more small l n none i (h .small) (le-leb (getD l n none) mostNumber k) }
+
+pub small-cons : (n x : ℕ) (l : List ℕ) → small x ≡ true → Small n l → Small (suc n) (x ∷ l)
+small-cons n x l e h = record { long = omega (arith, h .long); small = rw e (h .small) }
+
+-- so many, and behind them so many
+pub small-join : (a b : ℕ) (l : List ℕ) → Small a l → Small b (drop a l) → Small (a + b) l
+small-join a b l h k =
+    record {
+      long = omega (arith, h .long, k .long, length-drop a l);
+      small = rw (take-add a b l, every-append small (take a l) (take b (drop a l)), h .small) (k .small);
+    }
+
+-- of numbers that are all such: so many of them, and what is behind them
+every-parts : (a : ℕ) (l : List ℕ) → every small l ≡ (every small (take a l) && every small (drop a l))
+every-parts a l = ap (every small) (sym (take-append-drop a l)) ∙ every-append small (take a l) (drop a l)
+
+pub small-front : (a : ℕ) (l : List ℕ) → every small l ≡ true → a ≤ length l → Small a l
+small-front a l e h = record { long = h; small = and-left (every small (take a l)) (every small (drop a l)) (sym (every-parts a l) ∙ e) }
+
+pub small-behind : (a : ℕ) (l : List ℕ) → every small l ≡ true → every small (drop a l) ≡ true
+small-behind a l e = and-right (every small (take a l)) (every small (drop a l)) (sym (every-parts a l) ∙ e)
+
+-- and back
+pub small-all : (a : ℕ) (l : List ℕ) → Small a l → every small (drop a l) ≡ true → (every small l ≡ true) × (length l ≡ a + length (drop a l))
+small-all a l h e = (every-parts a l ∙ rw (h .small) e, omega (arith, h .long, length-drop a l))
 
 -- ---- the largest
 pub largest-next : (l : List ℕ) (i d : ℕ) → i < length l → largest (take (suc i) l) ≡ max (largest (take i l)) (getD l i d)

@@ -20,6 +20,7 @@ none = suc (suc mostNumber)
 -- the number at `at`, or none, and where it ends
 pub record Next (s : List ℕ) (at value end : ℕ) : Type 0 where
   pub first : value ≡ getD (from s at) 0 none
+  pub none-left : value ≡ none → from s at ≡ []
   pub rest : from s end ≡ drop 1 (from s at)
   pub most : value ≤ none
   pub within : end ≤ length s
