@@ -4,8 +4,8 @@
  * Link with target/staticlib/libc_api.a, which `rt staticlib c_api` writes (x86-64 Linux).
  *
  * Lists
- *   A list is a pointer and its number of entries, not of bytes. Code, costs, samples and words are whole lists: their length
- *   is exact (else 12; for a code 1 or 9). Lists that a call fills may be longer than needed: the entries past those needed
+ *   A list is a pointer and its number of entries, not of bytes. Code, text, costs, samples and words are whole lists: their
+ *   length is exact (else 12; for a code 1 or 9, for a text 18). Lists that a call fills may be longer than needed: the entries past those needed
  *   stay as they were. One that is too short is refused with 10.
  *
  *   The sizes of a code are n (bits), m (checks), T (triples: the sum over all checks of degree - 2) and V (variables):
@@ -16,9 +16,9 @@
  *   below are always enough.
  *
  * Answers
- *   Every call answers with a number: 0, or one of enum widagbe_number. A call refused with 1 to 15 leaves every list as it
- *   was, and all other fields of its answer are 0. Where more than one cause holds, the first in this order is told: those of the
- *   records (1 to 6 as they are read, then 9, 7, 8), then 11, 12, 13, 14, 15, 10, and last 16 and 17.
+ *   Every call answers with a number: 0, or one of enum widagbe_number. A call refused with 1 to 15, 18 or 19 leaves every list
+ *   as it was, and all other fields of its answer are 0. Where more than one cause holds, the first in this order is told: 18,
+ *   19, those of the records (1 to 6 as they are read, then 9, 7, 8), then 11, 12, 13, 14, 15, 10, and last 16 and 17.
  *
  * What the caller owes
  *   - No pointer is null, also where the length is 0; each is aligned for its type.
@@ -26,7 +26,8 @@
  *   - A list that a call fills shares no memory with any other list of that call. Lists that are only read may overlap.
  *   - Nothing else writes to any list of a call, or reads a list that it fills, until the call returns.
  *   No call keeps a pointer, allocates memory or has state of its own: calls in different threads do not disturb each other.
- *   A call needs less than 16 kilobytes of stack.
+ *   A call needs less than 16 kilobytes of stack, but widagbe_import, which needs less than 144, and widagbe_export and
+ *   widagbe_export_size, which need less than 64.
  */
 #ifndef WIDAGBE_H
 #define WIDAGBE_H
@@ -62,7 +63,9 @@ enum widagbe_number {
     WIDAGBE_SAMPLE = 14,          /* a sample that is not finite */
     WIDAGBE_NOT_BINARY = 15,      /* a word entry that is neither 0 nor 1 */
     WIDAGBE_UNDECIDED = 16,       /* the run left a bit undecided */
-    WIDAGBE_NOT_A_CODEWORD = 17   /* a check has an odd sum */
+    WIDAGBE_NOT_A_CODEWORD = 17,  /* a check has an odd sum */
+    WIDAGBE_NOT_ALIST = 18,       /* a text that is no alist file */
+    WIDAGBE_PLACES_DIFFER = 19    /* columns and rows of a text do not name the same places, each equally often */
 };
 
 /*
@@ -97,6 +100,46 @@ widagbe_code_answer widagbe_read(const uint8_t *code, size_t code_len);
 uint32_t widagbe_split(const uint8_t *code, size_t code_len,
                        uint16_t *triples, size_t triples_len,
                        uint16_t *counts, size_t counts_len);
+
+/*
+ * ---- Codes as alist text
+ *
+ * Numbers in decimal digits, at most 65535, between spaces or line feeds, any count of them: n and m; the largest column degree
+ * and the largest row degree (0 where there is none); n column degrees; m row degrees; n lists of columns; m lists of rows. A
+ * list has its degree's count of indices from 1, and zeros up to the largest degree. Rows rise strictly, columns stand in any
+ * order. Column c is bit c - 1 and names the checks that it lies in; row r is check r - 1 and names its bits.
+ */
+
+/* number 0: the bytes written. */
+typedef struct {
+    uint32_t number;
+    size_t bytes;
+} widagbe_bytes_answer;
+
+/*
+ * Writes the code records of an alist text.
+ *   text     the whole text
+ *   code     as many bytes as the records have, 6 and 3 + 2d for each check of degree d; text_len bytes are always enough
+ * The time is bounded by the text: docs/PERFORMANCE.md has the worst texts.
+ * Numbers: 0, 3, 4, 6, 7, 8, 10, 18, 19.
+ */
+widagbe_bytes_answer widagbe_import(const uint8_t *text, size_t text_len,
+                                    uint8_t *code, size_t code_len);
+
+/*
+ * Writes the alist text of a code: rising columns, one space between numbers, a line feed behind each pair or list. Importing
+ * it gives the same records.
+ *   text     as many bytes as widagbe_export_size tells
+ * Numbers: 0 to 10.
+ */
+widagbe_bytes_answer widagbe_export(const uint8_t *code, size_t code_len,
+                                    uint8_t *text, size_t text_len);
+
+/*
+ * Tells how many bytes the alist text of a code has.
+ * Numbers: 0 to 9.
+ */
+widagbe_bytes_answer widagbe_export_size(const uint8_t *code, size_t code_len);
 
 /*
  * ---- Costs

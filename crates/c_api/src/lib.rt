@@ -4,6 +4,7 @@ ghost use mathlib.Core.Path.{_≡_};
 ghost use Rattle.model.specs.declared.Settings.{Settings};
 ghost use Rattle.model.specs.Calls.{readingTold, verdictTold, listsOf, decodingTold};
 ghost use Rattle.model.specs.Promises.{ReaderCall, SplitterCall, FrontCall, ReflectorCall, TestCall, ExtensionCall, DecoderCall};
+ghost use Rattle.model.specs.AlistPromises.{ImportCall, ExportCall, SizeCall};
 ghost use Rattle.c_api.specs.Answers.{codeAnswer, wordAnswer, decodeAnswer};
 use model::Channel;
 use model::Decoding;
@@ -11,6 +12,7 @@ use model::Erasure;
 use model::Reading;
 use model::Settings;
 use model::Verdict;
+use model::Written;
 
 // ---- the answers
 
@@ -28,6 +30,13 @@ pub struct CodeAnswer {
 pub struct WordAnswer {
     pub number: u32,
     pub place: usize,
+}
+
+// The answer of what writes text or records; how many bytes.
+#[repr(C)]
+pub struct BytesAnswer {
+    pub number: u32,
+    pub bytes: usize,
 }
 
 // The answer of a run; the place is a bit or a check.
@@ -72,6 +81,15 @@ fn word_answer(verdict: Verdict) -> WordAnswer
         },
         Verdict::Odd(place) => WordAnswer { number: 17, place },
         Verdict::Refused(number) => WordAnswer { number, place: 0 },
+    }
+}
+
+fn bytes_answer(written: Written) -> BytesAnswer
+    ensures { λ r. ⌜ (r .number ≡ written .number) × (r .bytes ≡ written .bytes) ⌝ }
+{
+    BytesAnswer {
+        number: written.number,
+        bytes: written.bytes,
     }
 }
 
@@ -121,6 +139,29 @@ pub extern "C" fn widagbe_split(code: &[u8], triples: &mut [u16], counts: &mut [
         (record { number = r; triples = now (triples .exit); counts = now (counts .exit) }) ⌝ }
 {
     triples::split(code, triples, counts)
+}
+
+// ---- codes as alist text
+
+#[no_mangle]
+pub extern "C" fn widagbe_import(text: &[u8], code: &mut [u8]) -> BytesAnswer
+    ensures { λ r. ⌜ ImportCall (now (text .entry)) (now (code .entry)) (record { number = r .number; bytes = r .bytes; list = now (code .exit) }) ⌝ }
+{
+    bytes_answer(importer::import(text, code))
+}
+
+#[no_mangle]
+pub extern "C" fn widagbe_export(code: &[u8], text: &mut [u8]) -> BytesAnswer
+    ensures { λ r. ⌜ ExportCall (now (code .entry)) (now (text .entry)) (record { number = r .number; bytes = r .bytes; list = now (text .exit) }) ⌝ }
+{
+    bytes_answer(exporter::export(code, text))
+}
+
+#[no_mangle]
+pub extern "C" fn widagbe_export_size(code: &[u8]) -> BytesAnswer
+    ensures { λ r. ⌜ SizeCall (now (code .entry)) (record { number = r .number; bytes = r .bytes }) ⌝ }
+{
+    bytes_answer(exporter::export_size(code))
 }
 
 // ---- costs
