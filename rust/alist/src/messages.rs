@@ -9,6 +9,7 @@ use crate::repair::repair;
 use crate::strict::explain;
 
 pub const STRICT_ALREADY: &str = " strict already, nothing changed";
+const THESE_ARE_RECORDS: &str = " these are code records: show and export take them";
 
 /// Why import refused a text with this number.
 pub fn of_text(text: &[u8], number: u32) -> Vec<String> {
@@ -17,7 +18,7 @@ pub fn of_text(text: &[u8], number: u32) -> Vec<String> {
         _ => unplaced(number),
     }];
     if text.starts_with(&HEADER_MARK) {
-        messages.push(" these are code records: show and export take them".into());
+        messages.push(THESE_ARE_RECORDS.into());
     } else if repair(text).is_ok() {
         messages.push(" alist repair makes a strict text of it".into());
     }
@@ -32,13 +33,15 @@ pub fn of_records(code: &[u8], number: u32) -> Vec<String> {
         }
         _ => unplaced(number),
     }];
-    if code
-        .iter()
-        .all(|byte| byte.is_ascii_digit() || byte.is_ascii_whitespace())
-    {
+    if looks_like_text(code) {
         messages.push(" this looks like alist text: show and import take it".into());
     }
     messages
+}
+
+fn looks_like_text(code: &[u8]) -> bool {
+    let is_of_text = |byte: &u8| byte.is_ascii_digit() || byte.is_ascii_whitespace();
+    !code.is_empty() && code.iter().all(is_of_text)
 }
 
 /// Why a text cannot be repaired.
@@ -47,7 +50,11 @@ pub fn not_repaired(text: &[u8], fault: &Fault) -> Vec<String> {
         18 => format!("{}: {}", place(text, fault.at), fault.what),
         _ => located(text, fault),
     };
-    vec![message, " not repaired".into()]
+    let hint = match text.starts_with(&HEADER_MARK) {
+        true => THESE_ARE_RECORDS,
+        false => " not repaired",
+    };
+    vec![message, hint.into()]
 }
 
 /// A refusal whose place this program does not find.

@@ -3,8 +3,9 @@
 mod common;
 
 use alist::{run, Streams};
-use common::{hamming, normal, text_of};
-use compare::codes::records;
+use common::{damaged, hamming, normal, text_of};
+use compare::codes::{records, tiny_code};
+use compare::random::Random;
 use interface::{Alist, BytesAnswer};
 use reference::SOUND;
 use std::ffi::OsString;
@@ -227,9 +228,37 @@ fn text_and_records_are_not_mistaken_for_each_other() {
     let (status, _, messages) = alist(&["export"], &text);
     assert_eq!(status, 1);
     assert!(messages.ends_with("alist text: show and import take it\n"));
-    let (status, _, messages) = alist(&["import"], &code);
-    assert_eq!(status, 1);
-    assert!(messages.ends_with("code records: show and export take them\n"));
+    for command in ["import", "repair"] {
+        let (status, _, messages) = alist(&[command], &code);
+        assert_eq!(status, 1);
+        assert!(messages.ends_with("code records: show and export take them\n"));
+    }
+    let (status, _, messages) = alist(&["export"], b"");
+    assert!(status == 1 && !messages.contains("text"), "{messages}");
+}
+
+/// Damaged texts and records, and any bytes, get an answer; each refusal has its place.
+#[test]
+fn a_place_is_found_for_each_refusal() {
+    let mut random = Random::new(9);
+    let mut statuses = [0; 2];
+    for _ in 0..3_000 {
+        let code = tiny_code(&mut random);
+        let text = damaged(&mut random, &normal(&code));
+        let records = damaged(&mut random, &records(&code));
+        let any: Vec<u8> = (0..random.below(30)).map(|_| random.any() as u8).collect();
+        for input in [text, records, any] {
+            for command in ["import", "export", "show", "repair"] {
+                let (status, _, messages) = alist(&[command], &input);
+                assert!(
+                    !messages.contains("no place was found"),
+                    "{messages}{input:?}"
+                );
+                statuses[usize::from(status)] += 1;
+            }
+        }
+    }
+    assert!(statuses[0] > 300 && statuses[1] > 1_000, "{statuses:?}");
 }
 
 /// A library with other numbers than the reference.
