@@ -9,9 +9,10 @@ use compare::random::Random;
 use interface::{Alist, BytesAnswer};
 use reference::SOUND;
 use std::ffi::OsString;
-use std::fs;
+use std::fs::{self, OpenOptions};
 use std::io::{self, Read, Write};
 use std::path::{Path, PathBuf};
+use std::process::Command;
 
 /// Status, standard output and messages.
 type Result = (u8, Vec<u8>, String);
@@ -117,12 +118,23 @@ fn links_and_permissions_stay() {
     );
 }
 
+/// What is no plain file is not replaced.
 #[cfg(unix)]
 #[test]
-fn a_device_is_written_to() {
-    let text = normal(&hamming());
-    assert_eq!(alist(&["import", "-", "/dev/null"], &text), silent(b""));
-    assert!(!fs::metadata("/dev/null").unwrap().is_file());
+fn a_pipe_is_written_to() {
+    use std::os::unix::fs::FileTypeExt;
+    let path = directory("pipe").join("pipe");
+    let made = Command::new("mkfifo").arg(&path).status();
+    assert!(made.expect("mkfifo").success());
+    // Open for both, it waits for no other side.
+    let open = OpenOptions::new().read(true).write(true).open(&path);
+    let (text, due) = (normal(&hamming()), records(&hamming()));
+    let line = ["import", "-", &path.display().to_string()];
+    assert_eq!(alist(&line, &text), silent(b""));
+    assert!(fs::metadata(&path).unwrap().file_type().is_fifo());
+    let mut written = vec![0; due.len()];
+    open.expect("a pipe").read_exact(&mut written).unwrap();
+    assert_eq!(written, due);
 }
 
 #[test]
