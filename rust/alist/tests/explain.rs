@@ -187,6 +187,11 @@ fn the_first_wrong_place_is_told() {
             "8:3 19: column 4 names row 4, but the last row is 3",
         ),
         (
+            "1 2 3\n",
+            "9 8 3\n",
+            "5:1 19: column 1 names row 9, but the last row is 3",
+        ),
+        (
             "1 3 0",
             "1 1 0",
             "7:3 19: column 3 names row 1 2 times, the other way it is 1",

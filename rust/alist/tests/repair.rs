@@ -290,6 +290,17 @@ fn what_is_ambiguous_is_refused() {
     }
 }
 
+/// A column without indices has a line of fill, an empty line or none.
+#[test]
+fn a_column_without_indices_is_refused_as_such() {
+    for fill in ["0\r\n", "\r\n", ""] {
+        let text = format!("4 1\r\n1 3\r\n1 0 1 1\r\n3\r\n1\r\n{fill}1\r\n1\r\n1 3 4\r\n");
+        let fault = repair(text.as_bytes()).expect_err("a fault");
+        let place = place(text.as_bytes(), fault.at);
+        assert_eq!((fault.number, place.line, place.column), (8, 3, 3));
+    }
+}
+
 #[test]
 fn a_repeated_index_is_refused() {
     let text = "3 2\n2 3\n2 2 2\n3 3\n1 2\n1 1\n2 2\n1 2 2\n1 3 3\n";
