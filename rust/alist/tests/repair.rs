@@ -293,8 +293,9 @@ fn what_is_ambiguous_is_refused() {
 /// A column without indices has a line of fill, an empty line or none.
 #[test]
 fn a_column_without_indices_is_refused_as_such() {
-    for fill in ["0\r\n", "\r\n", ""] {
-        let text = format!("4 1\r\n1 3\r\n1 0 1 1\r\n3\r\n1\r\n{fill}1\r\n1\r\n1 3 4\r\n");
+    for fill in ["0 0\r\n", "0\r\n", "\r\n", ""] {
+        let columns = format!("1 2\r\n{fill}1 2\r\n1 2\r\n");
+        let text = format!("4 2\r\n2 3\r\n2 0 2 2\r\n3 3\r\n{columns}1 3 4\r\n1 3 4\r\n");
         let fault = repair(text.as_bytes()).expect_err("a fault");
         let place = place(text.as_bytes(), fault.at);
         assert_eq!((fault.number, place.line, place.column), (8, 3, 3));
