@@ -105,7 +105,8 @@ impl Excess {
             )
         } else {
             format!(
-                "{axis} {own} names {other_axis} {other} {} times, the other way it is {}",
+                "{axis} {own} names {other_axis} {other} more often ({}) \
+                 than {other_axis} {other} names {axis} {own} ({})",
                 self.times, self.other_times
             )
         };

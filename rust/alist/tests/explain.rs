@@ -194,7 +194,7 @@ fn the_first_wrong_place_is_told() {
         (
             "1 3 0",
             "1 1 0",
-            "7:3 19: column 3 names row 1 2 times, the other way it is 1",
+            "7:3 19: column 3 names row 1 more often (2) than row 1 names column 3 (1)",
         ),
         (
             "1 2 4 6",
