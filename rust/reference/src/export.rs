@@ -85,7 +85,8 @@ impl Reference {
 
     pub(crate) fn try_export(self, code: &[u8], text: &mut [u8]) -> Result<usize, Cause> {
         let made = self.alist_text(&self.read_code(code)?);
-        let judged = self.judge(&[(Cause::ListTooShort, text.len() < made.len())]);
+        let short = self.is_short(text, made.len());
+        let judged = self.judge(&[(Cause::ListTooShort, short)]);
         self.write_bytes(judged, || made.clone(), text)
     }
 

@@ -65,7 +65,7 @@ faults! {
     ["export"]:
         ColumnsFalling, MaximaTurned, IndicesFromZero;
     ["import", "export"]:
-        WrittenAsFarAsRoom;
+        OneByteMoreNeeded, WrittenAsFarAsRoom;
     ["import", "export", "export_size"]:
         BytesToldShort, BytesWithRefusal;
     ["frames"]:

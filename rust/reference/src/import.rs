@@ -96,7 +96,8 @@ impl Reference {
         }
         causes.push((Cause::Places, !self.same_places(&columns, &rows)));
         causes.extend(self.causes_of_rows(bits, &rows));
-        causes.push((Cause::ListTooShort, code.len() < record_bytes(&rows)));
+        let short = self.is_short(code, record_bytes(&rows));
+        causes.push((Cause::ListTooShort, short));
         let judged = self.judge(&causes);
         self.write_bytes(judged, || records(bits, &rows), code)
     }
