@@ -4,10 +4,13 @@
 mod common;
 
 use alist::{explain, place};
-use common::{damaged, hamming, import, join, lines_of, text_of};
+use common::{damaged, hamming, import, lines_of, text_of, written};
+use compare::case::Case;
 use compare::codes::{code_of, small_code, tiny_code, Code};
+use compare::families::{conversions, Effort};
 use compare::random::Random;
 use std::collections::BTreeMap;
+use std::convert::Infallible;
 
 /// Compares the number of one text, and counts it.
 fn compare(text: &[u8], tally: &mut BTreeMap<u32, usize>) {
@@ -46,7 +49,7 @@ fn renumbered(random: &mut Random, text: &str) -> String {
         _ if count > 0 => lines[line][random.below(count)] = random.below(9),
         _ => {}
     }
-    lines.iter().map(|line| join(line) + "\n").collect()
+    written(&lines)
 }
 
 #[test]
@@ -70,6 +73,23 @@ fn the_number_is_the_librarys() {
         assert!(tally.get(&number) > Some(&20), "{number}: {tally:?}");
     }
     assert_eq!(tally.get(&7), Some(&1));
+}
+
+/// The texts with which the library is compared.
+#[test]
+fn the_number_is_the_librarys_on_the_families_of_the_comparison() {
+    let mut tally = BTreeMap::new();
+    for family in conversions() {
+        let Ok(()) = family.visit(Effort::Quick, |_, case| {
+            if let Case::Import { text, .. } = case {
+                compare(&text, &mut tally);
+            }
+            Ok::<(), Infallible>(())
+        });
+    }
+    for number in [0, 18, 19, 3, 4, 6, 7, 8] {
+        assert!(tally.get(&number) >= Some(&20), "{number}: {tally:?}");
+    }
 }
 
 #[test]

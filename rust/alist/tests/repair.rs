@@ -4,7 +4,7 @@
 mod common;
 
 use alist::{place, repair, Repaired};
-use common::{damaged, hamming, import, join, lines_of, normal, text_of};
+use common::{damaged, hamming, import, lines_of, normal, text_of, written};
 use compare::codes::{records, small_code, tiny_code, training_code, Code};
 use compare::random::Random;
 
@@ -112,10 +112,6 @@ fn leading_zeros(random: &mut Random, text: &str) -> String {
         _ => word.to_string(),
     };
     text.split_inclusive([' ', '\n']).map(word).collect()
-}
-
-fn written(lines: &[Vec<usize>]) -> String {
-    lines.iter().map(|line| join(line) + "\n").collect()
 }
 
 /// Variants of lists, then variants of lines, then variants of bytes.

@@ -1,6 +1,7 @@
 //! What the tests share.
 #![allow(dead_code)]
 
+use compare::alist::{self, Plan};
 use compare::codes::{records, Code};
 use compare::random::Random;
 use interface::Alist;
@@ -9,36 +10,12 @@ use reference::SOUND;
 /// A strict text of a code in normal form; columns with no check and rows of any
 /// degree are written as they are.
 pub fn text_of(code: &Code) -> String {
-    let mut columns = vec![Vec::new(); code.bits];
-    for (row, check) in code.checks.iter().enumerate() {
-        for &bit in check {
-            columns[bit].push(row + 1);
-        }
-    }
-    let rows = code.checks.iter();
-    let rows: Vec<Vec<usize>> = rows
-        .map(|check| check.iter().map(|bit| bit + 1).collect())
-        .collect();
-    let most = |lists: &[Vec<usize>]| lists.iter().map(Vec::len).max().unwrap_or(0);
-    let mut lines = vec![
-        vec![columns.len(), rows.len()],
-        vec![most(&columns), most(&rows)],
-        columns.iter().map(Vec::len).collect(),
-        rows.iter().map(Vec::len).collect(),
-    ];
-    for lists in [columns, rows] {
-        let most = most(&lists);
-        for mut list in lists {
-            list.resize(most, 0);
-            lines.push(list);
-        }
-    }
-    lines.iter().map(|line| join(line) + "\n").collect()
+    written(&Plan::of(code).lines())
 }
 
-pub fn join(numbers: &[usize]) -> String {
-    let words: Vec<String> = numbers.iter().map(usize::to_string).collect();
-    words.join(" ")
+/// Lines of numbers as text.
+pub fn written(lines: &[Vec<usize>]) -> String {
+    String::from_utf8(alist::text_of(lines)).expect("digits")
 }
 
 /// The numbers of a text's lines.
