@@ -32,6 +32,17 @@ pub enum Case {
         room: usize,
     },
     Decode(DecodeCase),
+    Import {
+        text: Vec<u8>,
+        room: usize,
+    },
+    Export {
+        code: Vec<u8>,
+        room: usize,
+    },
+    ExportSize {
+        code: Vec<u8>,
+    },
     Frames {
         input: Vec<u8>,
     },
@@ -61,6 +72,9 @@ impl Case {
             Case::Test { .. } => "test",
             Case::Extend { .. } => "extend",
             Case::Decode(_) => "decode",
+            Case::Import { .. } => "import",
+            Case::Export { .. } => "export",
+            Case::ExportSize { .. } => "export_size",
             Case::Frames { .. } => "frames",
         }
     }

@@ -31,6 +31,26 @@ pub fn room(code: &Code) -> [usize; 6] {
     ]
 }
 
+/// The length of the alist text: each number and a byte after it.
+pub fn text_bytes(code: &Code) -> usize {
+    let mut columns = vec![0; code.bits];
+    for &bit in code.checks.iter().flatten() {
+        columns[bit] += 1;
+    }
+    let rows: Vec<usize> = code.checks.iter().map(Vec::len).collect();
+    let [column, row] = [&columns, &rows].map(|degrees| degrees.iter().copied().max().unwrap_or(0));
+    let places: usize = rows.iter().sum();
+    let zeros = code.bits * column + code.checks.len() * row - 2 * places;
+    let bytes = |number: usize| number.checked_ilog10().unwrap_or(0) as usize + 2;
+    let sizes = [code.bits, code.checks.len(), column, row];
+    let degrees = sizes.iter().chain(&columns).chain(&rows);
+    let named = (1..).zip(&code.checks).flat_map(|(place, check)| {
+        let bits = check.iter().map(|bit| bit + 1);
+        bits.flat_map(move |bit| [bit, place])
+    });
+    2 * zeros + degrees.copied().chain(named).map(bytes).sum::<usize>()
+}
+
 /// Where each check's record starts.
 pub fn check_starts(code: &Code) -> Vec<usize> {
     let mut starts = Vec::new();

@@ -40,8 +40,8 @@ const OF_RECORDS: [Damage; 10] = [
 /// The kinds of damage that an entry can meet.
 pub fn damages_of(entry: Entry) -> Vec<Damage> {
     let others: &[Damage] = match entry {
-        Entry::Read => &[],
-        Entry::Split => &[Damage::Room],
+        Entry::Read | Entry::ExportSize => &[],
+        Entry::Split | Entry::Export => &[Damage::Room],
         Entry::Test => &[Damage::WordLength, Damage::WordEntry],
         Entry::Extend => &[Damage::WordLength, Damage::WordEntry, Damage::Room],
         Entry::Decode => &[
@@ -220,6 +220,7 @@ fn shorten(random: &mut Random, draft: &mut Draft, entry: Entry) {
     let room = match entry {
         Entry::Split => &mut draft.room[random.below(2)],
         Entry::Extend => &mut draft.point_room,
+        Entry::Export => &mut draft.text_room,
         _ => &mut draft.room[random.below(6)],
     };
     *room = if random.once_in(4) {

@@ -1,7 +1,7 @@
 //! Drafts of calls: sound inputs for every entry that takes code records.
 
 use crate::case::{Case, DecodeCase};
-use crate::codes::{records, room, Code};
+use crate::codes::{records, room, text_bytes, Code};
 use crate::codewords::Codewords;
 use crate::random::Random;
 use interface::Settings;
@@ -14,14 +14,18 @@ pub enum Entry {
     Test,
     Extend,
     Decode,
+    Export,
+    ExportSize,
 }
 
-pub const ENTRIES: [Entry; 5] = [
+pub const ENTRIES: [Entry; 7] = [
     Entry::Read,
     Entry::Split,
     Entry::Test,
     Entry::Extend,
     Entry::Decode,
+    Entry::Export,
+    Entry::ExportSize,
 ];
 
 /// Inputs and lengths for a call of any such entry.
@@ -35,6 +39,7 @@ pub struct Draft {
     /// Room for triples, counts, sums, values, rows and word.
     pub room: [usize; 6],
     pub point_room: usize,
+    pub text_room: usize,
 }
 
 impl Draft {
@@ -56,13 +61,15 @@ impl Draft {
             costs: random_costs(random, &codeword),
             room: room(&code),
             point_room: code.variables(),
+            text_room: text_bytes(&code),
             code,
         }
     }
 
     /// Lends lists longer than needed, each by a few entries.
     pub fn lengthen(&mut self, random: &mut Random) {
-        for room in self.room.iter_mut().chain([&mut self.point_room]) {
+        let others = [&mut self.point_room, &mut self.text_room];
+        for room in self.room.iter_mut().chain(others) {
             *room += random.below(4);
         }
     }
@@ -90,6 +97,11 @@ impl Draft {
                 costs: self.costs.clone(),
                 room: self.room,
             }),
+            Entry::Export => Case::Export {
+                code,
+                room: self.text_room,
+            },
+            Entry::ExportSize => Case::ExportSize { code },
         }
     }
 }

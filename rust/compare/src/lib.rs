@@ -1,5 +1,7 @@
 //! Comparison with the reference, of any library, decoder or frame program.
 
+pub mod alist;
+pub mod alist_damage;
 pub mod case;
 pub mod codes;
 pub mod codewords;
@@ -12,5 +14,6 @@ pub mod program;
 pub mod random;
 pub mod reflection;
 pub mod reflections;
+pub mod round_trips;
 pub mod tally;
 pub mod text;

@@ -1,7 +1,7 @@
 //! What a call left: its answer and every lent list, with the memory around it.
 
 use crate::case::{Case, DecodeCase};
-use interface::{Decoder, Library, Lists, WordAnswer};
+use interface::{Alist, BytesAnswer, Decoder, Library, Lists, WordAnswer};
 use reference::Reference;
 
 /// Entries kept before and after each lent list, which no call may touch.
@@ -73,6 +73,10 @@ impl Outcome {
         Outcome::new(answer.number, &[("place", answer.place)])
     }
 
+    fn of_bytes(answer: BytesAnswer) -> Outcome {
+        Outcome::new(answer.number, &[("bytes", answer.bytes)])
+    }
+
     fn with(mut self, list: (&'static str, Vec<i64>)) -> Outcome {
         self.lists.push(list);
         self
@@ -104,6 +108,7 @@ impl Outcome {
 /// What a case leaves with the reference, which has every entry.
 pub fn outcome(reference: Reference, case: &Case) -> Outcome {
     called(&reference, case)
+        .or_else(|| converted(&reference, case))
         .or_else(|| printed(|input| reference.frames(input).into(), case))
         .expect("a case is a call or an input")
 }
@@ -127,7 +132,26 @@ pub fn decoded(decoder: &dyn Decoder, case: &Case) -> Option<Outcome> {
     }
 }
 
-/// What a case leaves with a library; nothing unless it is a call.
+/// What a case leaves with one who has import and export; nothing unless it is a
+/// call of these.
+pub fn converted(alist: &dyn Alist, case: &Case) -> Option<Outcome> {
+    match case {
+        Case::Import { text, room } => {
+            let mut code = bytes(*room);
+            let answer = alist.import(text, code.list());
+            Some(Outcome::of_bytes(answer).with(code.seen("code")))
+        }
+        Case::Export { code, room } => {
+            let mut text = bytes(*room);
+            let answer = alist.export(code, text.list());
+            Some(Outcome::of_bytes(answer).with(text.seen("text")))
+        }
+        Case::ExportSize { code } => Some(Outcome::of_bytes(alist.export_size(code))),
+        _ => None,
+    }
+}
+
+/// What a case leaves with a library; nothing unless it is a call of document 01.
 pub fn called(library: &dyn Library, case: &Case) -> Option<Outcome> {
     Some(match case {
         Case::Read { code } => {
@@ -171,7 +195,7 @@ pub fn called(library: &dyn Library, case: &Case) -> Option<Outcome> {
             Outcome::of_word(answer).with(point.seen("point"))
         }
         Case::Decode(case) => decode(library, case),
-        Case::Frames { .. } => return None,
+        _ => return None,
     })
 }
 

@@ -10,7 +10,7 @@ use std::collections::BTreeMap;
 
 /// Every entry with all the numbers it can give; of the frame program the kinds of
 /// lines, and nothing for the end without one.
-const KINDS: [(&str, &str); 10] = [
+const KINDS: [(&str, &str); 13] = [
     ("read", "0,1,2,3,4,5,6,7,8,9"),
     ("split", "0,1,2,3,4,5,6,7,8,9,10"),
     ("gaussian", "0,10,11,14"),
@@ -20,14 +20,26 @@ const KINDS: [(&str, &str); 10] = [
     ("test", "0,1,2,3,4,5,6,7,8,9,12,15,17"),
     ("extend", "0,1,2,3,4,5,6,7,8,9,10,12,15,17"),
     ("decode", "0,1,2,3,4,5,6,7,8,9,10,11,12,13,16,17"),
+    ("import", "0,3,4,6,7,8,10,18,19"),
+    ("export", "0,1,2,3,4,5,6,7,8,9,10"),
+    ("export_size", "0,1,2,3,4,5,6,7,8,9"),
     (
         "frames",
         ",W,U,N,R 1,R 2,R 3,R 4,R 5,R 6,R 8,R 10,R 11,R 13",
     ),
 ];
 
-/// What must happen in some run.
-const EVENTS: [&str; 18] = [
+/// What must happen in some run, and in some accepted import and export.
+const EVENTS: [(&str, &[&str]); 3] = [
+    ("decode", &OF_RUNS),
+    ("import", &OF_TEXTS),
+    (
+        "export",
+        &["text in a longer list", "text in a list of its length"],
+    ),
+];
+
+const OF_RUNS: [&str; 18] = [
     "half above zero",
     "half below zero",
     "limited above",
@@ -46,6 +58,17 @@ const EVENTS: [&str; 18] = [
     "not settled",
     "place above zero",
     "a thousand iterations",
+];
+
+const OF_TEXTS: [&str; 8] = [
+    "column not rising",
+    "leading zero",
+    "separator first",
+    "no separator last",
+    "separators side by side",
+    "one line",
+    "records in a longer list",
+    "records in a list of their length",
 ];
 
 /// Runs of more rows than this are not watched.
@@ -73,8 +96,28 @@ impl Tally {
             Some((_, number)) => self.count(format!("{} {number}", case.entry())),
             None => self.add_lines(&outcome.text),
         }
-        if let Case::Decode(case) = case {
-            self.add_run(case, outcome);
+        match case {
+            Case::Decode(case) => self.add_run(case, outcome),
+            Case::Import { text, room } if is_accepted(outcome) => {
+                self.add_events(text_events(text));
+                self.count(match outcome.fields[1].1 == *room {
+                    true => "records in a list of their length",
+                    false => "records in a longer list",
+                });
+            }
+            Case::Export { room, .. } if is_accepted(outcome) => {
+                self.count(match outcome.fields[1].1 == *room {
+                    true => "text in a list of its length",
+                    false => "text in a longer list",
+                });
+            }
+            _ => (),
+        }
+    }
+
+    fn add_events<const N: usize>(&mut self, events: [(&'static str, bool); N]) {
+        for (event, _) in events.into_iter().filter(|&(_, happened)| happened) {
+            self.count(event);
         }
     }
 
@@ -165,9 +208,48 @@ impl Tally {
 fn of_entry(entry: &str) -> Vec<String> {
     let mut all = KINDS.iter();
     let (_, kinds) = all.find(|(other, _)| *other == entry).expect("an entry");
-    let events = EVENTS.iter().filter(|_| entry == "decode");
+    let events = EVENTS.iter().filter(|(other, _)| *other == entry);
+    let events = events.flat_map(|(_, events)| events.iter());
     let kinds = kinds.split(',').map(|kind| format!("{entry} {kind}"));
     kinds.chain(events.map(|event| event.to_string())).collect()
+}
+
+fn is_accepted(outcome: &Outcome) -> bool {
+    outcome.fields[0].1 == 0
+}
+
+/// What an accepted text has.
+fn text_events(text: &[u8]) -> [(&'static str, bool); 6] {
+    let text = std::str::from_utf8(text).expect("digits and separators");
+    let words: Vec<&str> = text.split_ascii_whitespace().collect();
+    let number = |word: &&str| word.parse::<usize>().expect("a number");
+    let sizes: Vec<usize> = words[..3].iter().map(number).collect();
+    let (bits, checks, most) = (sizes[0], sizes[1], sizes[2]);
+    let columns: Vec<usize> = words[4 + bits + checks..].iter().map(number).collect();
+    let falls = |column: &[usize]| {
+        column
+            .windows(2)
+            .any(|pair| pair[0] > pair[1] && pair[1] > 0)
+    };
+    let separators = text.split(|byte: char| byte.is_ascii_digit());
+    let leads = |word: &&str| word.len() > 1 && word.starts_with('0');
+    [
+        (
+            "column not rising",
+            columns[..bits * most].chunks(most).any(falls),
+        ),
+        ("leading zero", words.iter().any(leads)),
+        ("separator first", !text.starts_with(words[0])),
+        (
+            "no separator last",
+            text.ends_with(|byte: char| byte.is_ascii_digit()),
+        ),
+        (
+            "separators side by side",
+            separators.map(str::len).any(|length| length > 1),
+        ),
+        ("one line", !text.contains('\n')),
+    ]
 }
 
 fn quotient_events(problem: &Problem, iterate: &Iterate) -> [(&'static str, bool); 6] {

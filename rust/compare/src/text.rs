@@ -39,7 +39,9 @@ macro_rules! lists {
         impl Part for Vec<$entry> {
             fn text(&self) -> String {
                 let bytes = self.iter().flat_map(|entry| entry.to_be_bytes());
-                let text: String = bytes.map(|byte| format!("{byte:02x}")).collect();
+                let halves = bytes.flat_map(|byte| [byte >> 4, byte & 15]);
+                let digit = |half: u8| char::from_digit(half.into(), 16);
+                let text: String = halves.filter_map(digit).collect();
                 if text.is_empty() { "-".into() } else { text }
             }
 
@@ -141,5 +143,8 @@ cases! {
     "extend": code, word, room => { Case::Extend { code, word, room } }
     "decode": code, settings, costs, room =>
         { Case::Decode(DecodeCase { code, settings, costs, room }) }
+    "import": text, room => { Case::Import { text, room } }
+    "export": code, room => { Case::Export { code, room } }
+    "export_size": code => { Case::ExportSize { code } }
     "frames": input => { Case::Frames { input } }
 }

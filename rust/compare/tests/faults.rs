@@ -5,6 +5,7 @@ use compare::case::Case;
 use compare::families::{all, Effort};
 use compare::outcome::{outcome, Outcome};
 use compare::reflections::check_reflections;
+use compare::round_trips::check_round_trips;
 use reference::cause::Cause;
 use reference::fault::{self, Fault};
 use reference::{Reference, SOUND};
@@ -89,5 +90,27 @@ fn reflections_catch_what_breaks_them() {
     ] {
         let faulty = with(fault);
         assert!(check_reflections(&faulty, &faulty).is_err(), "{fault:?}");
+    }
+}
+
+#[test]
+fn round_trips_catch_what_breaks_them() {
+    for fault in [
+        Fault::LeadingZerosRefused,
+        Fault::SecondSeparatorRefused,
+        Fault::ColumnOrderDemanded,
+        Fault::LastLineFeedLeftOut,
+        Fault::LeadingZeroWritten,
+        Fault::SpaceAtLineEnd,
+        Fault::ListsNotFilled,
+        Fault::ColumnsFalling,
+        Fault::IndicesFromZero,
+        Fault::RestCleared,
+        Fault::WrittenAsFarAsRoom,
+        Fault::BytesToldShort,
+        Fault::BytesWithRefusal,
+        Fault::OneByteMoreNeeded,
+    ] {
+        assert!(check_round_trips(&with(fault)).is_err(), "{fault:?}");
     }
 }

@@ -1,14 +1,17 @@
 //! The compiled library against the reference.
 
 use compare::comparison::compare;
-use compare::families::{calls, Effort};
-use compare::outcome::called;
+use compare::families::{calls, conversions, Effort};
+use compare::outcome::{called, converted};
 use compare::reflections::assert_reflects;
+use compare::round_trips::assert_round_trips;
 use widagbe::Widagbe;
 
 const ENTRIES: [&str; 9] = [
     "read", "split", "gaussian", "hard", "erasing", "reflect", "test", "extend", "decode",
 ];
+
+const CONVERSIONS: [&str; 3] = ["import", "export", "export_size"];
 
 #[test]
 fn the_library_equals_the_reference() {
@@ -18,6 +21,19 @@ fn the_library_equals_the_reference() {
 }
 
 #[test]
+fn import_and_export_equal_the_reference() {
+    let families = calls().into_iter().chain(conversions()).collect();
+    let tally = compare(|case| converted(&Widagbe, case), families, Effort::Full).unwrap();
+    println!("{}", tally.summary());
+    tally.assert_complete(&CONVERSIONS, 20);
+}
+
+#[test]
 fn the_library_reflects() {
     assert_reflects(&Widagbe, &Widagbe);
+}
+
+#[test]
+fn round_trips_of_the_library() {
+    assert_round_trips(&Widagbe);
 }

@@ -2,7 +2,7 @@
 
 use interface::WordAnswer;
 
-/// A cause; its discriminant is its number. The last two are outcomes of a run.
+/// A cause; its discriminant is its number. 16 and 17 are outcomes of a run.
 #[derive(Clone, Copy, Debug, PartialEq, Eq)]
 pub enum Cause {
     Cut = 1,
@@ -22,6 +22,8 @@ pub enum Cause {
     WordEntry = 15,
     Undecided = 16,
     NotCodeword = 17,
+    Text = 18,
+    Places = 19,
 }
 
 /// 0 for success, otherwise the cause's number.

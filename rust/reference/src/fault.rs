@@ -27,12 +27,14 @@ macro_rules! faults {
 }
 
 faults! {
-    ["read", "split", "test", "extend", "decode"]:
+    ["read", "split", "test", "extend", "decode", "export", "export_size"]:
         CutMarkJudged, SizesReadTogether, HighIndexJudgedLast, TriplesJudgedAtOnce;
     ["read"]:
         SizesWithRefusal;
     ["split", "decode"]:
-        LastTripleTurned, CountsOfRows, RestCleared;
+        LastTripleTurned, CountsOfRows;
+    ["split", "decode", "import", "export"]:
+        RestCleared;
     ["test", "extend"]:
         LastOddCheck, OddCheckFromOne;
     ["extend"]:
@@ -52,20 +54,53 @@ faults! {
         TotalsTogether, SumsOfNextIteration, NotSettledAtLimit, OneIterationMore,
         AuxiliariesUndecided, HighestUndecided, SameWordEachTime, WordWrittenAlways,
         SplitBeforeJudged, ShortWordPassesUnwritten, SignedTolerance, WeightIn16Bits;
+    ["import"]:
+        LeadingZerosRefused, NumbersIn16Bits, CountIn32Bits, NumbersAfterIgnored, TabSeparates,
+        CarriageReturnSeparates, NulSeparates, SeparatorFirstRefused, NoSeparatorLastRefused,
+        SecondSeparatorRefused, OneLineRefused, MaximaNotJudged, FillerNotJudged,
+        NoDegreeRefused, PlacesAsSets, PlacesCountedOnly, ColumnOrderDemanded, HighIndexIsFive,
+        DegreesJudgedFirst;
+    ["export", "export_size"]:
+        LastLineFeedLeftOut, LeadingZeroWritten, SpaceAtLineEnd, ListsNotFilled;
+    ["export"]:
+        ColumnsFalling, MaximaTurned, IndicesFromZero;
+    ["import", "export"]:
+        OneByteMoreNeeded, WrittenAsFarAsRoom;
+    ["import", "export", "export_size"]:
+        BytesToldShort, BytesWithRefusal;
     ["frames"]:
         RoomJudgedBeforeChecks, RoomJudgedBeforeIndices, MarkAfterCodeIsNine,
         HalfMarkEndsQuietly, CostJudgedBeforeCut;
 }
 
-const OF_RECORDS: &[&str] = &["read", "split", "test", "extend", "decode"];
+const OF_RECORDS: &[&str] = &[
+    "read",
+    "split",
+    "test",
+    "extend",
+    "decode",
+    "export",
+    "export_size",
+];
 const OF_CHANNELS: &[&str] = &["gaussian", "hard", "erasing"];
 const OF_FIELDS: &[Cause] = &[Mark, Size, Degree, IndexTooHigh, IndexNotRising];
+const OF_IMPORT: &[Cause] = &[
+    Text,
+    Places,
+    Size,
+    Degree,
+    IndexNotRising,
+    TooManyTriples,
+    UnusedBit,
+    ListTooShort,
+];
 
 /// Limits to move.
 const LIMITS: &[(&[&str], &[usize])] = &[
     (OF_RECORDS, &[3, 32, 2_048, 4_096, 8_192]),
     (OF_CHANNELS, &[32_767]),
     (&["decode"], &[1_000, 1_023, 16_384, 65_535]),
+    (&["import"], &[3, 32, 2_048, 4_096, 8_192, 65_535]),
     (&["frames"], &[32, 512, 1_000, 1_023, 1_024]),
 ];
 
@@ -81,12 +116,13 @@ const TOGETHER: &[(&[&str], &[Cause])] = &[
     ),
     (&["decode"], &[Setting, Lengths, Cost, ListTooShort]),
     (&["decode", "frames"], &[Undecided, NotCodeword]),
+    (&["import"], OF_IMPORT),
 ];
 
 /// Causes that are judged alone.
 const ALONE: &[(&[&str], &[Cause])] = &[
     (OF_RECORDS, OF_FIELDS),
-    (&["split"], &[ListTooShort]),
+    (&["split", "export"], &[ListTooShort]),
     (&["frames"], OF_FIELDS),
     (&["frames"], &[UnusedBit, ListTooShort, Setting, Cost]),
 ];

@@ -1,12 +1,16 @@
-//! A decoder written from document 01 alone: plain, slow where that is
-//! clearer, and independent of every other decoder here. On request it is wrong
+//! A library written from documents 01 and 02 alone: plain, slow where that is
+//! clearer, and independent of every other one here. On request it is wrong
 //! in one place (`fault`), for tests of the comparisons.
 
+mod alist;
+mod bytes;
 pub mod cause;
 mod channel;
 mod decoder;
+mod export;
 pub mod fault;
 mod frames;
+mod import;
 pub mod iteration;
 pub mod quotient;
 pub mod records;
@@ -16,7 +20,10 @@ mod words;
 
 use cause::number_of;
 use fault::Fault;
-use interface::{Channel, CodeAnswer, DecodeAnswer, Decoder, Library, Lists, Settings, WordAnswer};
+use interface::{
+    Alist, BytesAnswer, Channel, CodeAnswer, DecodeAnswer, Decoder, Library, Lists, Settings,
+    WordAnswer,
+};
 
 /// The reference, with its fault if it has one.
 #[derive(Clone, Copy, Debug)]
@@ -73,5 +80,19 @@ impl Library for Reference {
     fn extend(&self, code: &[u8], word: &[u8], point: &mut [u8]) -> WordAnswer {
         let result = self.try_extend(code, word, point);
         result.err().unwrap_or_default()
+    }
+}
+
+impl Alist for Reference {
+    fn import(&self, text: &[u8], code: &mut [u8]) -> BytesAnswer {
+        self.bytes_answer(self.try_import(text, code))
+    }
+
+    fn export(&self, code: &[u8], text: &mut [u8]) -> BytesAnswer {
+        self.bytes_answer(self.try_export(code, text))
+    }
+
+    fn export_size(&self, code: &[u8]) -> BytesAnswer {
+        self.bytes_answer(self.try_export_size(code))
     }
 }

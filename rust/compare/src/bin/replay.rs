@@ -17,7 +17,9 @@ fn subject(name: &str) -> Option<Subject> {
         #[cfg(feature = "library")]
         "library" => Some(|case| {
             use compare::{outcome::*, program};
-            called(&widagbe::Widagbe, case).or_else(|| printed(program::frames, case))
+            called(&widagbe::Widagbe, case)
+                .or_else(|| converted(&widagbe::Widagbe, case))
+                .or_else(|| printed(program::frames, case))
         }),
         _ => None,
     }

@@ -2,6 +2,8 @@
 
 mod channels;
 mod decoding;
+mod exports;
+mod imports;
 mod programs;
 mod records;
 mod words;
@@ -90,16 +92,24 @@ impl Family {
 /// The families of every entry.
 pub fn all() -> Vec<Family> {
     let mut families = calls();
+    families.extend(conversions());
     families.extend(program());
     families
 }
 
-/// The families of the library's calls.
+/// The families of the library's calls, but for those of import and export alone.
 pub fn calls() -> Vec<Family> {
     let mut families = records::families();
     families.extend(words::families());
     families.extend(channels::families());
     families.extend(decoding::families());
+    families
+}
+
+/// The families of import and export.
+pub fn conversions() -> Vec<Family> {
+    let mut families = imports::families();
+    families.extend(exports::families());
     families
 }
 

@@ -1,0 +1,45 @@
+//! Import and export of the reference alone: every cause is met, and round trips end
+//! where they began.
+
+use compare::alist::{text_of, Plan};
+use compare::codes::{records, small_code};
+use compare::families::{calls, conversions, Effort};
+use compare::outcome::converted;
+use compare::random::Random;
+use compare::round_trips::assert_round_trips;
+use compare::tally::Tally;
+use interface::Alist;
+use reference::SOUND;
+use std::convert::Infallible;
+
+#[test]
+fn every_cause_is_met() {
+    let mut tally = Tally::default();
+    for family in calls().into_iter().chain(conversions()) {
+        let Ok(()) = family.visit(Effort::Quick, |_, case| {
+            if let Some(outcome) = converted(&SOUND, &case) {
+                tally.add(&case, &outcome);
+            }
+            Ok::<(), Infallible>(())
+        });
+    }
+    println!("{}", tally.summary());
+    tally.assert_complete(&["import", "export", "export_size"], 20);
+}
+
+#[test]
+fn round_trips_of_the_reference() {
+    assert_round_trips(&SOUND);
+}
+
+/// The harness writes texts too, apart from the reference.
+#[test]
+fn the_reference_exports_what_the_harness_writes() {
+    let mut random = Random::new(13);
+    for _ in 0..300 {
+        let code = small_code(&mut random);
+        let mut text = vec![0; SOUND.export_size(&records(&code)).bytes];
+        SOUND.export(&records(&code), &mut text);
+        assert_eq!(text, text_of(&Plan::of(&code).lines()));
+    }
+}
