@@ -5,7 +5,7 @@ use std::env;
 use std::fmt::{Display, Write};
 use std::path::{Path, PathBuf};
 use std::process::{Command, Output};
-use widagbe::{Channel, Decoder, Library, OwnLists, Widagbe};
+use widagbe::{Alist, Channel, Decoder, Library, OwnLists, Widagbe};
 
 #[allow(dead_code)]
 #[path = "../../widagbe/examples/decode.rs"]
@@ -24,6 +24,12 @@ fn the_c_example_prints_what_is_stored() {
     for standard in ["-std=c99", "-std=c17"] {
         assert_eq!(run_c("../../examples/c/main.c", standard), EXPECTED);
     }
+}
+
+#[test]
+fn the_c_example_of_alist_text_prints_what_is_stored() {
+    let expected = include_str!("../../../examples/alist/expected.txt");
+    assert_eq!(run_c("../../examples/c/alist.c", "-std=c99"), expected);
 }
 
 #[test]
@@ -80,6 +86,19 @@ fn calls() -> String {
     line(&mut text, "split", &[number]);
     line(&mut text, "", &triples);
     line(&mut text, "", &counts);
+
+    let (mut alist, mut records) = ([0; 64], [0; CODE.len() + 1]);
+    let size = Widagbe.export_size(&CODE);
+    let (export_size, bytes) = (size.number as usize, size.bytes);
+    line(&mut text, "export_size", &[export_size, bytes]);
+    let written = Widagbe.export(&CODE, &mut alist);
+    let (export, bytes) = (written.number as usize, written.bytes);
+    line(&mut text, "export", &[export, bytes]);
+    line(&mut text, "", &alist);
+    let written = Widagbe.import(&alist[..bytes], &mut records);
+    let (import, bytes) = (written.number as usize, written.bytes);
+    line(&mut text, "import", &[import, bytes]);
+    line(&mut text, "", &records);
 
     let samples = [-1.5, 0.25, 2.0, -0.125, 1.0];
     let mut costs = vec![0; n];

@@ -31,6 +31,16 @@ int main(void)
     SHOW(triples);
     SHOW(counts);
 
+    uint8_t text[64] = {0}, records[sizeof code + 1] = {0};
+    widagbe_bytes_answer written = widagbe_export_size(LIST(code));
+    printf("export_size %" PRIu32 " %zu\n", written.number, written.bytes);
+    written = widagbe_export(LIST(code), LIST(text));
+    printf("export %" PRIu32 " %zu\n", written.number, written.bytes);
+    SHOW(text);
+    written = widagbe_import(text, written.bytes, LIST(records));
+    printf("import %" PRIu32 " %zu\n", written.number, written.bytes);
+    SHOW(records);
+
     static const float samples[N] = {-1.5f, 0.25f, 2.0f, -0.125f, 1.0f};
     int16_t costs[N] = {0}, result[N + 1] = {0};
     printf("hard %" PRIu32 "\n", widagbe_channel_hard(300.0f, LIST(samples), LIST(costs)));
