@@ -1,7 +1,7 @@
 -- Import and export belong together: the text of a sound code is accepted and gives the code, an export gives its records back, and an import has its export.
 -- Assumes nothing.
 use Rattle.integers.proofs.Prelude.{_≡_, sym, ap, ap₂, _∙_, Bool, true, not, List, [], _∷_, ℕ, _≤_, arith, ltb-false, le-ltb}
-use Rattle.integers.proofs.Prelude.{length, drop, take-append-seam}
+use Rattle.integers.proofs.Prelude.{length, drop, take-append-seam, take-at}
 use mathlib.Core.Logic.{_↔_}
 use Rattle.lists.specs.Tabulated.{written}
 use Rattle.model.specs.Causes.{_if_, firstOf, short}
@@ -128,12 +128,20 @@ import-trip s old a e h =
     let records : result a ≡ recordsOf k = ap result e ∙ write-result c (recordsOf k) old none in
     let code : codeOf (result a) ≡ k = ap codeOf records ∙ code-back k in
     let judged : judge (result a) ≡ 0 = ap judge records ∙ accepted k .1 sound-code in
+    let t = alistOf (codeOf (result a)) in
+    let long : a .bytes ≡ length (recordsOf k) = ap (λ (w : Writing). w .bytes) done in
+    let text : (old′ : List ℕ) → length t ≤ length old′ → (exporter (result a) old′ .number ≡ 0) × (result (exporter (result a) old′) ≡ t) =
+    λ old′ fits.
+    let none′ = export-clear (result a) old′ .1 (judged, fits) in
+    (none′, write-result (judge (result a) ∷ exportCauses (codeOf (result a)) old′) t old′ none′) in
+    let same : (old′ : List ℕ) → a .bytes ≤ length old′ → importer t old′ ≡ record { number = 0; bytes = a .bytes; list = written (result a) old′ } =
+    λ old′ fits. rw (code, records, long) (text-import (alistOf k) k old′ (code-trip k sound-code .judged) (code-trip k sound-code .code) (omega arith)) in
     record {
       accepted = judged;
-      text = λ old′ fits.
-          let none′ = export-clear (result a) old′ .1 (judged, fits) in
-          (none′, write-result (judge (result a) ∷ exportCauses (codeOf (result a)) old′) (alistOf (codeOf (result a))) old′ none′);
-      same = λ old′ fits.
-          let long : a .bytes ≡ length (recordsOf k) = ap (λ (w : Writing). w .bytes) done in
-          rw (code, records, long) (text-import (alistOf k) k old′ (code-trip k sound-code .judged) (code-trip k sound-code .code) (omega arith));
+      text = text;
+      same = same;
+      again = λ old′ old″ fits room.
+          ap (λ (b : List ℕ). result (exporter b old″))
+          (ap result (same old′ fits) ∙ take-at (result a) (drop (length (result a)) old′) (a .bytes) (omega (arith, ap length records)))
+          ∙ text old″ room .1;
     }

@@ -1,5 +1,5 @@
 -- Document 02, L1, of every text and code: what 18 and 19 mean, what is imported, and that import and export belong together. Statements only; the proofs are in
--- proofs/Spelling.antt, proofs/Agreement.antt, proofs/AlistForm.antt and proofs/AlistTrips.antt.
+-- proofs/Spelling.antt (how numbers are written), proofs/Agreement.antt (19), proofs/AlistText.antt (all of a text) and proofs/AlistTrips.antt (import and export).
 use mathlib.Core.Path.{_≡_}
 use mathlib.Core.Bool.{true}
 use mathlib.Core.List.{List, [], _∷_, _++_, map}
@@ -107,11 +107,14 @@ result a = take (a .bytes) (a .list)
 pub record ExportTrip (b : List ℕ) (a : Writing) : Type 0 where
   pub back : (old : List ℕ) → length b ≤ length old → importer (result a) old ≡ record { number = 0; bytes = length b; list = written b old }
 
--- an accepted import a, whose records b are those of an accepted code, exported: the text t is a normal form, which gives the same records, and whose export is the
--- same text
+-- an accepted import a, whose records are those of an accepted code: their export is a normal form of the text
 pub record ImportTrip (a : Writing) : Type 0 where
   pub accepted : judge (result a) ≡ 0
   pub text : (old : List ℕ) → length (alistOf (codeOf (result a))) ≤ length old
       → (exporter (result a) old .number ≡ 0) × (result (exporter (result a) old) ≡ alistOf (codeOf (result a)))
+  -- importing it gives the same records
   pub same : (old : List ℕ) → a .bytes ≤ length old
       → importer (alistOf (codeOf (result a))) old ≡ record { number = 0; bytes = a .bytes; list = written (result a) old }
+  -- and exporting these the same text
+  pub again : (old old′ : List ℕ) → a .bytes ≤ length old → length (alistOf (codeOf (result a))) ≤ length old′
+      → result (exporter (result (importer (alistOf (codeOf (result a))) old)) old′) ≡ alistOf (codeOf (result a))
