@@ -1,79 +1,61 @@
+-- `sides::row_degrees` meets its contract: the degrees of the records so far, and their sum. Assumes nothing.
+use Rattle.integers.proofs.Prelude.{_≡_, refl, sym, ap, _∙_, List, [], map, ℕ, _-_, _*_, _≤_, arith, add-one, needs, length, getD}
+use Rattle.lists.specs.Tabulated.{tab, over}
+use Rattle.lists.specs.Entries.{total}
+use Rattle.lists.proofs.Tabulated.{length-over, over-next, over-whole, tab-map}
+use Rattle.model.specs.Records.{checksIn, judgeCheck}
+use Rattle.model.proofs.Accepted.{SoundRecord, record-sound, length-checks}
+use Rattle.records.proofs.Walk.{Walk, walk-start, walk-next, walk-check, walk-judged, walk-total}
 use Rattle.sides.proofs.row_degrees.Statement.{statement}
 use Rattle.sides.proofs.row_degrees.Tie as tie
-use Rattle.sides.proofs.row_degrees.Reads as reads
-use Rattle.sides.proofs.row_degrees.Lts as lts
-use Rattle.records.proofs.after_check.Reads as after-check-reads
-use Rattle.records.proofs.degree.Reads as degree-reads
+
+-- the degree of check k, of m
+abbrev degreeAt : List ℕ → ℕ → ℕ → ℕ
+degreeAt s m k = length (getD (checksIn m s) k [])
+
+all-degrees : (s : List ℕ) (m : ℕ) → tab m (degreeAt s m) ≡ map length (checksIn m s)
+all-degrees s m = ap (λ (k : ℕ). tab k (degreeAt s m)) (sym (length-checks m s)) ∙ tab-map length (checksIn m s) []
 
 abbrev Inv-loop : tie.InvT-loop
-Inv-loop s bits degrees₀ rest₀ sum₀ j₀ j-end degrees rest sum j = ?
+Inv-loop s bits degrees₀ rest₀ sum₀ j₀ j-end degrees rest sum j =
+    Walk s j rest × (degrees ≡ over j (degreeAt s (length degrees₀)) degrees₀) × (sum ≡ total length (checksIn j s)) × (sum ≤ 255 * j) × (j ≤ length degrees₀)
 
 abbrev μ-loop : tie.MeasureT-loop
-μ-loop s bits degrees₀ rest₀ sum₀ j₀ j-end degrees rest sum j = ?
+μ-loop s bits degrees₀ rest₀ sum₀ j₀ j-end degrees rest sum j = length degrees₀ - j
 
--- src/lib.rt:24:5
 loop-holds : tie.Need-loop-holds Inv-loop μ-loop
-loop-holds c = ?
+unfolding checksIn
+loop-holds c = (walk-start _, refl, refl, omega arith, omega arith)
 
--- src/lib.rt:25:13
-degree-requires : tie.Need-degree-requires Inv-loop μ-loop
-degree-requires c κs = ?
+long : (c : tie.At-loop Inv-loop μ-loop) → length (c .loop .degrees) ≡ length (c .before .before .before .args .degrees .now)
+long c = ap length (c .loop .inv .1) ∙ length-over (c .loop .j) _ _ (c .loop .inv .4)
 
--- src/lib.rt:26:22
-cast-degrees : tie.Need-cast-degrees Inv-loop μ-loop
-cast-degrees c = ?
+-- the check record at hand
+sound : (c : tie.In-loop Inv-loop μ-loop) → SoundRecord (c .before .before .before .before .args .bits) (c .before .loop .rest .now)
+sound c = record-sound _ _ (walk-judged _ _ _ (c .before .loop .inv .0) _ _ (c .loop-test .taken) (c .before .before .before .before .pre .0))
 
--- src/lib.rt:26:9
-mul-degrees : tie.Need-mul-degrees Inv-loop μ-loop
-mul-degrees c = ?
-
--- src/lib.rt:26:9
-slice-write-degrees : tie.Need-slice-write-degrees Inv-loop μ-loop
-slice-write-degrees c = ?
-
--- src/lib.rt:27:9
-add-sum : tie.Need-add-sum Inv-loop μ-loop
-add-sum c = ?
-
--- src/lib.rt:28:13
-after-check-requires : tie.Need-after-check-requires Inv-loop μ-loop
-after-check-requires c κs = ?
-
--- src/lib.rt:24:9
-add-j : tie.Need-add-j Inv-loop μ-loop
-add-j c = ?
-
--- src/lib.rt:24:5
-loop-less : tie.Need-loop-less Inv-loop μ-loop
-loop-less c = ?
-
--- src/lib.rt:24:5
 loop-again : tie.Need-loop-again Inv-loop μ-loop
-loop-again c = ?
+loop-again c =
+    let d = c .before .degree .ensures in
+    let l = c .before .before .before .loop in
+    let w = l .inv .0 in (
+      walk-next _ _ _ w _ (c .after-check .ensures),
+      rw (add-one (l .j), l .inv .1) (over-next (l .j) _ _ _ (c .before .before .loop-test .taken) (ap length (walk-check _ _ _ w _ (c .before .before .loop-test .taken)) ∙ sym (d .1))),
+      omega (arith, d .1, l .inv .2, walk-total _ _ _ w length),
+      omega arith,
+      omega arith,
+    )
 
--- src/lib.rt:17:1
-same-length : tie.Need-same-length Inv-loop μ-loop
-same-length c = ?
-
--- src/lib.rt:17:1
 returns : tie.Need-returns Inv-loop μ-loop
-returns c = ?
+returns c =
+    let l = c .before .loop in
+    let a = c .before .before .before .before .args in
+    let n = length (a .degrees .now) in
+    let e : l .j ≡ n = omega arith in
+    (rw e at (l .inv .1) ∙ over-whole n _ _ (omega arith) ∙ all-degrees (a .s .now) n, rw e at (l .inv .2))
 
 pub row-degrees-spec : {M : Type 1} → statement M
 row-degrees-spec =
-    tie.close
-    (tie.spec
-    Inv-loop
-    μ-loop
-    loop-holds
-    degree-requires
-    cast-degrees
-    mul-degrees
-    slice-write-degrees
-    add-sum
-    after-check-requires
-    add-j
-    loop-less
-    loop-again
-    same-length
-    returns)
+    tie.close (tie.spec Inv-loop μ-loop loop-holds (λ c κs. omega (arith, sound c .room)) (λ c. search needs) (λ c. search needs)
+    (λ c. omega (arith, long (c .before .before))) (λ c. search needs) (λ c κs. sound (c .before) .room) (λ c. search needs) (λ c. search needs)
+    loop-again (λ c. long (c .before)) returns)
