@@ -1,6 +1,5 @@
 -- How the columns of a code are found: how many checks each bit lies in, where its column stands, and how a check is put into the columns of its bits.
 -- Definitions only.
-use mathlib.Core.Path.{_≡_}
 use mathlib.Core.Bool.{cond}
 use mathlib.Core.List.{List, [], _∷_}
 use Prim.Native.Nat.{ℕ, _+_, _≤_, _<_}
@@ -24,8 +23,8 @@ Counted l most = (b : ℕ) → b < length l → getD l b 0 ≤ most
 
 -- ---- the places
 -- column b begins where those before it end
-abbrev pub Starts : List ℕ → List ℕ → Type 0
-Starts degrees next = (b : ℕ) → b < length degrees → getD next b 0 ≡ total (λ d. d) (take b degrees)
+abbrev pub startOf : List ℕ → ℕ → ℕ
+startOf degrees b = total (λ d. d) (take b degrees)
 
 -- number j at the next place of each bit of a check
 abbrev pub placed : ℕ → List ℕ → List ℕ → List ℕ → List ℕ

@@ -4,12 +4,12 @@ ghost use mathlib.Core.List.{map};
 ghost use Prim.Native.Nat.{suc, _+_, _≤_, _<_};
 ghost use lib.ListN.{length};
 ghost use Rattle.lists.specs.Entries.{total};
-ghost use Rattle.lists.specs.Tabulated.{tab};
+ghost use Rattle.lists.specs.Tabulated.{tab, over};
 ghost use Rattle.model.specs.Limits.{mostBits, mostChecks};
 ghost use Rattle.model.specs.Records.{indices, checksIn, judgeCheck, judgeChecks};
 ghost use Rattle.model.specs.Alist.{columnFrom};
 ghost use Rattle.model.specs.AlistClaims.{joined};
-ghost use Rattle.sides.specs.Columns.{counted, Counted, Starts, placed, Room};
+ghost use Rattle.sides.specs.Columns.{counted, Counted, startOf, placed, Room};
 ghost use Rattle.text.specs.Appended.{Appended};
 use model::MOST_BITS;
 
@@ -87,8 +87,8 @@ pub fn column_degrees(s: &[u8], checks: usize, degrees: &mut [u16])
 
 // Where each column begins, the columns standing one behind the other.
 fn starts(degrees: &[u16], next: &mut [u16; MOST_BITS])
-    requires { ⌜ (length (now degrees) ≤ mostBits) × (total (λ d. d) (now degrees) ≤ 65535) ⌝ }
-    ensures { λ _. ⌜ Starts (now (degrees .entry)) (now (next .exit)) ⌝ }
+    requires { ⌜ (length (now degrees) ≤ mostBits) × (length (now next) ≡ mostBits) × (total (λ d. d) (now degrees) ≤ 65535) ⌝ }
+    ensures { λ _. ⌜ now (next .exit) ≡ over (length (now (degrees .entry))) (startOf (now (degrees .entry))) (now (next .entry)) ⌝ }
 {
     let mut at = 0usize;
     for b in 0..degrees.len() {
@@ -99,8 +99,8 @@ fn starts(degrees: &[u16], next: &mut [u16; MOST_BITS])
 
 // Number j at the next place of the column of each bit of the check record that `s` begins with.
 fn place(s: &[u8], bits: usize, j: usize, next: &mut [u16; MOST_BITS], entries: &mut [u16])
-    requires { ⌜ (judgeCheck bits (now s) ≡ 0) × (bits ≤ mostBits) × (j ≤ 65535) × (length (now entries) ≤ 65535) ⌝ }
-    requires { ⌜ Room (indices (now s)) (now next) (now entries) ⌝ }
+    requires { ⌜ (judgeCheck bits (now s) ≡ 0) × (bits ≤ mostBits) × (length (now next) ≡ mostBits) ⌝ }
+    requires { ⌜ (j ≤ 65535) × (length (now entries) ≤ 65535) × Room (indices (now s)) (now next) (now entries) ⌝ }
     ensures next { λ _. ⌜ now (next .exit) ≡ counted (indices (now (s .entry))) (now (next .entry)) ⌝ }
     ensures entries { λ _. ⌜ now (entries .exit) ≡ placed j (now (next .entry)) (indices (now (s .entry))) (now (entries .entry)) ⌝ }
 {
