@@ -41,8 +41,8 @@ module _ {n : ℕ} {c l k : List ℕ} {i x : ℕ} (t : Turn n c l k i x) where
   new =
       none-in (eqb x) (take i c) 0
       (λ k m.
-          let o : k < i = omega (arith, length-take-le i c (omega (arith, t .below))) in
-          rw (getD-take i c k 0 o) (ne-eqb x (getD c k 0) (λ e. omega (arith, rising-apart n 0 c (t .rising) k i o (t .below), t .is))))
+      let o : k < i = omega (arith, length-take-le i c (omega (arith, t .below))) in
+      rw (getD-take i c k 0 o) (ne-eqb x (getD c k 0) (λ e. omega (arith, rising-apart n 0 c (t .rising) k i o (t .below), t .is))))
 
   pub turn-value : getD k x 0 ≡ getD l x 0
   turn-value = ap (λ (m : List ℕ). getD m x 0) (t .so-far) ∙ counted-at (take i c) l x inside ∙ rw new (omega arith)

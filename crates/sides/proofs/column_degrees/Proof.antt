@@ -1,65 +1,77 @@
+-- `sides::column_degrees` meets its contract: the degrees among the checks so far. Assumes nothing.
+use Rattle.integers.proofs.Prelude.{_≡_, refl, sym, ap, _∙_, ℕ, _+_, _-_, _≤_, _<_, arith, needs, length, getD}
+use Rattle.lists.specs.Tabulated.{tab}
+use Rattle.lists.specs.Entries.{total}
+use Rattle.lists.proofs.Tabulated.{length-tab, getD-tab, tab-same}
+use Rattle.model.specs.Records.{checksIn, indices, judgeCheck}
+use Rattle.model.specs.Alist.{columnFrom}
+use Rattle.model.proofs.Accepted.{record-sound, length-checks}
+use Rattle.records.proofs.Walk.{Walk, walk-start, walk-next, walk-checks, walk-judged}
+use Rattle.sides.specs.Columns.{has, counted, Counted}
+use Rattle.sides.proofs.Columns.{degreesOf, degrees-are, degrees-few, degrees-next}
 use Rattle.sides.proofs.column_degrees.Statement.{statement}
 use Rattle.sides.proofs.column_degrees.Tie as tie
-use Rattle.sides.proofs.column_degrees.Reads as reads
-use Rattle.sides.proofs.column_degrees.Lts as lts
-use Rattle.records.proofs.after_check.Reads as after-check-reads
-use Rattle.sides.proofs.count.Reads as count-reads
-use Rattle.slices.proofs.clear_u16.Reads as clear-u16-reads
 
 abbrev Inv-loop : tie.InvT-loop
-Inv-loop s checks degrees₀ bits rest₀ j₀ degrees rest j = ?
+Inv-loop s checks degrees₀ bits rest₀ j₀ degrees rest j = Walk s j rest × (degrees ≡ degreesOf bits (checksIn j s)) × (j ≤ checks)
 
 abbrev μ-loop : tie.MeasureT-loop
-μ-loop s checks degrees₀ bits rest₀ j₀ degrees rest j = ?
+μ-loop s checks degrees₀ bits rest₀ j₀ degrees rest j = checks - j
 
--- src/lib.rt:78:5
-clear-u16-requires : tie.Need-clear-u16-requires Inv-loop μ-loop
-clear-u16-requires c κs = ?
+-- the number of bits
+size : (c : tie.After-clear-u16 Inv-loop μ-loop) → length (c .clear-u16 .last .0) ≡ length (c .before .before .before .before .args .degrees .now)
+size c = ap length (c .clear-u16 .ensures) ∙ length-tab _ _
 
--- src/lib.rt:81:5
 loop-holds : tie.Need-loop-holds Inv-loop μ-loop
-loop-holds c = ?
+unfolding checksIn
+loop-holds c =
+    let k = c .before .before in
+    (walk-start _, k .clear-u16 .ensures ∙ ap (λ (n : ℕ). tab n (λ _. 0)) (sym (size k)), omega arith)
 
--- src/lib.rt:82:9
+-- the check record at hand
+judged : (c : tie.In-loop Inv-loop μ-loop)
+    → judgeCheck (length (c .before .before .before .before .clear-u16 .last .0)) (c .before .loop .rest .now) ≡ 0
+judged c =
+    let k = c .before .before .before .before in
+    walk-judged _ _ _ (c .before .loop .inv .0) _ _ (c .loop-test .taken) (rw (size k) (k .before .before .before .before .pre .0))
+
+long : (c : tie.At-loop Inv-loop μ-loop) → length (c .loop .degrees) ≡ length (c .before .before .before .clear-u16 .last .0)
+long c = ap length (c .loop .inv .1) ∙ length-tab _ _
+
+few : (c : tie.In-loop Inv-loop μ-loop) → Counted (c .before .loop .degrees) 65534
+few c b h =
+    let l = c .before in
+    let k = l .before .before .before in
+    let s = k .before .before .before .before in
+    let n = length (k .clear-u16 .last .0) in
+    let cs = checksIn (l .loop .j) (s .args .s .now) in
+    rw (l .loop .inv .1) (omega (arith, degrees-few n cs b (omega (arith, long l)), length-checks (l .loop .j) (s .args .s .now), s .pre .2))
+
 count-requires : tie.Need-count-requires Inv-loop μ-loop
-count-requires c κs = ?
+count-requires c κs =
+    let l = c .before .before in
+    let k = l .before .before .before in
+    ((judged (c .before), long l, omega (arith, size k, k .before .before .before .before .pre .1)), few (c .before))
 
--- src/lib.rt:83:13
-after-check-requires : tie.Need-after-check-requires Inv-loop μ-loop
-after-check-requires c κs = ?
-
--- src/lib.rt:81:9
-add-j : tie.Need-add-j Inv-loop μ-loop
-add-j c = ?
-
--- src/lib.rt:81:5
-loop-less : tie.Need-loop-less Inv-loop μ-loop
-loop-less c = ?
-
--- src/lib.rt:81:5
 loop-again : tie.Need-loop-again Inv-loop μ-loop
-loop-again c = ?
+loop-again c =
+    let r = c .before .before .before in
+    let l = r .before .before .before in
+    let k = l .before .before .before in
+    let s = k .before .before .before .before in
+    let n = length (k .clear-u16 .last .0) in
+    let w = l .loop .inv .0 in
+    (walk-next _ _ _ w _ (c .after-check .ensures), r .count .ensures ∙ rw (l .loop .inv .1, walk-checks _ _ _ w) (degrees-next n (checksIn (l .loop .j) (s .args .s .now)) _), omega arith)
 
--- src/lib.rt:74:1
-same-length : tie.Need-same-length Inv-loop μ-loop
-same-length c = ?
-
--- src/lib.rt:74:1
 returns : tie.Need-returns Inv-loop μ-loop
-returns c = ?
+returns c =
+    let l = c .before in
+    let k = l .before .before .before in
+    let a = k .before .before .before .before .args in
+    let e : l .loop .j ≡ a .checks = omega arith in
+    l .loop .inv .1 ∙ rw (size k, e) (degrees-are (length (a .degrees .now)) (checksIn (a .checks) (a .s .now)))
 
 pub column-degrees-spec : {M : Type 1} → statement M
 column-degrees-spec =
-    tie.close
-    (tie.spec
-    Inv-loop
-    μ-loop
-    clear-u16-requires
-    loop-holds
-    count-requires
-    after-check-requires
-    add-j
-    loop-less
-    loop-again
-    same-length
-    returns)
+    tie.close (tie.spec Inv-loop μ-loop (λ c κs. tt) loop-holds count-requires (λ c κs. record-sound _ _ (judged (c .before .before .before .before)) .room)
+    (λ c. search needs) (λ c. search needs) loop-again (λ c. long (c .before) ∙ size (c .before .before .before .before)) returns)

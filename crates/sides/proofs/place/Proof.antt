@@ -60,9 +60,11 @@ loop-again : tie.Need-loop-again Inv-loop μ-loop
 loop-again c =
     let i = c .before .before in
     let l = i .before .before in
-    let a = l .before .before .before .before .args in
-    (turn-next (turn i) _ (ap (λ (n : ℕ). n + 1) (c .index2 .ensures .0)),
-    rw (here c, l .loop .inv .1) (placed-next (a .j) (a .next .now) (indices (a .s .now)) (a .entries .now) (l .loop .i) (i .index .result) (turn i .below) (i .index .ensures .0)), omega arith)
+    let a = l .before .before .before .before .args in (
+      turn-next (turn i) _ (ap (λ (n : ℕ). n + 1) (c .index2 .ensures .0)),
+      rw (here c, l .loop .inv .1) (placed-next (a .j) (a .next .now) (indices (a .s .now)) (a .entries .now) (l .loop .i) (i .index .result) (turn i .below) (i .index .ensures .0)),
+      omega arith,
+    )
 
 returns : tie.Need-returns Inv-loop μ-loop
 returns c =
@@ -76,18 +78,18 @@ bit c = omega (arith, turn-bit (turn c), c .before .before .before .before .befo
 pub place-spec : {M : Type 1} → statement M
 place-spec =
     tie.close (tie.spec Inv-loop μ-loop (λ c κs. omega (arith, sound (c .before .before) .room)) (λ c. (sym (counted-none _), refl, omega arith)) index-requires
-     (λ c. omega (arith, bit c))
-     bit
-     (λ c κs. tt)
-     (λ c. omega arith)
-     (λ c. omega arith)
-     room
-     (λ c. omega arith)
-     (λ c. omega (arith, room c, long (c .before .before .before .before)))
-     (λ c. omega (arith, bit (c .before .before)))
-     (λ c. bit (c .before .before))
-     (λ c. search needs)
-     (λ c. search needs)
-     loop-again
-     (λ c. long (c .before))
-     returns)
+    (λ c. omega (arith, bit c))
+    bit
+    (λ c κs. tt)
+    (λ c. omega arith)
+    (λ c. omega arith)
+    room
+    (λ c. omega arith)
+    (λ c. omega (arith, room c, long (c .before .before .before .before)))
+    (λ c. omega (arith, bit (c .before .before)))
+    (λ c. bit (c .before .before))
+    (λ c. search needs)
+    (λ c. search needs)
+    loop-again
+    (λ c. long (c .before))
+    returns)

@@ -1,62 +1,38 @@
+-- `sides::starts` meets its contract: the columns so far begin where they should. Assumes nothing.
+use Rattle.integers.proofs.Prelude.{_≡_, refl, sym, _∙_, _+_, _-_, _≤_, arith, add-one, needs, length, getD}
+use Rattle.lists.specs.Tabulated.{over}
+use Rattle.lists.proofs.Tabulated.{over-next}
+use Rattle.lists.proofs.Entries.{total-next, total-part}
+use Rattle.sides.specs.Columns.{startOf}
 use Rattle.sides.proofs.starts.Statement.{statement}
 use Rattle.sides.proofs.starts.Tie as tie
-use Rattle.sides.proofs.starts.Reads as reads
-use Rattle.sides.proofs.starts.Lts as lts
-use Rattle.slices.proofs.index.Reads as index-reads
 
 abbrev Inv-loop : tie.InvT-loop
-Inv-loop degrees next₀ at₀ b₀ b-end next at b = ?
+Inv-loop degrees next₀ at₀ b₀ b-end next at b = (next ≡ over b (startOf degrees) next₀) × (at ≡ startOf degrees b) × (b ≤ length degrees)
 
 abbrev μ-loop : tie.MeasureT-loop
-μ-loop degrees next₀ at₀ b₀ b-end next at b = ?
+μ-loop degrees next₀ at₀ b₀ b-end next at b = length degrees - b
 
--- src/lib.rt:94:5
-loop-holds : tie.Need-loop-holds Inv-loop μ-loop
-loop-holds c = ?
+few : (c : tie.At-loop Inv-loop μ-loop) → c .loop .at ≤ 65535
+few c = let s = c .before .before in omega (arith, c .loop .inv .1, total-part (λ d. d) (s .args .degrees .now) (c .loop .b), s .pre .2)
 
--- src/lib.rt:95:19
-cast-next : tie.Need-cast-next Inv-loop μ-loop
-cast-next c = ?
-
--- src/lib.rt:95:9
-mul-next : tie.Need-mul-next Inv-loop μ-loop
-mul-next c = ?
-
--- src/lib.rt:95:9
-element-write-next : tie.Need-element-write-next Inv-loop μ-loop
-element-write-next c = ?
-
--- src/lib.rt:96:29
-mul-index : tie.Need-mul-index Inv-loop μ-loop
-mul-index c = ?
-
--- src/lib.rt:96:29
-shared-slice-read-index : tie.Need-shared-slice-read-index Inv-loop μ-loop
-shared-slice-read-index c = ?
-
--- src/lib.rt:96:15
-index-requires : tie.Need-index-requires Inv-loop μ-loop
-index-requires c κs = ?
-
--- src/lib.rt:96:9
-add-at : tie.Need-add-at Inv-loop μ-loop
-add-at c = ?
-
--- src/lib.rt:94:9
-add-b : tie.Need-add-b Inv-loop μ-loop
-add-b c = ?
-
--- src/lib.rt:94:5
-loop-less : tie.Need-loop-less Inv-loop μ-loop
-loop-less c = ?
-
--- src/lib.rt:94:5
 loop-again : tie.Need-loop-again Inv-loop μ-loop
-loop-again c = ?
+loop-again c =
+    let l = c .before .before .before in
+    let s = l .before .before in
+    let ds = s .args .degrees .now in
+    let h = c .before .before .loop-test .taken in
+    let e = c .index .ensures .0 in (
+      rw (add-one (l .loop .b), l .loop .inv .0) (over-next (l .loop .b) (startOf ds) _ _ (omega (arith, s .pre .0, s .pre .1)) (sym (l .loop .inv .1))),
+      rw (add-one (l .loop .b)) (omega (arith, e, l .loop .inv .1, total-next (λ d. d) ds (l .loop .b) 0 h)),
+      omega arith,
+    )
 
--- src/lib.rt:89:1
 returns : tie.Need-returns Inv-loop μ-loop
-returns c = ?
+returns c =
+    let l = c .before in
+    let e : l .loop .b ≡ length (l .before .before .args .degrees .now) = omega arith in
+    rw e at (l .loop .inv .0)
 
 pub starts-spec : {M : Type 1} → statement M
 starts-spec =
@@ -64,15 +40,15 @@ starts-spec =
     (tie.spec
     Inv-loop
     μ-loop
-    loop-holds
-    cast-next
-    mul-next
-    element-write-next
-    mul-index
-    shared-slice-read-index
-    index-requires
-    add-at
-    add-b
-    loop-less
+    (λ c. (refl, refl, omega arith))
+    (λ c. omega (arith, few (c .before)))
+    (λ c. omega (arith, c .before .before .before .pre .0))
+    (λ c. omega (arith, c .before .before .before .pre .0))
+    (λ c. omega (arith, c .before .before .before .pre .0))
+    (λ c. search needs)
+    (λ c κs. tt)
+    (λ c. omega (arith, few (c .before .before .before)))
+    (λ c. search needs)
+    (λ c. search needs)
     loop-again
     returns)

@@ -1,0 +1,53 @@
+-- The columns of checks: how long they are, one check more, and where each begins. Assumes nothing.
+use Rattle.integers.proofs.Prelude.{_≡_, refl, sym, ap, _∙_, Bool, true, false, cond, List, [], _∷_, _++_, append-assoc, append-nil, ℕ, suc, _+_, _≤_, _<_, arith, eqb, length, getD}
+use Rattle.integers.proofs.Prelude.{length-append}
+use Rattle.lists.specs.Tabulated.{tab}
+use Rattle.lists.specs.Entries.{some, total}
+use Rattle.lists.proofs.Tabulated.{length-tab, getD-tab, tab-same}
+use Rattle.lists.proofs.Entries.{total-append}
+use Rattle.model.specs.Alist.{columnFrom}
+use Rattle.sides.specs.Columns.{has, counted}
+
+-- ---- how long they are
+pub total-has : (b : ℕ) (cs : List (List ℕ)) → total (has b) cs ≤ length cs
+total-has b [] = omega arith
+total-has b (c ∷ cs) = by (some (eqb b) c) (total-has b cs)
+  where
+    by : (t : Bool) → total (has b) cs ≤ length cs → cond t 1 0 + total (has b) cs ≤ suc (length cs)
+    by true h = omega arith
+    by false h = omega arith
+
+pub column-length : (j b : ℕ) (cs : List (List ℕ)) → length (columnFrom j b cs) ≡ total (has b) cs
+unfolding columnFrom
+column-length j b [] = refl
+column-length j b (c ∷ cs) = by (some (eqb b) c) (column-length (suc j) b cs)
+  where
+    by : (t : Bool) → length (columnFrom (suc j) b cs) ≡ total (has b) cs → length (cond t (suc j ∷ []) [] ++ columnFrom (suc j) b cs) ≡ cond t 1 0 + total (has b) cs
+    by true h = omega arith
+    by false h = omega arith
+
+-- ---- the degrees of n columns
+abbrev pub degreesOf : ℕ → List (List ℕ) → List ℕ
+degreesOf n cs = tab n (λ b. total (has b) cs)
+
+pub degrees-are : (n : ℕ) (cs : List (List ℕ)) → degreesOf n cs ≡ tab n (λ b. length (columnFrom 0 b cs))
+degrees-are n cs = tab-same n (λ b. total (has b) cs) (λ b. length (columnFrom 0 b cs)) (λ b h. sym (column-length 0 b cs))
+
+pub degrees-few : (n : ℕ) (cs : List (List ℕ)) (b : ℕ) → b < n → getD (degreesOf n cs) b 0 ≤ length cs
+degrees-few n cs b h = omega (arith, getD-tab n (λ b. total (has b) cs) b 0 h, total-has b cs)
+
+pub degrees-next : (n : ℕ) (cs : List (List ℕ)) (c : List ℕ) → counted c (degreesOf n cs) ≡ degreesOf n (cs ++ (c ∷ []))
+degrees-next n cs c =
+    let f : ℕ → ℕ = λ b. total (has b) cs in
+    ap (λ (k : ℕ). tab k (λ b. getD (tab n f) b 0 + has b c)) (length-tab n f)
+    ∙ tab-same n (λ b. getD (tab n f) b 0 + has b c) (λ b. total (has b) (cs ++ (c ∷ [])))
+    (λ b h. rw (getD-tab n f b 0 h, total-append (has b) cs (c ∷ [])) (omega arith))
+
+-- ---- one check more
+pub column-last : (j b : ℕ) (cs : List (List ℕ)) (c : List ℕ)
+    → columnFrom j b (cs ++ (c ∷ [])) ≡ columnFrom j b cs ++ cond (some (eqb b) c) (suc (j + length cs) ∷ []) []
+unfolding columnFrom
+column-last j b [] c = let z : j + 0 ≡ j = omega arith in rw z (append-nil _)
+column-last j b (d ∷ cs) c =
+    let e : suc j + length cs ≡ j + suc (length cs) = omega arith in
+    rw (column-last (suc j) b cs c, e) (sym (append-assoc (cond (some (eqb b) d) (suc j ∷ []) []) (columnFrom (suc j) b cs) _))
