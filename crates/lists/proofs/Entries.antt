@@ -1,6 +1,7 @@
 -- Tests and sums of a list's entries, and the first index that passes. Assumes nothing.
 use Rattle.integers.proofs.Prelude.{_≡_, refl, sym, ap, subst, _∙_, Bool, true, false, not, cond, _&&_, _||_, List, [], _∷_, _++_, ℕ, zero, suc, _+_, _≤_}
-use Rattle.integers.proofs.Prelude.{_<_, arith, add-one, ltb-true, ltb-false, T, ltb, length, getD, take, drop, take-append-drop, drop-of-length-le, take-suc, drop-cons}
+use Rattle.integers.proofs.Prelude.{_<_, arith, add-one, ltb-true, ltb-false, T, ltb, length, getD, take, drop}
+use Rattle.integers.proofs.Prelude.{take-append-drop, drop-of-length-le, take-suc, drop-cons}
 use mathlib.Core.Bool.{or-assoc, or-false}
 use Rattle.lists.specs.Tabulated.{tab}
 use Rattle.lists.specs.Entries.{every, some, total, first}

@@ -1,6 +1,6 @@
 -- One more at each bit of a check, and a number put at each bit's place: bit by bit. Assumes nothing.
-use Rattle.integers.proofs.Prelude.{_≡_, refl, sym, ap, _∙_, false, List, [], _∷_, _++_, ℕ, _+_, _≤_, _<_, arith, add-one, eq-eqb, ne-eqb, eqb, length, getD, take, set}
-use Rattle.integers.proofs.Prelude.{length-set, length-take-le, take-suc, getD-take}
+use Rattle.integers.proofs.Prelude.{_≡_, refl, sym, ap, _∙_, false, List, [], _∷_, _++_, ℕ, _+_, _≤_, _<_, arith, add-one, eq-eqb, ne-eqb, eqb, length, getD}
+use Rattle.integers.proofs.Prelude.{take, set, length-set, length-take-le, take-suc, getD-take}
 use Rattle.lists.specs.Entries.{some}
 use Rattle.lists.proofs.Tabulated.{length-tab, getD-tab, tab-same, tab-getD, tab-set}
 use Rattle.lists.proofs.Entries.{some-last, none-in}

@@ -1,5 +1,5 @@
 -- The rows of checks one behind the other: one check more, their length, and the list that they fill. Assumes nothing.
-use Rattle.integers.proofs.Prelude.{_≡_, refl, ap, _∙_, List, [], _∷_, _++_, map, append-assoc, append-nil, ℕ, suc, _+_, _≤_, arith, length, drop, length-append}
+use Rattle.integers.proofs.Prelude.{_≡_, refl, ap, _∙_, List, [], _∷_, _++_, map, append-assoc, append-nil, ℕ, suc, _+_, _≤_, arith, length, length-append}
 use Rattle.integers.proofs.Prelude.{length-map, drop-of-length-le}
 use Rattle.lists.specs.Entries.{total}
 use Rattle.model.specs.AlistClaims.{joined}

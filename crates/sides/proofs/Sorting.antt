@@ -1,7 +1,7 @@
 -- The columns one behind the other in a list, filled check by check: a store at the next place of one column leaves the others. Assumes nothing.
-use Rattle.integers.proofs.Prelude.{_≡_, refl, sym, ap, _∙_, Bool, true, false, cond, _||_, List, [], _∷_, _++_, append-nil, ℕ, zero, suc, _+_, _-_, _≤_, _<_, arith, add-one}
-use Rattle.integers.proofs.Prelude.{ltb-true, ltb-false, eqb-true, eqb-false, eqb, ltb, length, getD, take, drop, set, length-append, length-set, length-drop, take-append-drop}
-use Rattle.integers.proofs.Prelude.{drop-drop}
+use Rattle.integers.proofs.Prelude.{_≡_, refl, sym, ap, _∙_, Bool, true, false, cond, _||_, List, [], _∷_, _++_, append-nil, ℕ, zero, suc, _+_, _-_, _≤_, _<_}
+use Rattle.integers.proofs.Prelude.{arith, add-one, ltb-true, ltb-false, eqb-true, eqb-false, eqb, ltb, length, getD, take, drop, set}
+use Rattle.integers.proofs.Prelude.{length-append, length-set, length-drop, take-append-drop, drop-drop}
 use lib.Seq.{take-set-le, drop-set-lt, drop-set-add, take-suc-set}
 use Rattle.lists.specs.Tabulated.{tab}
 use Rattle.lists.specs.Entries.{some, total}
@@ -86,7 +86,9 @@ module _ (n : ℕ) (whole column : ℕ → List ℕ) (next : List ℕ) (j : ℕ)
       by : (t : Bool) → ltb x b ≡ t
           → take (length (column b)) (drop (start whole b) (set entries (getD next x 0) j)) ≡ take (length (column b)) (drop (start whole b) entries)
       by true e = store-before (start whole b) (length (column b)) (getD next x 0) entries j (omega (arith, here x h, ends-before whole x b (ltb-true x b e)))
-      by false e = store-behind (start whole b) (length (column b)) (getD next x 0) entries j (omega (arith, here x h, ends-before whole b x (omega (arith, ltb-false x b e))))
+      by false e =
+          let less : b < x = omega (arith, ltb-false x b e) in
+          store-behind (start whole b) (length (column b)) (getD next x 0) entries j (omega (arith, here x h, ends-before whole b x less))
 
   -- column b after the check
   placed-part : (b low : ℕ) (c entries : List ℕ) → b < n → length (column b) ≤ length (whole b) → start whole b + length (whole b) ≤ length entries
@@ -105,7 +107,8 @@ module _ (n : ℕ) (whole column : ℕ → List ℕ) (next : List ℕ) (j : ℕ)
           → (start whole b + length (whole b) ≤ length after → Rising n (suc x) c → Open whole column c
           → take (length (column b)) (drop (start whole b) after) ≡ column b
           → take (length (column b) + has b c) (drop (start whole b) (placed j next c after)) ≡ grown j c column b)
-          → take (length (column b) + cond (t || some (eqb b) c) 1 0) (drop (start whole b) (placed j next c after)) ≡ column b ++ cond (t || some (eqb b) c) (j ∷ []) []
+          → take (length (column b) + cond (t || some (eqb b) c) 1 0) (drop (start whole b) (placed j next c after))
+          ≡ column b ++ cond (t || some (eqb b) c) (j ∷ []) []
       by true p ih =
           let q = eqb-true b x p in
           let k : length (column b) < length (whole b) = rw q (o 0 (omega arith)) in
@@ -117,19 +120,20 @@ module _ (n : ℕ) (whole column : ℕ → List ℕ) (next : List ℕ) (j : ℕ)
           ih (omega (arith, length-set entries (getD next x 0) j)) (r .2) more (other b x entries (r .1) (eqb-false b x p) m (o 0 (omega arith)) ∙ e)
 
 -- one check more
-pub sorted-next : (n : ℕ) (whole column after : ℕ → List ℕ) (next entries c : List ℕ) (j : ℕ) → Sorted n whole column next entries
-    → n ≤ length next → start whole n ≤ length entries → Rising n 0 c → Open whole column c → ((b : ℕ) → b < n → length (column b) ≤ length (whole b))
-    → ((b : ℕ) → after b ≡ grown j c column b) → Sorted n whole after (counted c next) (placed j next c entries)
-sorted-next n whole column after next entries c j s w f r o m g =
-    record {
-      here =
-          λ b h.
-          omega (arith, counted-at c next b (omega arith), s .here b h, ap length (g b), length-grown j c column b);
-      part =
-          λ b h.
-          rw (g b, length-grown j c column b)
-          (placed-part n whole column next j (s .here) b 0 c entries h (m b h) (omega (arith, ends-before whole b n h)) r o (s .part b h));
-    }
+module _ {n : ℕ} {whole column : ℕ → List ℕ} {next entries : List ℕ} (s : Sorted n whole column next entries) where
+  pub sorted-next : (after : ℕ → List ℕ) (c : List ℕ) (j : ℕ) → n ≤ length next → start whole n ≤ length entries → Rising n 0 c → Open whole column c
+      → ((b : ℕ) → b < n → length (column b) ≤ length (whole b)) → ((b : ℕ) → after b ≡ grown j c column b)
+      → Sorted n whole after (counted c next) (placed j next c entries)
+  sorted-next after c j w f r o m g =
+      record {
+        here =
+            λ b h.
+            omega (arith, counted-at c next b (omega arith), s .here b h, ap length (g b), length-grown j c column b);
+        part =
+            λ b h.
+            rw (g b, length-grown j c column b)
+            (placed-part n whole column next j (s .here) b 0 c entries h (m b h) (omega (arith, ends-before whole b n h)) r o (s .part b h));
+      }
 
 -- all of them
 none-left : (l : List ℕ) → length l ≡ 0 → l ≡ []
@@ -137,7 +141,8 @@ none-left [] h = refl
 none-left (x ∷ l) h = absurd (omega arith)
 
 pub sorted-all : (n : ℕ) (column : ℕ → List ℕ) (entries : List ℕ)
-    → ((b : ℕ) → b < n → take (length (column b)) (drop (start column b) entries) ≡ column b) → length entries ≡ start column n → entries ≡ joined (tab n column)
+    → ((b : ℕ) → b < n → take (length (column b)) (drop (start column b) entries) ≡ column b) → length entries ≡ start column n
+    → entries ≡ joined (tab n column)
 sorted-all zero column entries h e = none-left entries e
 sorted-all (suc n) column entries h e =
     let k = length (column 0) in

@@ -1,7 +1,8 @@
-// The columns and the rows of an alist file of a code (document 02, L1), from its check records: the degrees, and the indices of all lists one behind the other.
+// The columns and the rows of an alist file (document 02, L1) of a code, from its check records: the degrees, and the indices of all lists one behind
+// the other.
 ghost use mathlib.Core.Path.{_≡_};
 ghost use mathlib.Core.List.{map};
-ghost use Prim.Native.Nat.{suc, _+_, _≤_, _<_};
+ghost use Prim.Native.Nat.{suc, _+_, _≤_};
 ghost use lib.ListN.{length};
 ghost use Rattle.lists.specs.Entries.{total};
 ghost use Rattle.lists.specs.Tabulated.{tab, over};

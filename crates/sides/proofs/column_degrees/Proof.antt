@@ -1,13 +1,11 @@
 -- `sides::column_degrees` meets its contract: the degrees among the checks so far. Assumes nothing.
-use Rattle.integers.proofs.Prelude.{_≡_, refl, sym, ap, _∙_, ℕ, _+_, _-_, _≤_, _<_, arith, needs, length, getD}
+use Rattle.integers.proofs.Prelude.{_≡_, sym, ap, _∙_, ℕ, _-_, _≤_, arith, needs, length}
 use Rattle.lists.specs.Tabulated.{tab}
-use Rattle.lists.specs.Entries.{total}
-use Rattle.lists.proofs.Tabulated.{length-tab, getD-tab, tab-same}
+use Rattle.lists.proofs.Tabulated.{length-tab}
 use Rattle.model.specs.Records.{checksIn, indices, judgeCheck}
-use Rattle.model.specs.Alist.{columnFrom}
 use Rattle.model.proofs.Accepted.{record-sound, length-checks}
 use Rattle.records.proofs.Walk.{Walk, walk-start, walk-next, walk-checks, walk-judged}
-use Rattle.sides.specs.Columns.{has, counted, Counted}
+use Rattle.sides.specs.Columns.{Counted}
 use Rattle.sides.proofs.Columns.{degreesOf, degrees-are, degrees-few, degrees-next}
 use Rattle.sides.proofs.column_degrees.Statement.{statement}
 use Rattle.sides.proofs.column_degrees.Tie as tie
@@ -59,9 +57,9 @@ loop-again c =
     let l = r .before .before .before in
     let k = l .before .before .before in
     let s = k .before .before .before .before in
-    let n = length (k .clear-u16 .last .0) in
     let w = l .loop .inv .0 in
-    (walk-next _ _ _ w _ (c .after-check .ensures), r .count .ensures ∙ rw (l .loop .inv .1, walk-checks _ _ _ w) (degrees-next n (checksIn (l .loop .j) (s .args .s .now)) _), omega arith)
+    let more = degrees-next (length (k .clear-u16 .last .0)) (checksIn (l .loop .j) (s .args .s .now)) (indices (l .loop .rest .now)) in
+    (walk-next _ _ _ w _ (c .after-check .ensures), r .count .ensures ∙ rw (l .loop .inv .1, walk-checks _ _ _ w) more, omega arith)
 
 returns : tie.Need-returns Inv-loop μ-loop
 returns c =

@@ -2,7 +2,6 @@
 use Rattle.integers.proofs.Prelude.{_≡_, refl, sym, ap, _∙_, _-_, _≤_, arith, needs, length, getD, take, take-all}
 use Rattle.model.specs.Records.{indices}
 use Rattle.model.proofs.Accepted.{SoundRecord, record-sound}
-use Rattle.model.proofs.Sound.{rising-below}
 use Rattle.sides.specs.Columns.{counted}
 use Rattle.sides.proofs.Counting.{counted-none, length-counted, Turn, turn-bit, turn-entry, turn-value, turn-next}
 use Rattle.sides.proofs.count.Statement.{statement}

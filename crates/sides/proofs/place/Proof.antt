@@ -4,7 +4,7 @@ use Rattle.model.specs.Limits.{mostBits}
 use Rattle.model.specs.Records.{indices}
 use Rattle.model.proofs.Accepted.{SoundRecord, record-sound}
 use Rattle.sides.specs.Columns.{counted, placed}
-use Rattle.sides.proofs.Counting.{counted-none, length-counted, Turn, turn-bit, turn-entry, turn-value, turn-next, length-placed, placed-next}
+use Rattle.sides.proofs.Counting.{counted-none, Turn, turn-bit, turn-value, turn-next, length-placed, placed-next}
 use Rattle.sides.proofs.place.Statement.{statement}
 use Rattle.sides.proofs.place.Tie as tie
 
@@ -42,7 +42,10 @@ turn c =
       is = c .index .ensures .0;
     }
 
--- its place
+-- its entry of `next`, and its place
+bit : (c : tie.After-index Inv-loop μ-loop) → c .index .result < mostBits
+bit c = omega (arith, turn-bit (turn c), c .before .before .before .before .before .before .pre .0 .1)
+
 here : (c : tie.After-index2 Inv-loop μ-loop)
     → let i = c .before .before in
     c .index2 .result ≡ getD (i .before .before .before .before .before .before .args .next .now) (i .index .result) 0
@@ -60,9 +63,10 @@ loop-again : tie.Need-loop-again Inv-loop μ-loop
 loop-again c =
     let i = c .before .before in
     let l = i .before .before in
-    let a = l .before .before .before .before .args in (
+    let a = l .before .before .before .before .args in
+    let k = indices (a .s .now) in (
       turn-next (turn i) _ (ap (λ (n : ℕ). n + 1) (c .index2 .ensures .0)),
-      rw (here c, l .loop .inv .1) (placed-next (a .j) (a .next .now) (indices (a .s .now)) (a .entries .now) (l .loop .i) (i .index .result) (turn i .below) (i .index .ensures .0)),
+      rw (here c, l .loop .inv .1) (placed-next (a .j) (a .next .now) k (a .entries .now) (l .loop .i) _ (turn i .below) (i .index .ensures .0)),
       omega arith,
     )
 
@@ -72,24 +76,9 @@ returns c =
     let t = take-all (l .loop .i) (indices (l .before .before .before .before .args .s .now)) (omega (arith, l .before .degree .ensures .1)) in
     (rw t at (l .loop .inv .0), rw t at (l .loop .inv .1))
 
-bit : (c : tie.After-index Inv-loop μ-loop) → c .index .result < mostBits
-bit c = omega (arith, turn-bit (turn c), c .before .before .before .before .before .before .pre .0 .1)
-
 pub place-spec : {M : Type 1} → statement M
 place-spec =
     tie.close (tie.spec Inv-loop μ-loop (λ c κs. omega (arith, sound (c .before .before) .room)) (λ c. (sym (counted-none _), refl, omega arith)) index-requires
-    (λ c. omega (arith, bit c))
-    bit
-    (λ c κs. tt)
-    (λ c. omega arith)
-    (λ c. omega arith)
-    room
-    (λ c. omega arith)
-    (λ c. omega (arith, room c, long (c .before .before .before .before)))
-    (λ c. omega (arith, bit (c .before .before)))
-    (λ c. bit (c .before .before))
-    (λ c. search needs)
-    (λ c. search needs)
-    loop-again
-    (λ c. long (c .before))
-    returns)
+    (λ c. omega (arith, bit c)) bit (λ c κs. tt) (λ c. omega arith) (λ c. omega arith) room (λ c. omega arith)
+    (λ c. omega (arith, room c, long (c .before .before .before .before))) (λ c. omega (arith, bit (c .before .before))) (λ c. bit (c .before .before))
+    (λ c. search needs) (λ c. search needs) loop-again (λ c. long (c .before)) returns)

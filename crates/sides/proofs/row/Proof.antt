@@ -50,7 +50,8 @@ loop-again c =
     let l = c .before .before in
     let s = l .before .before .before .before in
     let e : s .args .at + (l .loop .i + 1) ≡ s .args .at + l .loop .i + 1 = omega arith in
-    (rw (e, bits-next (indices (s .args .s .now)) (l .loop .i) _ (omega (arith, l .before .degree .ensures .1)) (c .index .ensures .0)) (then (l .loop .inv .0) (one _ _ _ (room c))), omega arith)
+    let t = bits-next (indices (s .args .s .now)) (l .loop .i) _ (omega (arith, l .before .degree .ensures .1)) (c .index .ensures .0) in
+    (rw (e, t) (then (l .loop .inv .0) (one _ _ _ (room c))), omega arith)
 
 returns : tie.Need-returns Inv-loop μ-loop
 returns c =
@@ -62,16 +63,6 @@ returns c =
 
 pub row-spec : {M : Type 1} → statement M
 row-spec =
-    tie.close
-    (tie.spec Inv-loop μ-loop (λ c κs. omega (arith, sound (c .before .before) .room)) loop-holds index-requires
-    (λ c. search needs)
-    (λ c. omega (arith, bit c))
-    (λ c. omega (arith, c .before .before .loop .inv .0 .fits, room c))
-    (λ c. omega (arith, c .before .before .loop .inv .0 .fits, room c))
-    room
-    (λ c. search needs)
-    (λ c. search needs)
-    loop-again
-    (λ c. omega (arith, c .before .loop .inv .0 .fits))
-    (λ c. long (c .before .loop .inv .0))
-    returns)
+    tie.close (tie.spec Inv-loop μ-loop (λ c κs. omega (arith, sound (c .before .before) .room)) loop-holds index-requires (λ c. search needs)
+    (λ c. omega (arith, bit c)) (λ c. omega (arith, room c)) (λ c. omega (arith, room c)) room (λ c. search needs) (λ c. search needs) loop-again
+    (λ c. omega (arith, c .before .loop .inv .0 .fits)) (λ c. long (c .before .loop .inv .0)) returns)

@@ -3,7 +3,7 @@ use Rattle.integers.proofs.Prelude.{_≡_, refl, sym, ap, _∙_, List, [], map,
 use Rattle.lists.specs.Tabulated.{tab, over}
 use Rattle.lists.specs.Entries.{total}
 use Rattle.lists.proofs.Tabulated.{length-over, over-next, over-whole, tab-map}
-use Rattle.model.specs.Records.{checksIn, judgeCheck}
+use Rattle.model.specs.Records.{checksIn}
 use Rattle.model.proofs.Accepted.{SoundRecord, record-sound, length-checks}
 use Rattle.records.proofs.Walk.{Walk, walk-start, walk-next, walk-check, walk-judged, walk-total}
 use Rattle.sides.proofs.row_degrees.Statement.{statement}
@@ -38,9 +38,10 @@ loop-again : tie.Need-loop-again Inv-loop μ-loop
 loop-again c =
     let d = c .before .degree .ensures in
     let l = c .before .before .before .loop in
+    let h = c .before .before .loop-test .taken in
     let w = l .inv .0 in (
       walk-next _ _ _ w _ (c .after-check .ensures),
-      rw (add-one (l .j), l .inv .1) (over-next (l .j) _ _ _ (c .before .before .loop-test .taken) (ap length (walk-check _ _ _ w _ (c .before .before .loop-test .taken)) ∙ sym (d .1))),
+      rw (add-one (l .j), l .inv .1) (over-next (l .j) _ _ _ h (ap length (walk-check _ _ _ w _ h) ∙ sym (d .1))),
       omega (arith, d .1, l .inv .2, walk-total _ _ _ w length),
       omega arith,
       omega arith,

@@ -1,6 +1,5 @@
 -- `sides::row_entries` meets its contract: the rows so far. Assumes nothing.
-use Rattle.integers.proofs.Prelude.{_≡_, sym, ap, _∙_, ℕ, _-_, _+_, _≤_, _<_, arith, needs, length}
-use Rattle.lists.specs.Entries.{total}
+use Rattle.integers.proofs.Prelude.{_≡_, _-_, _+_, _≤_, arith, needs, length}
 use Rattle.model.specs.Records.{checksIn, indices, judgeCheck}
 use Rattle.model.proofs.Accepted.{record-sound}
 use Rattle.records.proofs.Walk.{Walk, total-within, walk-start, walk-next, walk-checks, walk-judged, walk-total}

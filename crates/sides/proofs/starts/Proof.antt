@@ -1,8 +1,9 @@
 -- `sides::starts` meets its contract: the columns so far begin where they should. Assumes nothing.
-use Rattle.integers.proofs.Prelude.{_≡_, refl, sym, _∙_, _+_, _-_, _≤_, arith, add-one, needs, length, getD}
+use Rattle.integers.proofs.Prelude.{_≡_, refl, sym, _-_, _≤_, _<_, arith, add-one, needs, length}
 use Rattle.lists.specs.Tabulated.{over}
 use Rattle.lists.proofs.Tabulated.{over-next}
 use Rattle.lists.proofs.Entries.{total-next, total-part}
+use Rattle.model.specs.Limits.{mostBits}
 use Rattle.sides.specs.Columns.{startOf}
 use Rattle.sides.proofs.starts.Statement.{statement}
 use Rattle.sides.proofs.starts.Tie as tie
@@ -34,21 +35,12 @@ returns c =
     let e : l .loop .b ≡ length (l .before .before .args .degrees .now) = omega arith in
     rw e at (l .loop .inv .0)
 
+-- an index of an entry
+entry : (c : tie.In-loop Inv-loop μ-loop) → c .before .loop .b < mostBits
+entry c = omega (arith, c .before .before .before .pre .0)
+
 pub starts-spec : {M : Type 1} → statement M
 starts-spec =
-    tie.close
-    (tie.spec
-    Inv-loop
-    μ-loop
-    (λ c. (refl, refl, omega arith))
-    (λ c. omega (arith, few (c .before)))
-    (λ c. omega (arith, c .before .before .before .pre .0))
-    (λ c. omega (arith, c .before .before .before .pre .0))
-    (λ c. omega (arith, c .before .before .before .pre .0))
-    (λ c. search needs)
-    (λ c κs. tt)
-    (λ c. omega (arith, few (c .before .before .before)))
-    (λ c. search needs)
-    (λ c. search needs)
-    loop-again
-    returns)
+    tie.close (tie.spec Inv-loop μ-loop (λ c. (refl, refl, omega arith)) (λ c. omega (arith, few (c .before))) (λ c. omega (arith, entry c)) entry
+    (λ c. omega (arith, entry c)) (λ c. search needs) (λ c κs. tt) (λ c. omega (arith, few (c .before .before .before))) (λ c. search needs) (λ c. search needs)
+    loop-again returns)
