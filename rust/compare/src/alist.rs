@@ -2,6 +2,7 @@
 
 use crate::codes::Code;
 use crate::random::Random;
+use std::fmt::Write;
 
 /// The lists of a text, with indices from 1; degrees and maxima follow from them.
 #[derive(Clone, Debug)]
@@ -79,15 +80,15 @@ fn filled(list: &[usize], length: usize) -> Vec<usize> {
 
 /// Lines as an export writes them.
 pub fn text_of(lines: &[Vec<usize>]) -> Vec<u8> {
-    let mut text = Vec::new();
+    let mut text = String::new();
     for line in lines {
-        for (place, number) in line.iter().enumerate() {
-            let space = if place == 0 { "" } else { " " };
-            text.extend(format!("{space}{number}").into_bytes());
+        for number in line {
+            let _ = write!(text, "{number} ");
         }
-        text.push(b'\n');
+        text.pop();
+        text.push('\n');
     }
-    text
+    text.into()
 }
 
 /// How numbers are set apart, and how many zeros may lead them.
@@ -131,7 +132,7 @@ pub fn styled(random: &mut Random, numbers: &[usize]) -> Vec<u8> {
         if random.once_in(4) {
             text.push_str(&"0".repeat(random.below(style.most_zeros + 1)));
         }
-        text.push_str(&number.to_string());
+        let _ = write!(text, "{number}");
     }
     text.push_str(random.pick(style.ends));
     text.into()

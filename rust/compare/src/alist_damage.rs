@@ -10,6 +10,7 @@ pub enum ListDamage {
     Zero,
     OtherIndex,
     HighIndex,
+    ExchangedPlaces,
     LostPlace,
     TwicePlace,
     TwiceBoth,
@@ -24,11 +25,12 @@ pub enum ListDamage {
     Triples,
 }
 
-pub const LIST_DAMAGES: [ListDamage; 16] = [
+pub const LIST_DAMAGES: [ListDamage; 17] = [
     ListDamage::Excess,
     ListDamage::Zero,
     ListDamage::OtherIndex,
     ListDamage::HighIndex,
+    ListDamage::ExchangedPlaces,
     ListDamage::LostPlace,
     ListDamage::TwicePlace,
     ListDamage::TwiceBoth,
@@ -63,6 +65,7 @@ pub fn damage_lists(random: &mut Random, plan: &mut Plan, damage: ListDamage) {
         ListDamage::HighIndex => change_index(random, plan, |random, most| {
             random.pick(&[most + 1, most + 1, most + 2, 65_535])
         }),
+        ListDamage::ExchangedPlaces => exchange_places(random, plan),
         ListDamage::LostPlace => lose_place(random, plan),
         ListDamage::TwicePlace => name_twice(random, plan),
         ListDamage::TwiceBoth => name_twice_on_both(random, plan),
@@ -105,6 +108,19 @@ fn change_index(random: &mut Random, plan: &mut Plan, index: fn(&mut Random, usi
     if let Some(place) = some_place(random, lists) {
         let entry = random.below(lists[place].len());
         lists[place][entry] = index(random, most);
+    }
+}
+
+/// Two lists of one side exchange an index.
+fn exchange_places(random: &mut Random, plan: &mut Plan) {
+    let (lists, _) = some_side(random, plan);
+    let places = [some_place(random, lists), some_place(random, lists)];
+    if let [Some(first), Some(second)] = places {
+        let from = random.below(lists[first].len());
+        let to = random.below(lists[second].len());
+        let index = lists[first][from];
+        lists[first][from] = lists[second][to];
+        lists[second][to] = index;
     }
 }
 

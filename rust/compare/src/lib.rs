@@ -17,3 +17,4 @@ pub mod reflections;
 pub mod round_trips;
 pub mod tally;
 pub mod text;
+pub mod text_events;

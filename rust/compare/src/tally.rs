@@ -3,6 +3,7 @@
 use crate::case::{Case, DecodeCase};
 use crate::families::seed;
 use crate::outcome::Outcome;
+use crate::text_events::{pairs_against_texts, text_events, OF_TEXTS};
 use reference::iteration::{Iterate, Problem, Totals, UNIT};
 use reference::run::run;
 use reference::SOUND;
@@ -60,17 +61,6 @@ const OF_RUNS: [&str; 18] = [
     "a thousand iterations",
 ];
 
-const OF_TEXTS: [&str; 8] = [
-    "column not rising",
-    "leading zero",
-    "separator first",
-    "no separator last",
-    "separators side by side",
-    "one line",
-    "records in a longer list",
-    "records in a list of their length",
-];
-
 /// Runs of more rows than this are not watched.
 const MOST_WATCHED: usize = 200_000;
 
@@ -98,20 +88,39 @@ impl Tally {
         }
         match case {
             Case::Decode(case) => self.add_run(case, outcome),
-            Case::Import { text, room } if is_accepted(outcome) => {
-                self.add_events(text_events(text));
-                self.count(match outcome.fields[1].1 == *room {
-                    true => "records in a list of their length",
-                    false => "records in a longer list",
-                });
-            }
+            Case::Import { text, room } => self.add_import(text, *room, outcome),
             Case::Export { room, .. } if is_accepted(outcome) => {
-                self.count(match outcome.fields[1].1 == *room {
-                    true => "text in a list of its length",
-                    false => "text in a longer list",
+                let exact = outcome.fields[1].1 == *room;
+                let longer = "text in a longer list";
+                self.count(if exact {
+                    "text in a list of its length"
+                } else {
+                    longer
                 });
             }
             _ => (),
+        }
+    }
+
+    /// Counts what an accepted text has, and which causes meet in a refused one.
+    fn add_import(&mut self, text: &[u8], room: usize, outcome: &Outcome) {
+        if is_accepted(outcome) {
+            self.add_events(text_events(text));
+            let exact = outcome.fields[1].1 == room;
+            let longer = "records in a longer list";
+            self.count(if exact {
+                "records in a list of their length"
+            } else {
+                longer
+            });
+        }
+        let causes = SOUND.causes_of_import(text, room);
+        for [first, second] in pairs_against_texts() {
+            let told = |number| outcome.fields[0].1 == number as usize;
+            let holds = |number| causes.iter().any(|&cause| cause as u32 == number);
+            if holds(first) && holds(second) && (told(first) || told(second)) {
+                self.count(format!("import {first} with {second}"));
+            }
         }
     }
 
@@ -211,45 +220,16 @@ fn of_entry(entry: &str) -> Vec<String> {
     let events = EVENTS.iter().filter(|(other, _)| *other == entry);
     let events = events.flat_map(|(_, events)| events.iter());
     let kinds = kinds.split(',').map(|kind| format!("{entry} {kind}"));
-    kinds.chain(events.map(|event| event.to_string())).collect()
+    let pairs = pairs_against_texts()
+        .into_iter()
+        .filter(|_| entry == "import");
+    let pairs = pairs.map(|[first, second]| format!("import {first} with {second}"));
+    let events = events.map(|event| event.to_string());
+    kinds.chain(pairs).chain(events).collect()
 }
 
 fn is_accepted(outcome: &Outcome) -> bool {
     outcome.fields[0].1 == 0
-}
-
-/// What an accepted text has.
-fn text_events(text: &[u8]) -> [(&'static str, bool); 6] {
-    let text = std::str::from_utf8(text).expect("digits and separators");
-    let words: Vec<&str> = text.split_ascii_whitespace().collect();
-    let number = |word: &&str| word.parse::<usize>().expect("a number");
-    let sizes: Vec<usize> = words[..3].iter().map(number).collect();
-    let (bits, checks, most) = (sizes[0], sizes[1], sizes[2]);
-    let columns: Vec<usize> = words[4 + bits + checks..].iter().map(number).collect();
-    let falls = |column: &[usize]| {
-        column
-            .windows(2)
-            .any(|pair| pair[0] > pair[1] && pair[1] > 0)
-    };
-    let separators = text.split(|byte: char| byte.is_ascii_digit());
-    let leads = |word: &&str| word.len() > 1 && word.starts_with('0');
-    [
-        (
-            "column not rising",
-            columns[..bits * most].chunks(most).any(falls),
-        ),
-        ("leading zero", words.iter().any(leads)),
-        ("separator first", !text.starts_with(words[0])),
-        (
-            "no separator last",
-            text.ends_with(|byte: char| byte.is_ascii_digit()),
-        ),
-        (
-            "separators side by side",
-            separators.map(str::len).any(|length| length > 1),
-        ),
-        ("one line", !text.contains('\n')),
-    ]
 }
 
 fn quotient_events(problem: &Problem, iterate: &Iterate) -> [(&'static str, bool); 6] {

@@ -3,7 +3,7 @@
 
 use compare::alist::{text_of, Plan};
 use compare::codes::{records, small_code};
-use compare::families::{calls, conversions, Effort};
+use compare::families::{conversions, Effort};
 use compare::outcome::converted;
 use compare::random::Random;
 use compare::round_trips::assert_round_trips;
@@ -15,7 +15,7 @@ use std::convert::Infallible;
 #[test]
 fn every_cause_is_met() {
     let mut tally = Tally::default();
-    for family in calls().into_iter().chain(conversions()) {
+    for family in conversions() {
         let Ok(()) = family.visit(Effort::Quick, |_, case| {
             if let Some(outcome) = converted(&SOUND, &case) {
                 tally.add(&case, &outcome);
@@ -24,7 +24,7 @@ fn every_cause_is_met() {
         });
     }
     println!("{}", tally.summary());
-    tally.assert_complete(&["import", "export", "export_size"], 20);
+    tally.assert_complete(&["import", "export", "export_size"], 10);
 }
 
 #[test]

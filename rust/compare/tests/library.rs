@@ -22,7 +22,7 @@ fn the_library_equals_the_reference() {
 
 #[test]
 fn import_and_export_equal_the_reference() {
-    let families = calls().into_iter().chain(conversions()).collect();
+    let families = conversions();
     let tally = compare(|case| converted(&Widagbe, case), families, Effort::Full).unwrap();
     println!("{}", tally.summary());
     tally.assert_complete(&CONVERSIONS, 20);

@@ -6,9 +6,9 @@ use crate::Reference;
 use interface::BytesAnswer;
 
 impl Reference {
-    /// Whether a list is too short for so many bytes.
-    pub(crate) fn is_short(self, list: &[u8], needed: usize) -> bool {
-        list.len() < needed + usize::from(self.has(Fault::OneByteMoreNeeded))
+    /// Whether room is too short for so many bytes.
+    pub(crate) fn is_short(self, room: usize, needed: usize) -> bool {
+        room < needed + usize::from(self.has(Fault::OneByteMoreNeeded))
     }
 
     /// Writes bytes to the front of a list unless something is against it; entries

@@ -4,6 +4,7 @@ use crate::cause::Cause;
 use crate::fault::Fault;
 use crate::records::Code;
 use crate::Reference;
+use std::fmt::Write;
 
 fn degrees(lists: &[Vec<usize>]) -> Vec<usize> {
     lists.iter().map(Vec::len).collect()
@@ -69,11 +70,10 @@ impl Reference {
         };
         let mut text = String::new();
         for line in self.lines(code) {
-            let numbers: Vec<String> = line
-                .iter()
-                .map(|number| format!("{zero}{number}"))
-                .collect();
-            text.push_str(&numbers.join(" "));
+            for (place, number) in line.iter().enumerate() {
+                let before = if place == 0 { "" } else { " " };
+                let _ = write!(text, "{before}{zero}{number}");
+            }
             text.push_str(space);
             text.push('\n');
         }
@@ -85,7 +85,7 @@ impl Reference {
 
     pub(crate) fn try_export(self, code: &[u8], text: &mut [u8]) -> Result<usize, Cause> {
         let made = self.alist_text(&self.read_code(code)?);
-        let short = self.is_short(text, made.len());
+        let short = self.is_short(text.len(), made.len());
         let judged = self.judge(&[(Cause::ListTooShort, short)]);
         self.write_bytes(judged, || made.clone(), text)
     }

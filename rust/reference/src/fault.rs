@@ -58,7 +58,8 @@ faults! {
         LeadingZerosRefused, NumbersIn16Bits, CountIn32Bits, NumbersAfterIgnored, TabSeparates,
         CarriageReturnSeparates, NulSeparates, SeparatorFirstRefused, NoSeparatorLastRefused,
         SecondSeparatorRefused, OneLineRefused, MaximaNotJudged, FillerNotJudged,
-        NoDegreeRefused, PlacesAsSets, PlacesCountedOnly, ColumnOrderDemanded, HighIndexIsFive,
+        NoDegreeRefused, PlacesAsSets, PlacesAsSetsOfOneSize, PlacesByDegrees,
+        ColumnsWithinRows, RowsWithinColumns, ColumnOrderDemanded, HighIndexIsFive,
         DegreesJudgedFirst;
     ["export", "export_size"]:
         LastLineFeedLeftOut, LeadingZeroWritten, SpaceAtLineEnd, ListsNotFilled;

@@ -1,14 +1,16 @@
 //! Import: alist text to code records.
 
-use crate::alist::Side;
+use crate::alist::{Alist, Side};
 use crate::cause::Cause;
 use crate::fault::Fault;
 use crate::Reference;
 use std::collections::{HashMap, HashSet};
 
-/// How often each pair is named.
-fn counted(places: impl Iterator<Item = (usize, usize)>) -> HashMap<(usize, usize), usize> {
-    let mut counts = HashMap::new();
+/// How often each place, a row and a column, is named.
+type Places = HashMap<(usize, usize), usize>;
+
+fn counted(places: impl Iterator<Item = (usize, usize)>) -> Places {
+    let mut counts = Places::new();
     for place in places {
         *counts.entry(place).or_default() += 1;
     }
@@ -30,6 +32,20 @@ fn record_bytes(rows: &[&[usize]]) -> usize {
     6 + rows.iter().map(|row| 3 + 2 * row.len()).sum::<usize>()
 }
 
+/// For faults: whether each place of one side is on the other, with a count that
+/// agrees.
+fn within(one: &Places, other: &Places, agrees: fn(&usize, &usize) -> bool) -> bool {
+    let found = |(place, count)| other.get(place).is_some_and(|due| agrees(count, due));
+    one.iter().all(found)
+}
+
+/// For faults: whether each side names a row and a column as often as it has places.
+fn same_degrees(columns: &[&[usize]], rows: &[&[usize]]) -> bool {
+    let places = |lists| counted(named(lists).map(|(place, _)| (place, 0)));
+    let indices = |lists| counted(named(lists).map(|(_, index)| (index, 0)));
+    places(columns) == indices(rows) && places(rows) == indices(columns)
+}
+
 impl Reference {
     /// Whether the maximum is the largest degree, 0 where there is none, and each
     /// list is first its degree's count of indices and then zeros.
@@ -49,19 +65,23 @@ impl Reference {
     /// Whether columns and rows name the same places, each equally often. An index
     /// above the other side's count names none of its places.
     fn same_places(self, columns: &[&[usize]], rows: &[&[usize]]) -> bool {
-        if self.has(Fault::ColumnOrderDemanded) && !columns.iter().all(|column| rises(column)) {
-            return false;
+        let by_columns = counted(named(columns).map(|(column, row)| (row, column)));
+        let by_rows = counted(named(rows));
+        let sets =
+            || by_columns.len() == by_rows.len() && within(&by_columns, &by_rows, |_, _| true);
+        match self.fault {
+            Some(Fault::PlacesAsSets) => sets(),
+            Some(Fault::PlacesAsSetsOfOneSize) => {
+                sets() && named(columns).count() == named(rows).count()
+            }
+            Some(Fault::PlacesByDegrees) => same_degrees(columns, rows),
+            Some(Fault::ColumnsWithinRows) => within(&by_columns, &by_rows, usize::eq),
+            Some(Fault::RowsWithinColumns) => within(&by_rows, &by_columns, usize::eq),
+            Some(Fault::ColumnOrderDemanded) => {
+                by_columns == by_rows && columns.iter().all(|column| rises(column))
+            }
+            _ => by_columns == by_rows,
         }
-        let by_columns = counted(named(columns));
-        let by_rows = counted(named(rows).map(|(row, column)| (column, row)));
-        if self.has(Fault::PlacesAsSets) {
-            return by_columns.keys().collect::<HashSet<_>>() == by_rows.keys().collect();
-        }
-        if self.has(Fault::PlacesCountedOnly) {
-            let count = |lists: &[&[usize]]| named(lists).count();
-            return count(columns) == count(rows);
-        }
-        by_columns == by_rows
     }
 
     /// The causes against the rows as records, each with whether it holds.
@@ -83,28 +103,51 @@ impl Reference {
         causes
     }
 
-    pub(crate) fn try_import(self, text: &[u8], code: &mut [u8]) -> Result<usize, Cause> {
-        let numbers = self.numbers(text)?;
-        let alist = self.parts(&numbers)?;
+    /// All causes in order, each with whether it holds.
+    fn judged(self, alist: &Alist, room: usize) -> Vec<(Cause, bool)> {
         let sound = self.is_sound_side(&alist.columns) && self.is_sound_side(&alist.rows);
         let (columns, rows) = (alist.columns.indices(), alist.rows.indices());
-        let bits = columns.len();
         let mut causes = vec![(Cause::Text, !sound)];
         if self.has(Fault::HighIndexIsFive) {
-            let high = named(&rows).any(|(_, index)| index > bits);
+            let high = named(&rows).any(|(_, index)| index > columns.len());
             causes.push((Cause::IndexTooHigh, high));
         }
         causes.push((Cause::Places, !self.same_places(&columns, &rows)));
-        causes.extend(self.causes_of_rows(bits, &rows));
-        let short = self.is_short(code, record_bytes(&rows));
+        causes.extend(self.causes_of_rows(columns.len(), &rows));
+        let short = self.is_short(room, record_bytes(&rows));
         causes.push((Cause::ListTooShort, short));
-        let judged = self.judge(&causes);
-        self.write_bytes(judged, || records(bits, &rows), code)
+        causes
+    }
+
+    /// Every cause against an import; where the numbers make no lists, 18 alone.
+    pub fn causes_of_import(self, text: &[u8], room: usize) -> Vec<Cause> {
+        let numbers = self.numbers(text).unwrap_or_default();
+        match self.parts(&numbers) {
+            Err(cause) => vec![cause],
+            Ok(alist) => {
+                let judged = self.judged(&alist, room).into_iter();
+                judged
+                    .filter(|&(_, holds)| holds)
+                    .map(|(cause, _)| cause)
+                    .collect()
+            }
+        }
+    }
+
+    pub(crate) fn try_import(self, text: &[u8], code: &mut [u8]) -> Result<usize, Cause> {
+        let numbers = self.numbers(text)?;
+        let alist = self.parts(&numbers)?;
+        let judged = self.judge(&self.judged(&alist, code.len()));
+        self.write_bytes(
+            judged,
+            || records(&alist.rows.indices(), alist.columns.degrees.len()),
+            code,
+        )
     }
 }
 
-/// The records of a code: its bits, and the rows with indices from 1.
-fn records(bits: usize, rows: &[&[usize]]) -> Vec<u8> {
+/// The records of a code: its rows with indices from 1, and its bits.
+fn records(rows: &[&[usize]], bits: usize) -> Vec<u8> {
     let two = |number: usize| (number as u16).to_be_bytes();
     let mut bytes = vec![0x4C, 0x48];
     bytes.extend(two(bits));

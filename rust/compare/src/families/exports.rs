@@ -15,7 +15,7 @@ pub fn families() -> Vec<Family> {
         Family::listed("sizes of one digit more", digits),
         Family::random("exports of tiny codes", 600, tiny),
         Family::random("exports of small codes", 400, small),
-        Family::random("exports about the most triples", 80, about_most_triples),
+        Family::listed("exports about the most triples", most_triples),
         Family::random("exports of large codes", 3, large),
         Family::listed("a long text", long),
     ]
@@ -88,6 +88,12 @@ fn tiny(random: &mut Random) -> Case {
 fn small(random: &mut Random) -> Case {
     let code = small_code(random);
     export_of(random, code)
+}
+
+fn most_triples() -> Vec<Case> {
+    let mut random = Random::new(15);
+    let cases = (0..80).map(|_| about_most_triples(&mut random));
+    cases.collect()
 }
 
 fn about_most_triples(random: &mut Random) -> Case {

@@ -6,6 +6,7 @@ mod exports;
 mod imports;
 mod programs;
 mod records;
+mod small_texts;
 mod words;
 
 use crate::case::Case;
@@ -92,12 +93,12 @@ impl Family {
 /// The families of every entry.
 pub fn all() -> Vec<Family> {
     let mut families = calls();
-    families.extend(conversions());
+    families.extend(texts());
     families.extend(program());
     families
 }
 
-/// The families of the library's calls, but for those of import and export alone.
+/// The families of document 01's calls.
 pub fn calls() -> Vec<Family> {
     let mut families = records::families();
     families.extend(words::families());
@@ -106,9 +107,17 @@ pub fn calls() -> Vec<Family> {
     families
 }
 
-/// The families of import and export.
+/// The families with calls of import and export.
 pub fn conversions() -> Vec<Family> {
-    let mut families = imports::families();
+    let mut families = records::families();
+    families.extend(texts());
+    families
+}
+
+/// The families of import and export alone.
+fn texts() -> Vec<Family> {
+    let mut families = small_texts::families();
+    families.extend(imports::families());
     families.extend(exports::families());
     families
 }
