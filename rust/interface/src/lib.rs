@@ -135,7 +135,7 @@ pub trait Decoder {
     fn decode(&self, code: &[u8], settings: Settings, costs: &[i16], lists: Lists) -> DecodeAnswer;
 }
 
-/// Every entry: the decoder and the calls around it.
+/// The entries of document 01: the decoder and the calls around it.
 pub trait Library: Decoder {
     /// Reads code records.
     fn read(&self, code: &[u8]) -> CodeAnswer;
