@@ -151,7 +151,7 @@ fn edge_sizes() -> Vec<Case> {
 /// Most with more triples than allowed, and with another cause against them.
 fn most_triples() -> Vec<Case> {
     let mut random = Random::new(14);
-    let cases = (0..200).map(|_| about_most_triples(&mut random));
+    let cases = (0..400).map(|_| about_most_triples(&mut random));
     cases.collect()
 }
 
