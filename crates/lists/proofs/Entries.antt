@@ -1,9 +1,11 @@
 -- Tests and sums of a list's entries, and the first index that passes. Assumes nothing.
-use Rattle.integers.proofs.Prelude.{_≡_, refl, sym, ap, subst, _∙_, Bool, true, false, not, cond, _&&_, _||_, List, [], _∷_, _++_, ℕ, zero, suc, _+_, _≤_}
-use Rattle.integers.proofs.Prelude.{_<_, arith, add-one, ltb-true, ltb-false, T, ltb, length, getD, drop, drop-of-length-le, drop-cons}
-use mathlib.Core.Bool.{or-assoc, or-false}
+use Rattle.integers.proofs.Prelude.{_≡_, refl, sym, ap, subst, _∙_, Bool, true, false, not, cond, _&&_, _||_, List, [], _∷_, _++_, map, ℕ, zero, suc, _+_}
+use Rattle.integers.proofs.Prelude.{_≤_, _<_, arith, add-one, ltb-true, ltb-false, T, ltb, length, getD, drop, drop-of-length-le, drop-cons}
+use mathlib.Core.Bool.{or-assoc, or-false, and-assoc}
+use lib.ListN.{replicate}
 use Rattle.lists.specs.Tabulated.{tab}
 use Rattle.lists.specs.Entries.{every, some, total, first}
+use Rattle.lists.proofs.Tests.{and-left, and-right, and-both}
 
 -- ---- every
 module _ {A : Type 0} (f : A → Bool) where
@@ -30,6 +32,24 @@ module _ {A : Type 0} (f : A → Bool) where
       by true p e (suc i) h ih = ih i d e (omega arith)
       by false p e i h ih = absurd (subst T (sym e) tt)
 
+  -- what holds of each entry passes
+  pub every-in : (l : List A) (d : A) → ((i : ℕ) → i < length l → f (getD l i d) ≡ true) → every f l ≡ true
+  every-in [] d h = refl
+  every-in (x ∷ l) d h = rw (h 0 (omega arith)) (every-in l d (λ i k. h (suc i) (omega arith)))
+
+  pub every-append : (l k : List A) → every f (l ++ k) ≡ (every f l && every f k)
+  every-append [] k = refl
+  every-append (x ∷ l) k = rw (every-append l k) (sym (and-assoc (f x) (every f l) (every f k)))
+
+  -- a weaker test
+  pub every-weaker : (g : A → Bool) → ((x : A) → f x ≡ true → g x ≡ true) → (l : List A) → every f l ≡ true → every g l ≡ true
+  every-weaker g h [] e = refl
+  every-weaker g h (x ∷ l) e = and-both (g x) (every g l) (h x (and-left (f x) (every f l) e)) (every-weaker g h l (and-right (f x) (every f l) e))
+
+  pub every-replicate : (n : ℕ) (x : A) → f x ≡ true → every f (replicate n x) ≡ true
+  every-replicate zero x h = refl
+  every-replicate (suc n) x h = and-both (f x) (every f (replicate n x)) h (every-replicate n x h)
+
   -- none fails
   pub every-some : (l : List A) → every f l ≡ not (some (λ x. not (f x)) l)
   every-some [] = refl
@@ -38,6 +58,10 @@ module _ {A : Type 0} (f : A → Bool) where
       by : (a b : Bool) → (a && not b) ≡ not (not a || b)
       by true b = refl
       by false b = refl
+
+pub every-map : {A B : Type 0} (f : B → Bool) (g : A → B) (l : List A) → every f (map g l) ≡ every (λ x. f (g x)) l
+every-map f g [] = refl
+every-map f g (x ∷ l) = rw (every-map f g l)
 
 -- ---- some
 module _ {A : Type 0} (f : A → Bool) where

@@ -34,6 +34,12 @@ first-joined [] m = refl
 first-joined (zero ∷ l) m = first-joined l m
 first-joined (suc c ∷ l) m = refl
 
+-- and none of both holds where none of each does
+pub none-joined : (l m : List ℕ) → (firstOf (l ++ m) ≡ 0) ↔ ((firstOf l ≡ 0) × (firstOf m ≡ 0))
+none-joined [] m = (λ h. (refl, h), λ h. h .1)
+none-joined (zero ∷ l) m = none-joined l m
+none-joined (suc c ∷ l) m = (λ h. absurd (omega arith), λ h. absurd (omega (arith, h .0)))
+
 -- what is not accepted stays
 pub stays : {A : Type 0} (c : ℕ) (x y : A) → (c ≡ 0 → ⊥) → accepted c x y ≡ y
 stays zero x y h = absurd (h refl)

@@ -2,11 +2,16 @@ pub mod Causes
 pub mod Accepted
 pub mod Order
 pub mod RecordClaims
+pub mod AlistForm
+pub mod AlistLines
 pub mod Sound
 pub mod Rows
 pub mod Runs
 pub mod Queue
 pub mod TripleRule
+pub mod Agreement
+pub mod AlistCode
+pub mod AlistTrips
 pub mod Bounds
 pub mod Reflection
 pub mod Paper
@@ -25,3 +30,9 @@ pub mod DecoderCalls
 pub mod Courses
 pub mod ReflectedCalls
 pub mod Promises
+pub mod Spelling
+pub mod AlistParts
+pub mod AlistSizes
+pub mod AlistCauses
+pub mod AlistText
+pub mod AlistPromises

@@ -51,6 +51,12 @@ module _ (table : List ℕ) where
       let x = every (among table) l in
       record { all = rw (and-left (among table c) x (h .all)) (both l m (record { all = and-right (among table c) x (h .all) }) k .all) }
 
+  -- the first cause of a list may stand for it
+  pub first-of-listed : (l : List ℕ) → Listed table l → Listed table (firstOf l ∷ [])
+  first-of-listed [] h = record { all = refl }
+  first-of-listed (zero ∷ l) h = first-of-listed l (record { all = h .all })
+  first-of-listed (suc n ∷ l) h = record { all = rw (and-left (some (eqb (suc n)) table) (every (among table) l) (h .all)) }
+
   first-listed : (l : List ℕ) → every (among table) l ≡ true → (c : ℕ) → firstOf l ≡ suc c → some (eqb (suc c)) table ≡ true
   first-listed [] h c e = absurd (omega arith)
   first-listed (zero ∷ l) h c e = first-listed l h c e
@@ -80,13 +86,22 @@ first-of (zero ∷ l) c e = by (first-of l c e)
     by f = record { place = suc (f .place); here = f .here; earlier = before f }
 first-of (suc n ∷ l) c e = record { place = 0; here = e; earlier = λ i h. absurd (omega arith) }
 
-pub ordered : (l table : List ℕ) (number : ℕ) → Listed table l → number ≡ firstOf l → Ordered l table number
-ordered l table number h e = record {
+pub number-listed : (l table : List ℕ) (c : ℕ) → Listed table l → firstOf l ≡ suc c → some (eqb (suc c)) table ≡ true
+number-listed l table c h e = first-listed table l (h .all) c e
+
+-- where the first cause is in the table
+pub ordered-first : (l table : List ℕ) (number : ℕ) → ((c : ℕ) → firstOf l ≡ suc c → some (eqb (suc c)) table ≡ true) → number ≡ firstOf l
+    → Ordered l table number
+ordered-first l table number h e = record {
   refused = λ c f.
       let x = first-of l c (sym e ∙ f) in
-      record { place = x .place; cause = x .here ∙ sym f; earlier = x .earlier; listed = rw f (first-listed table l (h .all) c (sym e ∙ f)) };
+      record { place = x .place; cause = x .here ∙ sym f; earlier = x .earlier; listed = rw f (h c (sym e ∙ f)) };
   sound = λ f. none-of l (sym e ∙ f);
 }
+
+-- or all of them are
+pub ordered : (l table : List ℕ) (number : ℕ) → Listed table l → number ≡ firstOf l → Ordered l table number
+ordered l table number h = ordered-first l table number (λ c. number-listed l table c h)
 
 -- by a table of numbers up to 15, what is not 0 is a refusal's number
 pub refuses : (l table : List ℕ) (c : ℕ) → every (λ y. leb y 15) table ≡ true → Ordered l table (suc c) → Refuses (suc c)

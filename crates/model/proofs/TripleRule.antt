@@ -20,7 +20,7 @@ use Rattle.model.proofs.Queue.{queue-total, triples-total, by-turns, me
 use Rattle.model.proofs.Sound.{rising-below, rising-apart}
 
 -- ---- how often v stands
-abbrev is : ℕ → ℕ → ℕ
+abbrev pub is : ℕ → ℕ → ℕ
 is v u = 1 if eqb u v
 
 is-same : (v : ℕ) → is v v ≡ 1
@@ -30,7 +30,7 @@ is-other : (v u : ℕ) → (u ≡ v → ⊥) → is v u ≡ 0
 is-other v u h = rw (ne-eqb u v h)
 
 -- in m numbers from a on
-is-range : (v m a : ℕ) → (v < a → sumℕ m (λ j. is v (a + j)) ≡ 0) × (a + m ≤ v → sumℕ m (λ j. is v (a + j)) ≡ 0) × (a ≤ v → v < a + m → sumℕ m (λ j. is v (a + j)) ≡ 1)
+pub is-range : (v m a : ℕ) → (v < a → sumℕ m (λ j. is v (a + j)) ≡ 0) × (a + m ≤ v → sumℕ m (λ j. is v (a + j)) ≡ 0) × (a ≤ v → v < a + m → sumℕ m (λ j. is v (a + j)) ≡ 1)
 is-range v zero a = (λ h. refl, λ h. refl, λ h l. absurd (omega arith))
 is-range v (suc m) a =
     let ih = is-range v m a in (
@@ -44,7 +44,7 @@ is-range v (suc m) a =
     by (no k) before at l = let e : a + m ≡ v = omega arith in rw (before (omega arith), e, is-same v)
 
 -- in a rising list
-is-rising : (v n low : ℕ) (l : List ℕ) → Rising n low l
+pub is-rising : (v n low : ℕ) (l : List ℕ) → Rising n low l
     → (total (is v) l ≡ 1 if some (eqb v) l) × (v < low → total (is v) l ≡ 0) × (n ≤ v → total (is v) l ≡ 0)
 is-rising v n low [] r = (refl, λ h. refl, λ h. refl)
 is-rising v n low (x ∷ l) r =

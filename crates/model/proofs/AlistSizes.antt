@@ -1,0 +1,60 @@
+-- Columns and rows that name the same places name as many, and the records of an accepted code are not longer than a text of it. Assumes nothing.
+use Rattle.integers.proofs.Prelude.{_≡_, refl, sym, ap₂, _∙_, true, List, [], _∷_, map, ℕ, suc, _+_, _*_, _≤_, arith, ltb, leb, length, getD}
+use Rattle.integers.proofs.Prelude.{length-map}
+use Rattle.integers.specs.Sum.{sumℕ}
+use Rattle.integers.proofs.Sums.{sumℕ-same, sumℕ-first, sumℕ-swap}
+use Rattle.lists.specs.Entries.{every, total}
+use Rattle.lists.proofs.Entries.{every-at}
+use Rattle.model.specs.Records.{recordsOf, recordSize}
+use Rattle.model.specs.Sound.{SoundChecks, Sound}
+use Rattle.model.specs.Alist.{times, upTo, largestOf}
+use Rattle.model.specs.AlistClaims.{SamePlaces}
+use Rattle.model.proofs.RecordClaims.{length-code}
+use Rattle.model.proofs.Agreement.{times-length, columns-upTo, rows-upTo}
+
+-- ---- double counting
+total-sum : {A : Type 0} (f : A → ℕ) (l : List A) (d : A) → total f l ≡ sumℕ (length l) (λ i. f (getD l i d))
+total-sum f [] d = refl
+total-sum f (x ∷ l) d = ap₂ _+_ refl (total-sum f l d) ∙ sym (sumℕ-first (length l) (λ i. f (getD (x ∷ l) i d)))
+
+-- the indices of a side, all of them in 1..n, by the number that they name
+by-number : (n : ℕ) (ls : List (List ℕ)) → every (every (ltb 0)) ls ≡ true → upTo n ls ≡ true
+    → total length ls ≡ sumℕ (length ls) (λ i. sumℕ n (λ c. times (suc c) (getD ls i [])))
+by-number n ls h k =
+    total-sum length ls [] ∙ sumℕ-same (length ls) (λ i. length (getD ls i [])) (λ i. sumℕ n (λ c. times (suc c) (getD ls i [])))
+    (λ i l. sym (times-length n (getD ls i []) (every-at (every (ltb 0)) ls i [] h l) (every-at (every (λ i. leb i n)) ls i [] k l)))
+
+pub same-total : (cs rs : List (List ℕ)) → every (every (ltb 0)) cs ≡ true → every (every (ltb 0)) rs ≡ true → SamePlaces cs rs
+    → total length rs ≡ total length cs
+same-total cs rs p q h =
+    let n = length cs in
+    let m = length rs in
+    by-number n rs q (rows-upTo cs rs h)
+    ∙ sumℕ-swap m n (λ r c. times (suc c) (getD rs r []))
+    ∙ sumℕ-same n (λ c. sumℕ m (λ r. times (suc c) (getD rs r []))) (λ c. sumℕ m (λ r. times (suc r) (getD cs c [])))
+    (λ c _. sumℕ-same m (λ r. times (suc c) (getD rs r [])) (λ r. times (suc r) (getD cs c [])) (λ r _. h r c))
+    ∙ sym (by-number m cs p (columns-upTo cs rs h))
+
+-- ---- sizes
+largest-total : (u : ℕ) (ls : List (List ℕ)) → largestOf ls ≤ u → total length ls ≤ length ls * u
+largest-total u [] h = omega arith
+largest-total u (l ∷ ls) h = omega (arith, largest-total u ls (omega arith))
+
+records-total : (f : ℕ → ℕ) (ls : List (List ℕ)) → total recordSize (map (map f) ls) ≡ 3 * length ls + 2 * total length ls
+records-total f [] = refl
+records-total f (l ∷ ls) = omega (arith, records-total f ls, length-map l f)
+
+checks-total : (n : ℕ) (f : ℕ → ℕ) (ls : List (List ℕ)) → SoundChecks n (map (map f) ls) → length ls ≤ total length ls
+checks-total n f [] h = omega arith
+checks-total n f (l ∷ ls) h = omega (arith, checks-total n f ls (h .1), h .0 .least, length-map l f)
+
+-- the file with these columns and rows has so many numbers, and a text has a byte for each, and one between two
+pub records-fit : (cs rs : List (List ℕ)) (f : ℕ → ℕ) → Sound (record { bits = length cs; checks = map (map f) rs })
+    → every (every (ltb 0)) cs ≡ true → every (every (ltb 0)) rs ≡ true → SamePlaces cs rs
+    → suc (length (recordsOf (record { bits = length cs; checks = map (map f) rs })))
+    ≤ 2 * (4 + (length cs + (length rs + (length cs * largestOf cs + length rs * largestOf rs))))
+records-fit cs rs f s p q h =
+    let size = length-code (record { bits = length cs; checks = map (map f) rs }) in
+    let rows = largest-total (largestOf rs) rs (omega arith) in
+    let columns = largest-total (largestOf cs) cs (omega arith) in
+    omega (arith, records-total f rs, checks-total (length cs) f rs (s .checks), same-total cs rs p q h)
