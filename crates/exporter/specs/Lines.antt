@@ -4,22 +4,29 @@ use mathlib.Core.List.{List, [], _∷_, _++_, map}
 use Prim.Native.Nat.{ℕ, _≤_}
 use lib.ListN.{length, take, drop}
 use Rattle.lists.specs.Entries.{total}
-use Rattle.model.specs.Limits.{mostBits, mostTriples}
+use Rattle.model.specs.Limits.{mostBits, mostPlaces}
 use Rattle.model.specs.Code.{tripleCount}
 use Rattle.model.specs.Records.{checksIn, judgeChecks}
 use Rattle.model.specs.Sound.{Sound}
+use Rattle.model.specs.Text.{decimal}
 use Rattle.model.specs.Alist.{largest, fill, lineOf, textOf}
+
+-- numbers, each with a space behind it
+unfoldable pub spaced : List ℕ → List ℕ
+spaced [] = []
+spaced (x ∷ l) = decimal x ++ (32 ∷ spaced l)
 
 -- the lists, by their degrees
 abbrev pub cut : List ℕ → List ℕ → List (List ℕ)
 cut [] entries = []
 cut (d ∷ degrees) entries = take d entries ∷ cut degrees (drop d entries)
 
--- the lists of a side of an accepted code: no more entries than degrees say, and none of them empty
+-- a side of an accepted code: as many entries as the degrees say, and one at least
 pub record Side (degrees entries : List ℕ) : Type 0 where
   pub long : length entries ≡ total (λ d. d) degrees
   pub some : 1 ≤ largest degrees
   pub few : length degrees ≤ mostBits
+  pub small : length entries ≤ mostPlaces
 
 -- the lines of the lists, each filled to so many numbers
 abbrev pub listsText : ℕ → List ℕ → List ℕ → List ℕ
