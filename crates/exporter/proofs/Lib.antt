@@ -1,3 +1,4 @@
 pub mod Lines
 pub mod Lists
 pub mod Texts
+pub mod Answers

@@ -5,7 +5,7 @@ use Prim.Native.Nat.{ℕ, _≤_}
 use lib.ListN.{length, take, drop}
 use Rattle.lists.specs.Entries.{total}
 use Rattle.model.specs.Limits.{mostBits, mostPlaces}
-use Rattle.model.specs.Code.{tripleCount}
+use Rattle.model.specs.Code.{Code}
 use Rattle.model.specs.Records.{checksIn, judgeChecks}
 use Rattle.model.specs.Sound.{Sound}
 use Rattle.model.specs.Text.{decimal}
@@ -36,6 +36,10 @@ listsText most degrees entries = textOf (map (fill most) (cut degrees entries))
 abbrev pub sideText : List ℕ → List ℕ → List ℕ
 sideText degrees entries = lineOf degrees ++ listsText (largest degrees) degrees entries
 
--- check records of an accepted code
-abbrev pub SoundChecksOf : ℕ → ℕ → List ℕ → Type 0
-SoundChecksOf bits checks s = (judgeChecks bits checks s ≡ 0) × Sound (record { bits = bits; checks = checksIn checks s })
+-- the code of so many bits whose check records s begins with
+abbrev pub codeFrom : ℕ → ℕ → List ℕ → Code
+codeFrom bits checks s = record { bits = bits; checks = checksIn checks s }
+
+-- where it is accepted
+abbrev pub Accepted : ℕ → ℕ → List ℕ → Type 0
+Accepted bits checks s = (judgeChecks bits checks s ≡ 0) × Sound (codeFrom bits checks s)

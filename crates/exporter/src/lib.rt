@@ -6,10 +6,9 @@ ghost use lib.ListN.{length, replicate};
 ghost use Rattle.lists.specs.Entries.{total};
 ghost use Rattle.model.specs.Text.{decimal};
 ghost use Rattle.lists.specs.Tabulated.{written};
-ghost use Rattle.model.specs.Records.{checksIn};
 ghost use Rattle.model.specs.Alist.{largest, fill, lineOf, alistOf};
 ghost use Rattle.model.specs.AlistPromises.{ExportCall, SizeCall};
-ghost use Rattle.exporter.specs.Lines.{Side, spaced, listsText, sideText, SoundChecksOf};
+ghost use Rattle.exporter.specs.Lines.{Side, spaced, listsText, sideText, codeFrom, Accepted};
 ghost use Rattle.text.specs.Appended.{Appended};
 use model::MOST_BITS;
 use model::MOST_CHECKS;
@@ -130,4 +129,62 @@ fn put_lists(degrees: &[u16], entries: &[u16], most: usize, text: &mut [u8], at:
         first = end;
     }
     next
+}
+
+// The bytes of the text of a code whose check records are `s`.
+fn measure(s: &[u8], bits: usize, checks: usize) -> usize
+    requires { ⌜ Accepted bits checks (now s) ⌝ }
+    ensures { λ r. ⌜ r ≡ length (alistOf (codeFrom bits checks (now (s .entry)))) ⌝ }
+{
+    0
+}
+
+// The text of a code whose check records are `s`.
+fn write_text(s: &[u8], bits: usize, checks: usize, text: &mut [u8])
+    requires { ⌜ Accepted bits checks (now s) ⌝ }
+    requires { ⌜ length (alistOf (codeFrom bits checks (now s))) ≤ length (now text) ⌝ }
+    ensures { λ _. ⌜ now (text .exit) ≡ written (alistOf (codeFrom bits checks (now (s .entry)))) (now (text .entry)) ⌝ }
+{
+}
+
+// The bytes that an export of these records will write.
+pub fn export_size(code: &[u8]) -> Written
+    ensures { λ r. ⌜ SizeCall (now (code .entry)) (record { number = r .number; bytes = r .bytes }) ⌝ }
+{
+    match reader::read(code) {
+        Reading::Refused(number) => Written { number, bytes: 0 },
+        Reading::Code {
+            bits,
+            checks,
+            triples: _,
+        } => Written {
+            number: 0,
+            bytes: measure(records::after_header(code), bits, checks),
+        },
+    }
+}
+
+// Export: the alist text of these records.
+pub fn export(code: &[u8], text: &mut [u8]) -> Written
+    ensures { λ r. ⌜ ExportCall (now (code .entry)) (now (text .entry)) (record { number = r .number; bytes = r .bytes; list = now (text .exit) }) ⌝ }
+{
+    match reader::read(code) {
+        Reading::Refused(number) => Written { number, bytes: 0 },
+        Reading::Code {
+            bits,
+            checks,
+            triples: _,
+        } => {
+            let s = records::after_header(code);
+            let bytes = measure(s, bits, checks);
+            if text.len() < bytes {
+                return Written {
+                    number: 10,
+                    bytes: 0,
+                };
+            }
+            write_text(s, bits, checks, text);
+            Written { number: 0, bytes }
+        }
+    }
 }
