@@ -123,10 +123,10 @@ module _ (k : Code) where
     rows-total : total length (rowsOf k) ≡ total length (k .checks)
     rows-total = sym (total-degrees (rowsOf k)) ∙ ap (total (λ d. d)) (sym row-degrees-are) ∙ total-degrees (k .checks)
 
-    columns-total : total length (columnsOf k) ≡ total length (k .checks)
+    pub columns-total : total length (columnsOf k) ≡ total length (k .checks)
     columns-total = same-total (columnsOf k) (rowsOf k) (code-places k s) (columns-from-one k) (rows-from-one k) ∙ rows-total
 
-    few : total length (k .checks) ≤ mostPlaces
+    pub few : total length (k .checks) ≤ mostPlaces
     few = omega (arith, places-most (k .checks), s .triples-most, s .checks-most)
 
     some : 1 ≤ total length (k .checks)

@@ -43,3 +43,9 @@ codeFrom bits checks s = record { bits = bits; checks = checksIn checks s }
 -- where it is accepted
 abbrev pub Accepted : ℕ → ℕ → List ℕ → Type 0
 Accepted bits checks s = (judgeChecks bits checks s ≡ 0) × Sound (codeFrom bits checks s)
+
+-- lists for the sides of an accepted code whose check records are s: a number for each bit, the degrees of the checks, and a number for each place
+pub record Lists (s columns rows entries : List ℕ) : Type 0 where
+  pub sound : Accepted (length columns) (length rows) s
+  pub degrees : rows ≡ map length (checksIn (length rows) s)
+  pub places : length entries ≡ total length (checksIn (length rows) s)

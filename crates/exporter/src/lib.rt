@@ -8,7 +8,7 @@ ghost use Rattle.model.specs.Text.{decimal};
 ghost use Rattle.lists.specs.Tabulated.{written};
 ghost use Rattle.model.specs.Alist.{largest, fill, lineOf, alistOf};
 ghost use Rattle.model.specs.AlistPromises.{ExportCall, SizeCall};
-ghost use Rattle.exporter.specs.Lines.{Side, spaced, listsText, sideText, codeFrom, Accepted};
+ghost use Rattle.exporter.specs.Lines.{Side, spaced, listsText, sideText, codeFrom, Accepted, Lists};
 ghost use Rattle.text.specs.Appended.{Appended};
 use model::MOST_BITS;
 use model::MOST_CHECKS;
@@ -62,7 +62,7 @@ fn largest(degrees: &[u16]) -> usize
 // The bytes of a side: the line of its degrees, and its lists, each filled to the largest degree.
 fn side_size(degrees: &[u16], entries: &[u16]) -> usize
     requires { ⌜ Side (now degrees) (now entries) ⌝ }
-    ensures { λ r. ⌜ r ≡ length (sideText (now (degrees .entry)) (now (entries .entry))) ⌝ }
+    ensures { λ r. ⌜ (r ≡ length (sideText (now (degrees .entry)) (now (entries .entry)))) × (r ≤ 1000000000) ⌝ }
 {
     let filled = degrees.len() * largest(degrees);
     size(degrees) + size(entries) + 2 * (filled - entries.len())
@@ -131,12 +131,53 @@ fn put_lists(degrees: &[u16], entries: &[u16], most: usize, text: &mut [u8], at:
     next
 }
 
+// The bytes of the text of a code whose check records are `s`, by lists for its sides: one number for each bit, the degrees of the checks, and one for each place.
+fn measure_in(s: &[u8], columns: &mut [u16], rows: &[u16], entries: &mut [u16]) -> usize
+    requires { ⌜ Lists (now s) (now columns) (now rows) (now entries) ⌝ }
+    ensures { λ r. ⌜ r ≡ length (alistOf (codeFrom (length (now (columns .entry))) (length (now (rows .entry))) (now (s .entry)))) ⌝ }
+{
+    let bits = columns.len();
+    let checks = rows.len();
+    sides::column_degrees(s, checks, columns);
+    let pairs = digits(bits) + digits(checks) + digits(largest(&columns[..])) + digits(largest(rows)) + 4;
+    sides::column_entries(s, checks, &columns[..], entries);
+    let first = side_size(&columns[..], &entries[..]);
+    sides::row_entries(s, bits, checks, entries);
+    let second = side_size(rows, &entries[..]);
+    pairs + first + second
+}
+
 // The bytes of the text of a code whose check records are `s`.
 fn measure(s: &[u8], bits: usize, checks: usize) -> usize
     requires { ⌜ Accepted bits checks (now s) ⌝ }
     ensures { λ r. ⌜ r ≡ length (alistOf (codeFrom bits checks (now (s .entry)))) ⌝ }
 {
-    0
+    let mut columns = [0u16; MOST_BITS];
+    let mut rows = [0u16; MOST_CHECKS];
+    let mut entries = [0u16; MOST_PLACES];
+    let places = sides::row_degrees(s, bits, &mut rows[..checks]);
+    measure_in(s, &mut columns[..bits], &rows[..checks], &mut entries[..places])
+}
+
+// The text of a code whose check records are `s`, by lists as `measure_in` takes them.
+fn write_in(s: &[u8], columns: &mut [u16], rows: &[u16], entries: &mut [u16], text: &mut [u8])
+    requires { ⌜ Lists (now s) (now columns) (now rows) (now entries) ⌝ }
+    requires { ⌜ length (alistOf (codeFrom (length (now columns)) (length (now rows)) (now s))) ≤ length (now text) ⌝ }
+    ensures { λ _. ⌜ now (text .exit) ≡ written (alistOf (codeFrom (length (now (columns .entry))) (length (now (rows .entry))) (now (s .entry)))) (now (text .entry)) ⌝ }
+{
+    let bits = columns.len();
+    let checks = rows.len();
+    sides::column_degrees(s, checks, columns);
+    let c = largest(&columns[..]);
+    let r = largest(rows);
+    let mut at = put_pair(bits, checks, text, 0);
+    at = put_pair(c, r, text, at);
+    at = put_list(&columns[..], bits, text, at);
+    at = put_list(rows, checks, text, at);
+    sides::column_entries(s, checks, &columns[..], entries);
+    at = put_lists(&columns[..], &entries[..], c, text, at);
+    sides::row_entries(s, bits, checks, entries);
+    at = put_lists(rows, &entries[..], r, text, at);
 }
 
 // The text of a code whose check records are `s`.
@@ -145,6 +186,11 @@ fn write_text(s: &[u8], bits: usize, checks: usize, text: &mut [u8])
     requires { ⌜ length (alistOf (codeFrom bits checks (now s))) ≤ length (now text) ⌝ }
     ensures { λ _. ⌜ now (text .exit) ≡ written (alistOf (codeFrom bits checks (now (s .entry)))) (now (text .entry)) ⌝ }
 {
+    let mut columns = [0u16; MOST_BITS];
+    let mut rows = [0u16; MOST_CHECKS];
+    let mut entries = [0u16; MOST_PLACES];
+    let places = sides::row_degrees(s, bits, &mut rows[..checks]);
+    write_in(s, &mut columns[..bits], &rows[..checks], &mut entries[..places], text);
 }
 
 // The bytes that an export of these records will write.

@@ -23,7 +23,10 @@ returns c =
     let a = s l .args in
     let same : length (a .degrees .now) * l .largest .result ≡ length (a .degrees .now) * largest (a .degrees .now)
     = ap (λ (most : ℕ). length (a .degrees .now) * most) (l .largest .ensures .0) in
-    omega (arith, length-side (a .degrees .now) (a .entries .now) (s l .pre), c .before .size .ensures .0, c .size2 .ensures .0)
+    (
+      omega (arith, length-side (a .degrees .now) (a .entries .now) (s l .pre), c .before .size .ensures .0, c .size2 .ensures .0),
+      omega (arith, few l, c .before .size .ensures .1, c .size2 .ensures .1, s l .pre .few, s l .pre .small),
+    )
 
 pub side-size-spec : {M : Type 1} → statement M
 side-size-spec =
