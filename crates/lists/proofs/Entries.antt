@@ -1,6 +1,7 @@
 -- Tests and sums of a list's entries, and the first index that passes. Assumes nothing.
 use Rattle.integers.proofs.Prelude.{_≡_, refl, sym, ap, subst, _∙_, Bool, true, false, not, cond, _&&_, _||_, List, [], _∷_, _++_, map, ℕ, zero, suc, _+_}
-use Rattle.integers.proofs.Prelude.{_≤_, _<_, arith, add-one, ltb-true, ltb-false, T, ltb, length, getD, drop, drop-of-length-le, drop-cons}
+use Rattle.integers.proofs.Prelude.{_≤_, _<_, arith, add-one, ltb-true, ltb-false, T, ltb, length, getD, take, drop, take-append-drop, drop-of-length-le}
+use Rattle.integers.proofs.Prelude.{take-suc, drop-cons}
 use mathlib.Core.Bool.{or-assoc, or-false, and-assoc}
 use lib.ListN.{replicate}
 use Rattle.lists.specs.Tabulated.{tab}
@@ -87,6 +88,26 @@ module _ {A : Type 0} (f : A → Bool) where
       by false p e (suc i) h ih = ih i d e (omega arith)
       by true p e i h ih = absurd (subst T e tt)
 
+  -- one entry more, at the end
+  pub some-last : (l : List A) (x : A) → some f (l ++ (x ∷ [])) ≡ (f x || some f l)
+  some-last [] x = refl
+  some-last (y ∷ l) x = rw (some-last l x) (by (f y) (f x))
+    where
+      by : (s t : Bool) → (s || (t || some f l)) ≡ (t || (s || some f l))
+      by true true = refl
+      by true false = refl
+      by false t = refl
+
+  -- an entry that passes
+  pub some-of : (l : List A) (i : ℕ) (d : A) → i < length l → f (getD l i d) ≡ true → some f l ≡ true
+  some-of [] i d h e = absurd (omega arith)
+  some-of (x ∷ l) zero d h e = rw e
+  some-of (x ∷ l) (suc i) d h e = rw (some-of l i d (omega arith) e) (by (f x))
+    where
+      by : (t : Bool) → (t || true) ≡ true
+      by true = refl
+      by false = refl
+
 -- where some entry passes one test and every entry another, there is one that passes both
 pub some-every : {A : Type 0} (f g : A → Bool) (l : List A) → some f l ≡ true → every g l ≡ true → (x : A) × (f x ≡ true) × (g x ≡ true)
 some-every f g [] h k = absurd (subst T (sym h) tt)
@@ -132,6 +153,13 @@ module _ {A : Type 0} where
   pub total-same : (f g : A → ℕ) → ((x : A) → f x ≡ g x) → (l : List A) → total f l ≡ total g l
   total-same f g e [] = refl
   total-same f g e (x ∷ l) = rw (e x, total-same f g e l)
+
+  -- the first i entries
+  pub total-next : (f : A → ℕ) (l : List A) (i : ℕ) (d : A) → i < length l → total f (take (suc i) l) ≡ total f (take i l) + f (getD l i d)
+  total-next f l i d h = rw (take-suc l i d h, total-append f (take i l) (getD l i d ∷ [])) (omega arith)
+
+  pub total-part : (f : A → ℕ) (l : List A) (i : ℕ) → total f (take i l) ≤ total f l
+  total-part f l i = omega (arith, total-append f (take i l) (drop i l), ap (total f) (take-append-drop i l))
 
 -- ---- what holds below i, and at i
 pub below-next : (P : ℕ → Type 0) (i : ℕ) → ((j : ℕ) → j < i → P j) → P i → (j : ℕ) → j < i + 1 → P j

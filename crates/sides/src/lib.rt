@@ -1,15 +1,16 @@
-// The columns and the rows of an alist file of a code (document 02, L1), from its check records: the degrees, and the indices of all lists one behind the other.
+// The columns and the rows of an alist file (document 02, L1) of a code, from its check records: the degrees, and the indices of all lists one behind
+// the other.
 ghost use mathlib.Core.Path.{_≡_};
 ghost use mathlib.Core.List.{map};
-ghost use Prim.Native.Nat.{suc, _+_, _≤_, _<_};
+ghost use Prim.Native.Nat.{suc, _+_, _≤_};
 ghost use lib.ListN.{length};
 ghost use Rattle.lists.specs.Entries.{total};
-ghost use Rattle.lists.specs.Tabulated.{tab};
+ghost use Rattle.lists.specs.Tabulated.{tab, over};
 ghost use Rattle.model.specs.Limits.{mostBits, mostChecks};
 ghost use Rattle.model.specs.Records.{indices, checksIn, judgeCheck, judgeChecks};
 ghost use Rattle.model.specs.Alist.{columnFrom};
 ghost use Rattle.model.specs.AlistClaims.{joined};
-ghost use Rattle.sides.specs.Columns.{counted, Counted, Starts};
+ghost use Rattle.sides.specs.Columns.{counted, Counted, startOf, placed, Room};
 ghost use Rattle.text.specs.Appended.{Appended};
 use model::MOST_BITS;
 
@@ -75,9 +76,7 @@ pub fn column_degrees(s: &[u8], checks: usize, degrees: &mut [u16])
     requires { ⌜ (judgeChecks (length (now degrees)) checks (now s) ≡ 0) × (length (now degrees) ≤ mostBits) × (checks ≤ mostChecks) ⌝ }
     ensures { λ _. ⌜ now (degrees .exit) ≡ tab (length (now (degrees .entry))) (λ b. length (columnFrom 0 b (checksIn checks (now (s .entry))))) ⌝ }
 {
-    for b in 0..degrees.len() {
-        degrees[b] = 0u16;
-    }
+    slices::clear_u16(degrees);
     let bits = degrees.len();
     let mut rest = s;
     for j in 0..checks {
@@ -89,8 +88,8 @@ pub fn column_degrees(s: &[u8], checks: usize, degrees: &mut [u16])
 
 // Where each column begins, the columns standing one behind the other.
 fn starts(degrees: &[u16], next: &mut [u16; MOST_BITS])
-    requires { ⌜ (length (now degrees) ≤ mostBits) × (total (λ d. d) (now degrees) ≤ 65535) ⌝ }
-    ensures { λ _. ⌜ Starts (now (degrees .entry)) (now (next .exit)) ⌝ }
+    requires { ⌜ (length (now degrees) ≤ mostBits) × (length (now next) ≡ mostBits) × (total (λ d. d) (now degrees) ≤ 65535) ⌝ }
+    ensures { λ _. ⌜ now (next .exit) ≡ over (length (now (degrees .entry))) (startOf (now (degrees .entry))) (now (next .entry)) ⌝ }
 {
     let mut at = 0usize;
     for b in 0..degrees.len() {
@@ -99,8 +98,13 @@ fn starts(degrees: &[u16], next: &mut [u16; MOST_BITS])
     }
 }
 
-// Check j, from 1, at the next place of each of its bits' columns.
-fn place(s: &[u8], bits: usize, j: usize, next: &mut [u16; MOST_BITS], entries: &mut [u16]) {
+// Number j at the next place of the column of each bit of the check record that `s` begins with.
+fn place(s: &[u8], bits: usize, j: usize, next: &mut [u16; MOST_BITS], entries: &mut [u16])
+    requires { ⌜ (judgeCheck bits (now s) ≡ 0) × (bits ≤ mostBits) × (length (now next) ≡ mostBits) ⌝ }
+    requires { ⌜ (j ≤ 65535) × (length (now entries) ≤ 65535) × Room (indices (now s)) (now next) (now entries) ⌝ }
+    ensures next { λ _. ⌜ now (next .exit) ≡ counted (indices (now (s .entry))) (now (next .entry)) ⌝ }
+    ensures entries { λ _. ⌜ now (entries .exit) ≡ placed j (now (next .entry)) (indices (now (s .entry))) (now (entries .entry)) ⌝ }
+{
     let d = records::degree(s);
     for i in 0..d {
         let b = records::index(s, i);

@@ -27,6 +27,14 @@ pub fn i32_to_i64(x: i32) -> i64
 
 // ---- zeros
 
+pub fn clear_u16(l: &mut [u16])
+    ensures { λ _. ⌜ now (l .exit) ≡ tab (length (now (l .entry))) (λ _. 0) ⌝ }
+{
+    for i in 0..l.len() {
+        l[i] = 0u16;
+    }
+}
+
 pub fn clear_i32(l: &mut [i32])
     ensures { λ _. ⌜ now (l .exit) ≡ tab (length (now (l .entry))) (λ _. pos 0) ⌝ }
 {

@@ -2,13 +2,12 @@
 use Rattle.integers.proofs.Prelude.{_≡_, refl, sym, _∙_, List, ℕ, _-_, _≤_, _<_, arith, needs, eqb, length}
 use lib.ListN.{getD-replicate}
 use Rattle.lists.specs.Entries.{some}
-use Rattle.lists.proofs.Entries.{every-same}
+use Rattle.lists.proofs.Entries.{some-last, every-same}
 use Rattle.model.specs.Limits.{mostBits}
 use Rattle.model.specs.Records.{checksIn, judgeCheck, covered}
 use Rattle.model.proofs.Accepted.{record-sound}
 use Rattle.reader.specs.Marks.{marked, allMarked}
 use Rattle.records.proofs.Walk.{Walk, walk-start, walk-next, walk-checks, walk-judged}
-use Rattle.reader.proofs.Marks.{some-last}
 use Rattle.reader.proofs.covers.Statement.{statement}
 use Rattle.reader.proofs.covers.Tie as tie
 

@@ -2,11 +2,12 @@
 use Rattle.integers.proofs.Prelude.{_≡_, refl, sym, _∙_, _||_, ℕ, _-_, _<_, arith, add-one, needs, eqb, length, take, length-set, take-all, take-suc}
 use mathlib.Core.Bool.{or-assoc}
 use Rattle.lists.specs.Entries.{some}
+use Rattle.lists.proofs.Entries.{some-last}
 use Rattle.model.specs.Records.{indices}
 use Rattle.model.proofs.Accepted.{SoundRecord, record-sound}
 use Rattle.model.proofs.Sound.{rising-below}
 use Rattle.reader.specs.Marks.{marked}
-use Rattle.reader.proofs.Marks.{marked-set, some-last}
+use Rattle.reader.proofs.Marks.{marked-set}
 use Rattle.reader.proofs.mark.Statement.{statement}
 use Rattle.reader.proofs.mark.Tie as tie
 
