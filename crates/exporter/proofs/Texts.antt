@@ -8,6 +8,7 @@ use Rattle.lists.specs.Tabulated.{tab}
 use Rattle.lists.specs.Entries.{every, total}
 use Rattle.lists.proofs.Entries.{every-at}
 use Rattle.model.specs.Limits.{mostBits, mostPlaces}
+use Rattle.model.specs.Text.{decimal}
 use Rattle.model.specs.Code.{Code, tripleCount}
 use Rattle.model.specs.Sound.{SoundChecks, Sound}
 use Rattle.model.specs.Alist.{largest, times, columnFrom, columnsOf, rowsOf, fill, linesOf, lineOf, textOf, alistOf}
@@ -86,6 +87,36 @@ unfolding textOf
 text-append [] b = refl
 text-append (l ∷ a) b = rw (text-append a b) (sym (append-assoc (lineOf l) (textOf a) (textOf b)))
 
+-- the pairs, the degrees and the lists, of n columns with the degrees d and the entries e, and of m rows with r and f
+abbrev pub textFrom : ℕ → ℕ → List ℕ → List ℕ → List ℕ → List ℕ → List ℕ
+textFrom n m d r e f =
+    lineOf (n ∷ m ∷ []) ++ (lineOf (largest d ∷ largest r ∷ []) ++ (lineOf d ++ (lineOf r ++ (listsText (largest d) d e ++ listsText (largest r) r f))))
+
+pub length-text : (n m : ℕ) (d r e f : List ℕ)
+    → length (textFrom n m d r e f) ≡ field n + field m + field (largest d) + field (largest r) + length (sideText d e) + length (sideText r f)
+length-text n m d r e f =
+    let lists = listsText (largest d) d e ++ listsText (largest r) r f in
+    omega (
+      arith,
+      length-append (lineOf (n ∷ m ∷ [])) (lineOf (largest d ∷ largest r ∷ []) ++ (lineOf d ++ (lineOf r ++ lists))),
+      length-append (lineOf (largest d ∷ largest r ∷ [])) (lineOf d ++ (lineOf r ++ lists)),
+      length-append (lineOf d) (lineOf r ++ lists),
+      length-append (lineOf r) lists,
+      length-append (listsText (largest d) d e) (listsText (largest r) r f),
+      length-append (lineOf d) (listsText (largest d) d e),
+      length-append (lineOf r) (listsText (largest r) r f),
+      length-line (n ∷ m ∷ []) (omega arith),
+      length-line (largest d ∷ largest r ∷ []) (omega arith),
+    )
+
+-- by its parts: the digits of the pairs and the bytes of the sides
+pub measured : (n m : ℕ) (d r e f t : List ℕ) → t ≡ textFrom n m d r e f → (c l : ℕ) → c ≡ largest d → l ≡ largest r → (a b x y p q : ℕ)
+    → a ≡ length (decimal n) → b ≡ length (decimal m) → x ≡ length (decimal c) → y ≡ length (decimal l) → p ≡ length (sideText d e)
+    → q ≡ length (sideText r f) → a + b + x + y + 4 + p + q ≡ length t
+measured n m d r e f t is c l most-column most-row a b x y p q ha hb hx hy hp hq =
+    let digits : (u v : ℕ) → u ≡ v → length (decimal u) ≡ length (decimal v) = λ u v e. ap (λ (z : ℕ). length (decimal z)) e in
+    omega (arith, ap length is, length-text n m d r e f, digits c (largest d) most-column, digits l (largest r) most-row)
+
 module _ (k : Code) where
   abbrev pub column-degrees : List ℕ
   column-degrees = map length (columnsOf k)
@@ -109,15 +140,16 @@ module _ (k : Code) where
   unfolding columnsOf
   columns-joined = refl
 
-  -- the pairs, the degrees and the lists
-  pub text-is : alistOf k
-      ≡ lineOf (k .bits ∷ length (k .checks) ∷ [])
-      ++ (lineOf (largest column-degrees ∷ largest row-degrees ∷ [])
-      ++ (lineOf column-degrees
-      ++ (lineOf row-degrees
-      ++ (listsText (largest column-degrees) column-degrees (joined (columnsOf k)) ++ listsText (largest row-degrees) row-degrees (joined (rowsOf k))))))
+  pub text-is : alistOf k ≡ textFrom (k .bits) (length (k .checks)) column-degrees row-degrees (joined (columnsOf k)) (joined (rowsOf k))
   unfolding alistOf textOf
-  text-is = rw (length-columns k, length-rows k, cut-joined (columnsOf k), cut-joined (rowsOf k), text-append (map (fill (largest column-degrees)) (columnsOf k)) (map (fill (largest row-degrees)) (rowsOf k)))
+  text-is =
+      rw (
+        length-columns k,
+        length-rows k,
+        cut-joined (columnsOf k),
+        cut-joined (rowsOf k),
+        text-append (map (fill (largest column-degrees)) (columnsOf k)) (map (fill (largest row-degrees)) (rowsOf k)),
+      )
 
   module _ (s : Sound k) where
     rows-total : total length (rowsOf k) ≡ total length (k .checks)

@@ -13,7 +13,10 @@ use Rattle.model.proofs.Accepted.{length-checks}
 use Rattle.exporter.specs.Lines.{Side, listsText, sideText, codeFrom, Accepted, Lists}
 use Rattle.exporter.proofs.Lines.{field, length-line}
 use Rattle.exporter.proofs.Texts.{total-degrees, column-degrees, row-degrees, column-degrees-are, row-degrees-are, columns-joined, rows-joined}
-use Rattle.exporter.proofs.Texts.{columns-total, few, columns-side, rows-side, text-is}
+use Rattle.exporter.proofs.Texts.{columns-total, few, columns-side, rows-side, textFrom, text-is}
+
+same-text : (n : ℕ) {m m′ : ℕ} {d d′ r r′ e e′ f f′ : List ℕ} → m ≡ m′ → d ≡ d′ → r ≡ r′ → e ≡ e′ → f ≡ f′ → textFrom n m d r e f ≡ textFrom n m′ d′ r′ e′ f′
+same-text n p q r s t = rw (p, q, r, s, t)
 
 module _ (s columns rows entries : List ℕ) (w : Lists s columns rows entries) where
   abbrev checks : List (List ℕ)
@@ -60,3 +63,15 @@ module _ (s columns rows entries : List ℕ) (w : Lists s columns rows entries) 
 
       pub side-columns : Side d e
       side-columns = rw (columns-are, entries-are) (columns-side code (w .sound .1))
+
+      module _ (f : List ℕ) (told : f ≡ joined (map (map suc) checks)) where
+        row-entries-are : f ≡ joined (rowsOf code)
+        row-entries-are = told ∙ rows-joined code
+
+        pub side-rows : Side rows f
+        side-rows = rw (rows-are, row-entries-are) (rows-side code (w .sound .1))
+
+        pub text : alistOf code ≡ textFrom (length columns) (length rows) d rows e f
+        text =
+            text-is code
+            ∙ same-text (length columns) (length-checks (length rows) s) (sym columns-are) (sym rows-are) (sym entries-are) (sym row-entries-are)

@@ -1,116 +1,61 @@
-use borrow.Author.Needs.{needs}
+-- `exporter::measure_in` meets its contract: the pairs, the columns and the rows. Assumes nothing.
+use Rattle.integers.proofs.Prelude.{_≡_, ap, _∙_, List, ℕ, arith, needs, length}
+use Rattle.model.specs.Text.{decimal}
+use Rattle.model.specs.Alist.{largest}
+use Rattle.exporter.specs.Lines.{Side}
+use Rattle.exporter.proofs.Texts.{measured}
+use Rattle.exporter.proofs.Work.{bits-most, checks-most, entries-asked, side-columns, side-rows, text}
 use Rattle.exporter.proofs.measure_in.Statement.{statement}
 use Rattle.exporter.proofs.measure_in.Tie as tie
-use Rattle.exporter.proofs.measure_in.Reads as reads
-use Rattle.exporter.proofs.measure_in.Lts as lts
-use Rattle.sides.proofs.column_degrees.Reads as column-degrees-reads
-use Rattle.sides.proofs.column_entries.Reads as column-entries-reads
-use Rattle.exporter.proofs.digits.Reads as digits-reads
-use Rattle.exporter.proofs.largest.Reads as largest-reads
-use Rattle.sides.proofs.row_entries.Reads as row-entries-reads
-use Rattle.exporter.proofs.side_size.Reads as side-size-reads
 
--- src/lib.rt:178:5
 column-degrees-requires : tie.Need-column-degrees-requires
-column-degrees-requires c κs = ?
+column-degrees-requires c κs =
+    let s = c .before .before .before .before .before in
+    (s .pre .sound .0, bits-most _ _ _ _ (s .pre), checks-most _ _ _ _ (s .pre))
 
--- src/lib.rt:179:17
-digits-requires : tie.Need-digits-requires
-digits-requires c κs = search needs
+-- ---- the degrees of the columns are found
+abbrev start : tie.After-column-degrees → tie.Start
+start c = c .before .before .before .before .before .before
 
--- src/lib.rt:179:32
-digits-requires-2 : tie.Need-digits-requires-2
-digits-requires-2 c κs = ?
+abbrev found : tie.After-column-entries-arg2 → tie.After-column-degrees
+found c = c .before .before .before .before .before .before .before .before .before .before .before
 
--- src/lib.rt:179:17
-add-pairs : tie.Need-add-pairs
-add-pairs c = search needs
-
--- src/lib.rt:179:56
-largest-requires : tie.Need-largest-requires
-largest-requires c κs = search needs
-
--- src/lib.rt:179:49
-digits-requires-3 : tie.Need-digits-requires-3
-digits-requires-3 c κs = search needs
-
--- src/lib.rt:179:17
-add-pairs-2 : tie.Need-add-pairs-2
-add-pairs-2 c = search needs
-
--- src/lib.rt:179:88
-largest-requires-2 : tie.Need-largest-requires-2
-largest-requires-2 c κs = search needs
-
--- src/lib.rt:179:81
-digits-requires-4 : tie.Need-digits-requires-4
-digits-requires-4 c κs = search needs
-
--- src/lib.rt:179:17
-add-pairs-3 : tie.Need-add-pairs-3
-add-pairs-3 c = search needs
-
--- src/lib.rt:179:17
-add-pairs-4 : tie.Need-add-pairs-4
-add-pairs-4 c = search needs
-
--- src/lib.rt:180:5
 column-entries-requires : tie.Need-column-entries-requires
-column-entries-requires c κs = ?
+column-entries-requires c κs = let d = found c in entries-asked _ _ _ _ (start d .pre) _ (d .column-degrees .ensures)
 
--- src/lib.rt:181:9
+-- ---- and their entries
+sides-columns : (c : tie.After-column-entries) → Side (found (c .before) .column-degrees .last .1 .1 .0) (c .column-entries .last .1 .1 .1 .0)
+sides-columns c = let d = found (c .before) in side-columns _ _ _ _ (start d .pre) _ (d .column-degrees .ensures) _ (c .column-entries .ensures)
+
 side-size-requires : tie.Need-side-size-requires
-side-size-requires c κs = ?
+side-size-requires c κs = sides-columns (c .before .before .before .before)
 
--- src/lib.rt:182:5
-row-entries-requires : tie.Need-row-entries-requires
-row-entries-requires c κs = search needs
-
--- src/lib.rt:183:9
+-- ---- and those of the rows
 side-size-requires-2 : tie.Need-side-size-requires-2
-side-size-requires-2 c κs = ?
+side-size-requires-2 c κs =
+    let r = c .before .before .before in
+    let e = r .before .before .before .before .before .before .before in
+    let d = found (e .before) in
+    side-rows _ _ _ _ (start d .pre) _ (d .column-degrees .ensures) _ (e .column-entries .ensures) _ (r .row-entries .ensures)
 
--- src/lib.rt:184:5
-add-result : tie.Need-add-result
-add-result c = search needs
-
--- src/lib.rt:184:5
-add-result-2 : tie.Need-add-result-2
-add-result-2 c = search needs
-
--- src/lib.rt:172:1
-same-length : tie.Need-same-length
-same-length c = search needs
-
--- src/lib.rt:172:1
-same-length-2 : tie.Need-same-length-2
-same-length-2 c = search needs
-
--- src/lib.rt:172:1
 returns : tie.Need-returns
-returns c = ?
+returns c =
+    let r = c .before .before .before .before in
+    let z = r .before .before in
+    let e = z .before .before .before .before .before in
+    let d = found (e .before) in
+    let rows = e .before .before .before in
+    let columns = rows .before .before in
+    let counts = columns .before .before .before in
+    measured _ _ _ _ _ _ _
+    (text _ _ _ _ (start d .pre) _ (d .column-degrees .ensures) _ (e .column-entries .ensures) _ (r .row-entries .ensures))
+    _ _ (columns .before .largest .ensures .0) (rows .before .largest2 .ensures .0)
+    _ _ _ _ _ _ (counts .before .digits .ensures .0) (counts .digits2 .ensures .0) (columns .digits3 .ensures .0) (rows .digits4 .ensures .0)
+    (z .side-size .ensures .0) (c .side-size2 .ensures .0)
 
 pub measure-in-spec : {M : Type 1} → statement M
 measure-in-spec =
-    tie.close
-    (tie.spec
-    column-degrees-requires
-    digits-requires
-    digits-requires-2
-    add-pairs
-    largest-requires
-    digits-requires-3
-    add-pairs-2
-    largest-requires-2
-    digits-requires-4
-    add-pairs-3
-    add-pairs-4
-    column-entries-requires
-    side-size-requires
-    row-entries-requires
-    side-size-requires-2
-    add-result
-    add-result-2
-    same-length
-    same-length-2
-    returns)
+    tie.close (tie.spec column-degrees-requires (λ c κs. search needs) (λ c κs. omega (arith, checks-most _ _ _ _ (start (c .before .before .before) .pre)))
+    (λ c. search needs) (λ c κs. search needs) (λ c κs. search needs) (λ c. search needs) (λ c κs. search needs) (λ c κs. search needs) (λ c. search needs)
+    (λ c. search needs) column-entries-requires side-size-requires (λ c κs. search needs) side-size-requires-2 (λ c. search needs) (λ c. search needs)
+    (λ c. search needs) (λ c. search needs) returns)
