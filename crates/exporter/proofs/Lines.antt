@@ -1,7 +1,8 @@
 -- Lines of numbers: how long they are, and how they grow. Assumes nothing.
-use Rattle.integers.proofs.Prelude.{_≡_, refl, sym, ap, _∙_, List, [], _∷_, _++_, append-assoc, ℕ, zero, suc, _+_, _-_, _*_, _/_, _≤_, _<_, arith, add-one}
+use Rattle.integers.proofs.Prelude.{_≡_, refl, sym, ap, _∙_, List, [], _∷_, _++_, append-assoc, append-nil, ℕ, zero, suc, _+_, _-_, _*_, _/_, _≤_, _<_, arith, add-one}
 use Rattle.integers.proofs.Prelude.{length, getD, take, drop, length-append, length-take-le, take-at, take-append-drop, take-suc, drop-at}
 use lib.ListN.{replicate, length-replicate, replicate-append-replicate}
+use Rattle.lists.specs.Tabulated.{written}
 use Rattle.lists.specs.Entries.{total}
 use Rattle.lists.proofs.Entries.{total-append}
 use Rattle.model.specs.Text.{decimal}
@@ -127,3 +128,25 @@ module _ {at : ℕ} {a b c : List ℕ} {next end : ℕ} where
   pub ended : (l : List ℕ) → 1 ≤ length l → Appended at (spaced l) a b next → Appended (next - 1) (10 ∷ []) b c end → Appended at (lineOf l) a c end
   ended [] h p q = absurd (omega arith)
   ended (x ∷ l) h p q = rw (inner-line x l) (replaced (inner x l) 32 10 (rw (inner-spaced x l) at p) q)
+
+-- ---- one piece after another: there is room for what is left
+pub record Room (at : ℕ) (left a : List ℕ) : Type 0 where
+  pub fits : at + length left ≤ length a
+
+pub room-start : (left a : List ℕ) → length left ≤ length a → Room 0 left a
+room-start left a h = record { fits = omega arith }
+
+-- for the next piece, and for what is left after it
+pub room-here : {at : ℕ} {a : List ℕ} (t rest : List ℕ) → Room at (t ++ rest) a → at + length t ≤ length a
+room-here t rest r = omega (arith, r .fits, length-append t rest)
+
+pub room-next : {at next : ℕ} {t a b : List ℕ} (rest : List ℕ) → Room at (t ++ rest) a → Appended at t a b next → Room next rest b
+room-next {t = t} rest r p = record { fits = omega (arith, r .fits, length-append t rest, p .ends, long p) }
+
+-- all of it
+pub whole-text : {t a b : List ℕ} {next : ℕ} → Appended 0 t a b next → b ≡ written t a
+whole-text {t} {a} p = let z : 0 + length t ≡ length t = omega arith in p .list ∙ ap (λ (n : ℕ). t ++ drop n a) z
+
+-- a list that is filled to its own length
+pub fill-none : (l : List ℕ) → fill (length l) l ≡ l
+fill-none l = let z : length l - length l ≡ 0 = omega arith in rw z (append-nil l)

@@ -4,7 +4,7 @@ use Rattle.integers.proofs.Prelude.{length, getD, take, drop, length-append, le
 use Rattle.lists.specs.Entries.{total}
 use Rattle.lists.proofs.Entries.{total-append}
 use Rattle.model.specs.Alist.{largest, fill, lineOf, textOf}
-use Rattle.exporter.specs.Lines.{cut, Side, listsText, sideText}
+use Rattle.exporter.specs.Lines.{cut, Side, filledText, listsText, sideText}
 use Rattle.exporter.proofs.Lines.{field, length-line, length-filled}
 
 -- ---- the largest degree
@@ -26,17 +26,17 @@ total-most most (d ∷ l) h = omega (arith, total-most most l (omega arith))
 
 -- ---- the lists, one behind the other
 module _ (most : ℕ) where
-  lists-append : (a b entries : List ℕ) → listsText most (a ++ b) entries ≡ listsText most a entries ++ listsText most b (drop (total (λ d. d) a) entries)
+  lists-append : (a b entries : List ℕ) → filledText most (a ++ b) entries ≡ filledText most a entries ++ filledText most b (drop (total (λ d. d) a) entries)
   unfolding textOf
   lists-append [] b entries = refl
   lists-append (d ∷ a) b entries =
       rw (lists-append a b (drop d entries), drop-drop (total (λ d. d) a) d entries)
-      (sym (append-assoc (lineOf (fill most (take d entries))) (listsText most a (drop d entries)) (listsText most b (drop (d + total (λ d. d) a) entries))))
+      (sym (append-assoc (lineOf (fill most (take d entries))) (filledText most a (drop d entries)) (filledText most b (drop (d + total (λ d. d) a) entries))))
 
   -- ---- how long
   module _ (some : 1 ≤ most) where
     pub length-lists : (degrees entries : List ℕ) → largest degrees ≤ most → length entries ≡ total (λ d. d) degrees
-        → length (listsText most degrees entries) ≡ total field entries + 2 * (length degrees * most - length entries)
+        → length (filledText most degrees entries) ≡ total field entries + 2 * (length degrees * most - length entries)
     unfolding textOf
     length-lists [] [] h e = omega arith
     length-lists [] (x ∷ entries) h e = absurd (omega arith)
@@ -47,7 +47,7 @@ module _ (most : ℕ) where
         let parts = ap (total field) (take-append-drop d entries) in
         omega (
           arith,
-          length-append (lineOf (fill most (take d entries))) (listsText most degrees (drop d entries)),
+          length-append (lineOf (fill most (take d entries))) (filledText most degrees (drop d entries)),
           length-filled most (take d entries) some (omega arith),
           total-append field (take d entries) (drop d entries),
           total-most most degrees (omega arith),
@@ -57,7 +57,7 @@ module _ (most : ℕ) where
 pub length-side : (degrees entries : List ℕ) → Side degrees entries
     → length (sideText degrees entries) ≡ total field degrees + total field entries + 2 * (length degrees * largest degrees - length entries)
 length-side degrees entries s =
-    let lists = listsText (largest degrees) degrees entries in
+    let lists = listsText degrees entries in
     length-append (lineOf degrees) lists ∙ omega (arith, length-line degrees (some-degree degrees (s .some)), length-lists (largest degrees) (s .some) degrees entries (omega arith) (s .long))
 
 -- ---- of a loop over the lists, at the i-th, which has d entries and begins at first: as it is lent, and what is known of it
@@ -69,9 +69,9 @@ pub record Listed (most : ℕ) (degrees entries : List ℕ) (i first d : ℕ) : 
   pub inside : first + d ≤ length entries
   pub long : length (lent entries first d) ≡ d
   pub small : d ≤ largest degrees
-  pub next : listsText most (take (i + 1) degrees) entries ≡ listsText most (take i degrees) entries ++ lineOf (fill most (lent entries first d))
+  pub next : filledText most (take (i + 1) degrees) entries ≡ filledText most (take i degrees) entries ++ lineOf (fill most (lent entries first d))
   -- there is room for it where there is room for all
-  pub room : length (listsText most (take i degrees) entries) + length (lineOf (fill most (lent entries first d))) ≤ length (listsText most degrees entries)
+  pub room : length (filledText most (take i degrees) entries) + length (lineOf (fill most (lent entries first d))) ≤ length (filledText most degrees entries)
 
 pub listed : (most : ℕ) (degrees entries : List ℕ) → length entries ≡ total (λ d. d) degrees → (i : ℕ) → i < length degrees → (first d : ℕ)
     → first ≡ total (λ d. d) (take i degrees) → d ≡ getD degrees i 0 → Listed most degrees entries i first d
@@ -79,13 +79,13 @@ unfolding textOf
 listed most degrees entries long i h first d begins degree =
     let all = total (λ (d : ℕ). d) in
     let here = take (i + 1) degrees in
-    let text = listsText most (take i degrees) entries in
+    let text = filledText most (take i degrees) entries in
     let line = lineOf (fill most (lent entries first d)) in
     let one : here ≡ take i degrees ++ (getD degrees i 0 ∷ []) = rw (add-one i) (take-suc degrees i 0 h) in
     let ends : first + d ≡ all here = rw one (omega (arith, total-append (λ d. d) (take i degrees) (getD degrees i 0 ∷ []))) in
     let inside : first + d ≤ length entries = omega (arith, ap all (take-append-drop (i + 1) degrees), total-append (λ d. d) here (drop (i + 1) degrees)) in
     let same : first + d - first ≡ getD degrees i 0 = omega arith in
-    let next : listsText most here entries ≡ text ++ line
+    let next : filledText most here entries ≡ text ++ line
     = rw (one, lists-append most (take i degrees) (getD degrees i 0 ∷ []) entries, same, begins) (ap (λ (s : List ℕ). text ++ s) (append-nil _)) in
     record {
       ends = ends;
@@ -96,9 +96,9 @@ listed most degrees entries long i h first d begins degree =
       room =
           omega (
             arith,
-            ap (λ (l : List ℕ). length (listsText most l entries)) (take-append-drop (i + 1) degrees),
+            ap (λ (l : List ℕ). length (filledText most l entries)) (take-append-drop (i + 1) degrees),
             ap length (lists-append most here (drop (i + 1) degrees) entries),
-            length-append (listsText most here entries) (listsText most (drop (i + 1) degrees) (drop (all here) entries)),
+            length-append (filledText most here entries) (filledText most (drop (i + 1) degrees) (drop (all here) entries)),
             ap length next,
             length-append text line,
           );

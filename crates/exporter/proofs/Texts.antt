@@ -15,7 +15,7 @@ use Rattle.model.specs.Alist.{largest, times, columnFrom, columnsOf, rowsOf, fi
 use Rattle.model.specs.AlistClaims.{joined, SamePlaces}
 use Rattle.model.proofs.Agreement.{times-length, columns-upTo, rows-upTo}
 use Rattle.model.proofs.AlistCode.{length-columns, length-rows, columns-from-one, rows-from-one, code-places}
-use Rattle.exporter.specs.Lines.{cut, Side, listsText, sideText}
+use Rattle.exporter.specs.Lines.{cut, Side, listsText, sideText, headText}
 use Rattle.exporter.proofs.Lines.{field, length-line}
 
 -- ---- lists one behind the other, and their degrees
@@ -87,35 +87,37 @@ unfolding textOf
 text-append [] b = refl
 text-append (l ∷ a) b = rw (text-append a b) (sym (append-assoc (lineOf l) (textOf a) (textOf b)))
 
--- the pairs, the degrees and the lists, of n columns with the degrees d and the entries e, and of m rows with r and f
-abbrev pub textFrom : ℕ → ℕ → List ℕ → List ℕ → List ℕ → List ℕ → List ℕ
-textFrom n m d r e f =
-    lineOf (n ∷ m ∷ []) ++ (lineOf (largest d ∷ largest r ∷ []) ++ (lineOf d ++ (lineOf r ++ (listsText (largest d) d e ++ listsText (largest r) r f))))
+-- by the degrees d of the columns and their entries e, and r and f of the rows
+abbrev pub textFrom : List ℕ → List ℕ → List ℕ → List ℕ → List ℕ
+textFrom d r e f = headText d r ++ (listsText d e ++ listsText r f)
 
-pub length-text : (n m : ℕ) (d r e f : List ℕ)
-    → length (textFrom n m d r e f) ≡ field n + field m + field (largest d) + field (largest r) + length (sideText d e) + length (sideText r f)
-length-text n m d r e f =
-    let lists = listsText (largest d) d e ++ listsText (largest r) r f in
+length-text : (d r e f : List ℕ)
+    → length (textFrom d r e f) ≡ field (length d) + field (length r) + field (largest d) + field (largest r) + length (sideText d e) + length (sideText r f)
+length-text d r e f =
+    let counts = length d ∷ length r ∷ [] in
+    let most = largest d ∷ largest r ∷ [] in
     omega (
       arith,
-      length-append (lineOf (n ∷ m ∷ [])) (lineOf (largest d ∷ largest r ∷ []) ++ (lineOf d ++ (lineOf r ++ lists))),
-      length-append (lineOf (largest d ∷ largest r ∷ [])) (lineOf d ++ (lineOf r ++ lists)),
-      length-append (lineOf d) (lineOf r ++ lists),
-      length-append (lineOf r) lists,
-      length-append (listsText (largest d) d e) (listsText (largest r) r f),
-      length-append (lineOf d) (listsText (largest d) d e),
-      length-append (lineOf r) (listsText (largest r) r f),
-      length-line (n ∷ m ∷ []) (omega arith),
-      length-line (largest d ∷ largest r ∷ []) (omega arith),
+      length-append (headText d r) (listsText d e ++ listsText r f),
+      length-append (lineOf counts) (lineOf most ++ (lineOf d ++ lineOf r)),
+      length-append (lineOf most) (lineOf d ++ lineOf r),
+      length-append (lineOf d) (lineOf r),
+      length-append (listsText d e) (listsText r f),
+      length-append (lineOf d) (listsText d e),
+      length-append (lineOf r) (listsText r f),
+      length-line counts (omega arith),
+      length-line most (omega arith),
     )
 
+same-digits : {u v : ℕ} → u ≡ v → length (decimal u) ≡ length (decimal v)
+same-digits e = ap (λ (x : ℕ). length (decimal x)) e
+
 -- by its parts: the digits of the pairs and the bytes of the sides
-pub measured : (n m : ℕ) (d r e f t : List ℕ) → t ≡ textFrom n m d r e f → (c l : ℕ) → c ≡ largest d → l ≡ largest r → (a b x y p q : ℕ)
-    → a ≡ length (decimal n) → b ≡ length (decimal m) → x ≡ length (decimal c) → y ≡ length (decimal l) → p ≡ length (sideText d e)
+pub measured : (n m : ℕ) (d r e f t : List ℕ) → n ≡ length d → m ≡ length r → t ≡ textFrom d r e f → (c l : ℕ) → c ≡ largest d → l ≡ largest r
+    → (a b x y p q : ℕ) → a ≡ length (decimal n) → b ≡ length (decimal m) → x ≡ length (decimal c) → y ≡ length (decimal l) → p ≡ length (sideText d e)
     → q ≡ length (sideText r f) → a + b + x + y + 4 + p + q ≡ length t
-measured n m d r e f t is c l most-column most-row a b x y p q ha hb hx hy hp hq =
-    let digits : (u v : ℕ) → u ≡ v → length (decimal u) ≡ length (decimal v) = λ u v e. ap (λ (z : ℕ). length (decimal z)) e in
-    omega (arith, ap length is, length-text n m d r e f, digits c (largest d) most-column, digits l (largest r) most-row)
+measured n m d r e f t bits checks is c l most-column most-row a b x y p q ha hb hx hy hp hq =
+    omega (arith, ap length is, length-text d r e f, same-digits bits, same-digits checks, same-digits most-column, same-digits most-row)
 
 module _ (k : Code) where
   abbrev pub column-degrees : List ℕ
@@ -140,16 +142,19 @@ module _ (k : Code) where
   unfolding columnsOf
   columns-joined = refl
 
-  pub text-is : alistOf k ≡ textFrom (k .bits) (length (k .checks)) column-degrees row-degrees (joined (columnsOf k)) (joined (rowsOf k))
+  pub text-is : alistOf k ≡ textFrom column-degrees row-degrees (joined (columnsOf k)) (joined (rowsOf k))
   unfolding alistOf textOf
   text-is =
+      let cs = columnsOf k in
+      let rs = rowsOf k in
       rw (
-        length-columns k,
-        length-rows k,
-        cut-joined (columnsOf k),
-        cut-joined (rowsOf k),
-        text-append (map (fill (largest column-degrees)) (columnsOf k)) (map (fill (largest row-degrees)) (rowsOf k)),
+        length-map cs length,
+        length-map rs length,
+        cut-joined cs,
+        cut-joined rs,
+        text-append (map (fill (largest column-degrees)) cs) (map (fill (largest row-degrees)) rs),
       )
+      (simp append-assoc)
 
   module _ (s : Sound k) where
     rows-total : total length (rowsOf k) ≡ total length (k .checks)

@@ -1,5 +1,5 @@
 -- The lists that a measure and a text are made by: what the calls of `sides` want and give there. Assumes nothing.
-use Rattle.integers.proofs.Prelude.{_≡_, refl, sym, ap, ap₂, _∙_, List, [], _∷_, _++_, map, ℕ, suc, _+_, _≤_, arith, length, length-append, length-map}
+use Rattle.integers.proofs.Prelude.{_≡_, refl, sym, ap, ap₂, _∙_, List, [], _∷_, _++_, map, ℕ, suc, _+_, _≤_, arith, length, take, drop, length-append, length-map, length-take-le, take-at}
 use Rattle.lists.specs.Tabulated.{tab}
 use Rattle.lists.specs.Entries.{total}
 use Rattle.lists.proofs.Tabulated.{length-tab}
@@ -11,12 +11,12 @@ use Rattle.model.specs.Alist.{largest, columnFrom, columnsOf, rowsOf, lineOf, a
 use Rattle.model.specs.AlistClaims.{joined}
 use Rattle.model.proofs.Accepted.{length-checks}
 use Rattle.exporter.specs.Lines.{Side, listsText, sideText, codeFrom, Accepted, Lists}
-use Rattle.exporter.proofs.Lines.{field, length-line}
+use Rattle.exporter.proofs.Lines.{Room, room-start}
 use Rattle.exporter.proofs.Texts.{total-degrees, column-degrees, row-degrees, column-degrees-are, row-degrees-are, columns-joined, rows-joined}
 use Rattle.exporter.proofs.Texts.{columns-total, few, columns-side, rows-side, textFrom, text-is}
 
-same-text : (n : ℕ) {m m′ : ℕ} {d d′ r r′ e e′ f f′ : List ℕ} → m ≡ m′ → d ≡ d′ → r ≡ r′ → e ≡ e′ → f ≡ f′ → textFrom n m d r e f ≡ textFrom n m′ d′ r′ e′ f′
-same-text n p q r s t = rw (p, q, r, s, t)
+same-text : {d d′ r r′ e e′ f f′ : List ℕ} → d ≡ d′ → r ≡ r′ → e ≡ e′ → f ≡ f′ → textFrom d r e f ≡ textFrom d′ r′ e′ f′
+same-text q r s t = rw (q, r, s, t)
 
 module _ (s columns rows entries : List ℕ) (w : Lists s columns rows entries) where
   abbrev checks : List (List ℕ)
@@ -31,6 +31,9 @@ module _ (s columns rows entries : List ℕ) (w : Lists s columns rows entries) 
   pub checks-most : length rows ≤ mostChecks
   checks-most = omega (arith, w .sound .1 .checks-most, length-checks (length rows) s)
 
+  pub some-check : 1 ≤ length rows
+  some-check = omega (arith, w .sound .1 .checks-least, length-checks (length rows) s)
+
   rows-are : rows ≡ row-degrees code
   rows-are = w .degrees ∙ row-degrees-are code
 
@@ -38,6 +41,9 @@ module _ (s columns rows entries : List ℕ) (w : Lists s columns rows entries) 
   module _ (d : List ℕ) (degrees : d ≡ tab (length columns) (λ b. length (columnFrom 0 b checks))) where
     pub long : length d ≡ length columns
     long = ap length degrees ∙ length-tab (length columns) (λ b. length (columnFrom 0 b checks))
+
+    pub some-bit : 1 ≤ length d
+    some-bit = omega (arith, long, w .sound .1 .bits-least)
 
     columns-are : d ≡ column-degrees code
     columns-are = degrees ∙ column-degrees-are code
@@ -71,7 +77,59 @@ module _ (s columns rows entries : List ℕ) (w : Lists s columns rows entries) 
         pub side-rows : Side rows f
         side-rows = rw (rows-are, row-entries-are) (rows-side code (w .sound .1))
 
-        pub text : alistOf code ≡ textFrom (length columns) (length rows) d rows e f
-        text =
-            text-is code
-            ∙ same-text (length columns) (length-checks (length rows) s) (sym columns-are) (sym rows-are) (sym entries-are) (sym row-entries-are)
+        pub text : alistOf code ≡ textFrom d rows e f
+        text = text-is code ∙ same-text (sym columns-are) (sym rows-are) (sym entries-are) (sym row-entries-are)
+
+        -- a list with room for the text has room for its parts
+        pub room : (t : List ℕ) → length (alistOf code) ≤ length t → Room 0 (textFrom d rows e f) t
+        room t h = room-start (textFrom d rows e f) t (omega (arith, ap length text))
+
+-- ---- such lists as parts of longer ones, x, y and z; the degrees of the rows come back from a loan as p, and their sum is r
+pub record Prepared (s : List ℕ) (n m r : ℕ) (x y z p : List ℕ) : Type 0 where
+  pub checks : m ≤ length (p ++ drop m y)
+  pub places : r ≤ length z
+  pub bits-long : length (take n x) ≡ n
+  pub checks-long : length (take m (p ++ drop m y)) ≡ m
+  pub places-long : length (take r z) ≡ r
+  pub lists : Lists s (take n x) (take m (p ++ drop m y)) (take r z)
+
+-- before that loan
+module _ (s : List ℕ) (n m : ℕ) (sound : Accepted n m s) where
+  pub checks-few : m ≤ mostChecks
+  checks-few = omega (arith, sound .1 .checks-most, length-checks m s)
+
+  module _ (y : List ℕ) (long : length y ≡ mostChecks) where
+    pub part-long : length (take m y) ≡ m
+    part-long = length-take-le m y (omega (arith, checks-few))
+
+    pub degrees-asked : (judgeChecks n (length (take m y)) s ≡ 0) × (length (take m y) ≤ mostChecks)
+    degrees-asked = (ap (λ (m : ℕ). judgeChecks n m s) part-long ∙ sound .0, omega (arith, part-long, checks-few))
+
+pub prepared : (s : List ℕ) (n m r : ℕ) (x y z p : List ℕ) → length x ≡ mostBits → length y ≡ mostChecks → length z ≡ mostPlaces → Accepted n m s
+    → p ≡ map length (checksIn (length (take m y)) s) → r ≡ total length (checksIn (length (take m y)) s) → Prepared s n m r x y z p
+prepared s n m r x y z p long-x long-y long-z sound degrees sum =
+    let lent = part-long s n m sound y long-y in
+    let is : p ≡ map length (checksIn m s) = rw lent at degrees in
+    let total-is : r ≡ total length (checksIn m s) = rw lent at sum in
+    let long-p : length p ≡ m = ap length is ∙ length-map (checksIn m s) length ∙ length-checks m s in
+    let rows-is : take m (p ++ drop m y) ≡ p = take-at p (drop m y) m long-p in
+    let bits-long : length (take n x) ≡ n = length-take-le n x (omega (arith, sound .1 .bits-most)) in
+    let checks-long : length (take m (p ++ drop m y)) ≡ m = ap length rows-is ∙ long-p in
+    let room : r ≤ length z = omega (arith, few (codeFrom n m s) (sound .1)) in
+    let places-long : length (take r z) ≡ r = length-take-le r z room in
+    record {
+      checks = omega (arith, length-append p (drop m y));
+      places = room;
+      bits-long = bits-long;
+      checks-long = checks-long;
+      places-long = places-long;
+      lists = record {
+        sound = rw (bits-long, checks-long) sound;
+        degrees = rw (checks-long, rows-is) is;
+        places = places-long ∙ total-is ∙ ap (λ (m : ℕ). total length (checksIn m s)) (sym checks-long);
+      };
+    }
+
+-- the code is the same by the parts
+pub same-code : {s : List ℕ} {n m r : ℕ} {x y z p : List ℕ} → Prepared s n m r x y z p → codeFrom (length (take n x)) (length (take m (p ++ drop m y))) s ≡ codeFrom n m s
+same-code {s = s} q = ap₂ (λ (n m : ℕ). codeFrom n m s) (q .bits-long) (q .checks-long)

@@ -28,13 +28,21 @@ pub record Side (degrees entries : List ℕ) : Type 0 where
   pub few : length degrees ≤ mostBits
   pub small : length entries ≤ mostPlaces
 
--- the lines of the lists, each filled to so many numbers
-abbrev pub listsText : ℕ → List ℕ → List ℕ → List ℕ
-listsText most degrees entries = textOf (map (fill most) (cut degrees entries))
+-- the lines of the lists, each filled to so many numbers, and to the largest degree
+abbrev pub filledText : ℕ → List ℕ → List ℕ → List ℕ
+filledText most degrees entries = textOf (map (fill most) (cut degrees entries))
+
+abbrev pub listsText : List ℕ → List ℕ → List ℕ
+listsText degrees entries = filledText (largest degrees) degrees entries
 
 -- the line of the degrees and those of the lists
 abbrev pub sideText : List ℕ → List ℕ → List ℕ
-sideText degrees entries = lineOf degrees ++ listsText (largest degrees) degrees entries
+sideText degrees entries = lineOf degrees ++ listsText degrees entries
+
+-- what stands before the lists, by the degrees of the columns and of the rows: both pairs and both lines of degrees
+abbrev pub headText : List ℕ → List ℕ → List ℕ
+headText columns rows =
+    lineOf (length columns ∷ length rows ∷ []) ++ (lineOf (largest columns ∷ largest rows ∷ []) ++ (lineOf columns ++ lineOf rows))
 
 -- the code of so many bits whose check records s begins with
 abbrev pub codeFrom : ℕ → ℕ → List ℕ → Code

@@ -8,7 +8,7 @@ ghost use Rattle.model.specs.Text.{decimal};
 ghost use Rattle.lists.specs.Tabulated.{written};
 ghost use Rattle.model.specs.Alist.{largest, fill, lineOf, alistOf};
 ghost use Rattle.model.specs.AlistPromises.{ExportCall, SizeCall};
-ghost use Rattle.exporter.specs.Lines.{Side, spaced, listsText, sideText, codeFrom, Accepted, Lists};
+ghost use Rattle.exporter.specs.Lines.{Side, spaced, headText, listsText, sideText, codeFrom, Accepted, Lists};
 ghost use Rattle.text.specs.Appended.{Appended};
 use model::MOST_BITS;
 use model::MOST_CHECKS;
@@ -115,12 +115,12 @@ fn put_pair(x: usize, y: usize, text: &mut [u8], at: usize) -> usize
     text::put(b'\n', text, end)
 }
 
-// The lines of the lists of a side, each filled to `most` numbers, from `at` on; where the next byte goes.
-fn put_lists(degrees: &[u16], entries: &[u16], most: usize, text: &mut [u8], at: usize) -> usize
-    requires { ⌜ Side (now degrees) (now entries) × (largest (now degrees) ≤ most) ⌝ }
-    requires { ⌜ at + length (listsText most (now degrees) (now entries)) ≤ length (now text) ⌝ }
-    ensures { λ r. ⌜ Appended at (listsText most (now (degrees .entry)) (now (entries .entry))) (now (text .entry)) (now (text .exit)) r ⌝ }
+// The lines of the lists of a side, each filled to the largest degree, from `at` on; where the next byte goes.
+fn put_lists(degrees: &[u16], entries: &[u16], text: &mut [u8], at: usize) -> usize
+    requires { ⌜ Side (now degrees) (now entries) × (at + length (listsText (now degrees) (now entries)) ≤ length (now text)) ⌝ }
+    ensures { λ r. ⌜ Appended at (listsText (now (degrees .entry)) (now (entries .entry))) (now (text .entry)) (now (text .exit)) r ⌝ }
 {
+    let most = largest(degrees);
     let mut next = at;
     let mut first = 0usize;
     for i in 0..degrees.len() {
@@ -129,6 +129,19 @@ fn put_lists(degrees: &[u16], entries: &[u16], most: usize, text: &mut [u8], at:
         first = end;
     }
     next
+}
+
+// What stands before the lists, by the degrees of the columns and of the rows; where the next byte goes.
+fn put_head(columns: &[u16], rows: &[u16], text: &mut [u8]) -> usize
+    requires { ⌜ (1 ≤ length (now columns)) × (1 ≤ length (now rows)) × (length (headText (now columns) (now rows)) ≤ length (now text)) ⌝ }
+    ensures { λ r. ⌜ Appended 0 (headText (now (columns .entry)) (now (rows .entry))) (now (text .entry)) (now (text .exit)) r ⌝ }
+{
+    let bits = columns.len();
+    let checks = rows.len();
+    let second = put_pair(bits, checks, text, 0);
+    let third = put_pair(largest(columns), largest(rows), text, second);
+    let fourth = put_list(columns, bits, text, third);
+    put_list(rows, checks, text, fourth)
 }
 
 // The bytes of the text of a code whose check records are `s`, by lists for its sides: one number for each bit, the degrees of the checks, and one for each place.
@@ -168,16 +181,11 @@ fn write_in(s: &[u8], columns: &mut [u16], rows: &[u16], entries: &mut [u16], te
     let bits = columns.len();
     let checks = rows.len();
     sides::column_degrees(s, checks, columns);
-    let c = largest(&columns[..]);
-    let r = largest(rows);
-    let mut at = put_pair(bits, checks, text, 0);
-    at = put_pair(c, r, text, at);
-    at = put_list(&columns[..], bits, text, at);
-    at = put_list(rows, checks, text, at);
+    let first = put_head(&columns[..], rows, text);
     sides::column_entries(s, checks, &columns[..], entries);
-    at = put_lists(&columns[..], &entries[..], c, text, at);
+    let second = put_lists(&columns[..], &entries[..], text, first);
     sides::row_entries(s, bits, checks, entries);
-    at = put_lists(rows, &entries[..], r, text, at);
+    put_lists(rows, &entries[..], text, second);
 }
 
 // The text of a code whose check records are `s`.

@@ -1,67 +1,30 @@
-use borrow.Author.Needs.{needs}
+-- `exporter::measure` meets its contract: parts of its own lists are lent. Assumes nothing.
+use Rattle.integers.proofs.Prelude.{_≡_, refl, sym, ap, _∙_, ℕ, arith, needs, length, length-take-le}
+use lib.ListN.{replicate}
+use Rattle.model.specs.Limits.{mostBits, mostChecks, mostPlaces}
+use Rattle.model.specs.Code.{Code}
+use Rattle.model.specs.Alist.{alistOf}
+use Rattle.exporter.specs.Lines.{codeFrom}
+use Rattle.exporter.proofs.Work.{checks-few, part-long, degrees-asked, Prepared, prepared, same-code}
 use Rattle.exporter.proofs.measure.Statement.{statement}
 use Rattle.exporter.proofs.measure.Tie as tie
-use Rattle.exporter.proofs.measure.Reads as reads
-use Rattle.exporter.proofs.measure.Lts as lts
-use Rattle.exporter.proofs.measure_in.Reads as measure-in-reads
-use Rattle.sides.proofs.row_degrees.Reads as row-degrees-reads
 
--- src/lib.rt:195:39
-array-borrow-prefix-rows : tie.Need-array-borrow-prefix-rows
-array-borrow-prefix-rows c = ?
+-- the lists are ready
+ready : (c : tie.After-row-degrees)
+    → let s = c .before .before .before in
+    Prepared (s .args .s .now) (s .args .bits) (s .args .checks) (c .row-degrees .result) (replicate mostBits 0) (replicate mostChecks 0) (replicate mostPlaces 0)
+    (c .row-degrees .last .1 .1 .0)
+ready c = let s = c .before .before .before in prepared _ _ _ _ _ _ _ _ refl refl refl (s .pre) (c .row-degrees .ensures .0) (c .row-degrees .ensures .1)
 
--- src/lib.rt:195:39
-slice-aggregate-row-degrees : tie.Need-slice-aggregate-row-degrees
-slice-aggregate-row-degrees c = ?
-
--- src/lib.rt:195:9
-row-degrees-requires : tie.Need-row-degrees-requires
-row-degrees-requires c κs = ?
-
--- src/lib.rt:196:19
-array-borrow-prefix-columns : tie.Need-array-borrow-prefix-columns
-array-borrow-prefix-columns c = search needs
-
--- src/lib.rt:196:19
-slice-aggregate-measure-in : tie.Need-slice-aggregate-measure-in
-slice-aggregate-measure-in c = ?
-
--- src/lib.rt:196:41
-array-share-prefix-rows : tie.Need-array-share-prefix-rows
-array-share-prefix-rows c = ?
-
--- src/lib.rt:196:41
-slice-aggregate-measure-in-2 : tie.Need-slice-aggregate-measure-in-2
-slice-aggregate-measure-in-2 c = ?
-
--- src/lib.rt:196:58
-array-borrow-prefix-entries : tie.Need-array-borrow-prefix-entries
-array-borrow-prefix-entries c = ?
-
--- src/lib.rt:196:58
-slice-aggregate-measure-in-3 : tie.Need-slice-aggregate-measure-in-3
-slice-aggregate-measure-in-3 c = ?
-
--- src/lib.rt:196:5
-measure-in-requires : tie.Need-measure-in-requires
-measure-in-requires c κs = ?
-
--- src/lib.rt:188:1
 returns : tie.Need-returns
-returns c = ?
+returns c =
+    let m = c .before .before in
+    let r = ready (m .before .before .before .before .before) in
+    m .measure-in .ensures ∙ ap (λ (k : Code). length (alistOf k)) (same-code r)
 
 pub measure-spec : {M : Type 1} → statement M
 measure-spec =
-    tie.close
-    (tie.spec
-    array-borrow-prefix-rows
-    slice-aggregate-row-degrees
-    row-degrees-requires
-    array-borrow-prefix-columns
-    slice-aggregate-measure-in
-    array-share-prefix-rows
-    slice-aggregate-measure-in-2
-    array-borrow-prefix-entries
-    slice-aggregate-measure-in-3
-    measure-in-requires
-    returns)
+    tie.close (tie.spec (λ c. checks-few _ _ _ (c .before .pre)) (λ c. sym (part-long _ _ _ (c .before .before .pre) _ refl))
+    (λ c κs. degrees-asked _ _ _ (c .before .before .pre) _ refl) (λ c. search needs) (λ c. sym (ready (c .before .before) .bits-long))
+    (λ c. ready (c .before .before) .checks) (λ c. sym (ready (c .before .before .before) .checks-long)) (λ c. ready (c .before .before .before) .places)
+    (λ c. sym (ready (c .before .before .before .before) .places-long)) (λ c κs. ready (c .before .before .before .before) .lists) returns)

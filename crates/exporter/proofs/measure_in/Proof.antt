@@ -1,10 +1,10 @@
 -- `exporter::measure_in` meets its contract: the pairs, the columns and the rows. Assumes nothing.
-use Rattle.integers.proofs.Prelude.{_≡_, ap, _∙_, List, ℕ, arith, needs, length}
+use Rattle.integers.proofs.Prelude.{_≡_, refl, sym, ap, _∙_, List, ℕ, arith, needs, length}
 use Rattle.model.specs.Text.{decimal}
 use Rattle.model.specs.Alist.{largest}
 use Rattle.exporter.specs.Lines.{Side}
 use Rattle.exporter.proofs.Texts.{measured}
-use Rattle.exporter.proofs.Work.{bits-most, checks-most, entries-asked, side-columns, side-rows, text}
+use Rattle.exporter.proofs.Work.{long, bits-most, checks-most, entries-asked, side-columns, side-rows, text}
 use Rattle.exporter.proofs.measure_in.Statement.{statement}
 use Rattle.exporter.proofs.measure_in.Tie as tie
 
@@ -47,7 +47,7 @@ returns c =
     let rows = e .before .before .before in
     let columns = rows .before .before in
     let counts = columns .before .before .before in
-    measured _ _ _ _ _ _ _
+    measured _ _ _ _ _ _ _ (sym (long _ _ _ _ (start d .pre) _ (d .column-degrees .ensures))) refl
     (text _ _ _ _ (start d .pre) _ (d .column-degrees .ensures) _ (e .column-entries .ensures) _ (r .row-entries .ensures))
     _ _ (columns .before .largest .ensures .0) (rows .before .largest2 .ensures .0)
     _ _ _ _ _ _ (counts .before .digits .ensures .0) (counts .digits2 .ensures .0) (columns .digits3 .ensures .0) (rows .digits4 .ensures .0)

@@ -1,92 +1,115 @@
-use borrow.Author.Needs.{needs}
+-- `exporter::write_in` meets its contract: the head, the lists of the columns and those of the rows. Assumes nothing.
+use Rattle.integers.proofs.Prelude.{_≡_, refl, sym, ap, _∙_, List, _++_, map, ℕ, suc, arith, needs, length}
+use Rattle.lists.specs.Tabulated.{tab, written}
+use Rattle.model.specs.Records.{checksIn}
+use Rattle.model.specs.Alist.{columnFrom}
+use Rattle.model.specs.AlistClaims.{joined}
+use Rattle.text.proofs.Appended.{then}
+use Rattle.exporter.specs.Lines.{Side, headText, listsText}
+use Rattle.exporter.proofs.Lines.{Room, room-here, room-next, whole-text}
+use Rattle.exporter.proofs.Work.{bits-most, checks-most, some-bit, some-check, entries-asked, side-columns, side-rows, text, room}
 use Rattle.exporter.proofs.write_in.Statement.{statement}
 use Rattle.exporter.proofs.write_in.Tie as tie
-use Rattle.exporter.proofs.write_in.Reads as reads
-use Rattle.exporter.proofs.write_in.Lts as lts
-use Rattle.sides.proofs.column_degrees.Reads as column-degrees-reads
-use Rattle.sides.proofs.column_entries.Reads as column-entries-reads
-use Rattle.exporter.proofs.largest.Reads as largest-reads
-use Rattle.exporter.proofs.put_list.Reads as put-list-reads
-use Rattle.exporter.proofs.put_lists.Reads as put-lists-reads
-use Rattle.exporter.proofs.put_pair.Reads as put-pair-reads
-use Rattle.sides.proofs.row_entries.Reads as row-entries-reads
 
--- src/lib.rt:207:5
 column-degrees-requires : tie.Need-column-degrees-requires
-column-degrees-requires c κs = ?
+column-degrees-requires c κs =
+    let p = c .before .before .before .before .before .before .pre .0 in
+    (p .sound .0, bits-most _ _ _ _ p, checks-most _ _ _ _ p)
 
--- src/lib.rt:208:9
-largest-requires : tie.Need-largest-requires
-largest-requires c κs = search needs
+-- ---- the degrees of the columns, d, and what the entries will be
+module _ (c : tie.After-column-degrees) where
+  abbrev s : tie.Start
+  s = c .before .before .before .before .before .before .before
 
--- src/lib.rt:209:9
-largest-requires-2 : tie.Need-largest-requires-2
-largest-requires-2 c κs = search needs
+  abbrev d : List ℕ
+  d = c .column-degrees .last .1 .1 .0
 
--- src/lib.rt:210:9
-put-pair-requires : tie.Need-put-pair-requires
-put-pair-requires c κs = ?
+  abbrev rows : List ℕ
+  rows = s .args .rows .now
 
--- src/lib.rt:211:5
-put-pair-requires-2 : tie.Need-put-pair-requires-2
-put-pair-requires-2 c κs = ?
+  abbrev checks : List (List ℕ)
+  checks = checksIn (length rows) (s .args .s .now)
 
--- src/lib.rt:212:5
-put-list-requires : tie.Need-put-list-requires
-put-list-requires c κs = ?
+  abbrev of-columns : List ℕ
+  of-columns = joined (tab (length d) (λ b. columnFrom 0 b checks))
 
--- src/lib.rt:213:5
-put-list-requires-2 : tie.Need-put-list-requires-2
-put-list-requires-2 c κs = ?
+  abbrev of-rows : List ℕ
+  of-rows = joined (map (map suc) checks)
 
--- src/lib.rt:214:5
+  room-head : Room 0 (headText d rows ++ (listsText d of-columns ++ listsText rows of-rows)) (s .args .text .now)
+  room-head = room _ _ _ _ (s .pre .0) _ (c .column-degrees .ensures) _ refl _ refl _ (s .pre .1)
+
+put-head-requires : tie.Need-put-head-requires
+put-head-requires c κs =
+    let k = c .before .before .before .before in
+    let h = room-here (headText (d k) (rows k)) (listsText (d k) (of-columns k) ++ listsText (rows k) (of-rows k)) (room-head k) in
+    (some-bit _ _ _ _ (s k .pre .0) _ (k .column-degrees .ensures), some-check _ _ _ _ (s k .pre .0), omega arith)
+
+-- ---- the head is written
+abbrev head : tie.After-column-entries-arg2 → tie.After-put-head
+head c = c .before .before .before .before
+
+abbrev found : tie.After-put-head → tie.After-column-degrees
+found c = c .before .before .before .before .before
+
 column-entries-requires : tie.Need-column-entries-requires
-column-entries-requires c κs = ?
+column-entries-requires c κs = let k = found (head c) in entries-asked _ _ _ _ (s k .pre .0) _ (k .column-degrees .ensures)
 
--- src/lib.rt:215:5
+-- ---- the entries of the columns, e
+module _ (c : tie.After-column-entries) where
+  abbrev h : tie.After-put-head
+  h = head (c .before)
+
+  abbrev k : tie.After-column-degrees
+  k = found h
+
+  abbrev e : List ℕ
+  e = c .column-entries .last .1 .1 .1 .0
+
+  columns-side : Side (d k) e
+  columns-side = side-columns _ _ _ _ (s k .pre .0) _ (k .column-degrees .ensures) _ (c .column-entries .ensures)
+
+  -- after the head, whatever the entries of the rows are
+  room-columns : (f : List ℕ) → f ≡ of-rows k → Room (h .put-head .result) (listsText (d k) e ++ listsText (rows k) f) (h .put-head .last .1 .1 .0)
+  room-columns f is =
+      room-next (listsText (d k) e ++ listsText (rows k) f)
+      (room _ _ _ _ (s k .pre .0) _ (k .column-degrees .ensures) _ (c .column-entries .ensures) _ is _ (s k .pre .1)) (h .put-head .ensures)
+
 put-lists-requires : tie.Need-put-lists-requires
-put-lists-requires c κs = ?
+put-lists-requires c κs =
+    let n = c .before .before .before .before .before in
+    (columns-side n, room-here (listsText (d (k n)) (e n)) (listsText (rows (k n)) (of-rows (k n))) (room-columns n (of-rows (k n)) refl))
 
--- src/lib.rt:216:5
-row-entries-requires : tie.Need-row-entries-requires
-row-entries-requires c κs = ?
+-- ---- the entries of the rows, f
+module _ (c : tie.After-row-entries) where
+  abbrev lists : tie.After-put-lists
+  lists = c .before .before .before .before
 
--- src/lib.rt:217:5
+  abbrev n : tie.After-column-entries
+  n = lists .before .before .before .before .before .before
+
+  abbrev f : List ℕ
+  f = c .row-entries .last .1 .1 .1 .0
+
+  rows-side : Side (rows (k n)) f
+  rows-side =
+      side-rows _ _ _ _ (s (k n) .pre .0) _ (k n .column-degrees .ensures) _ (n .column-entries .ensures) _ (c .row-entries .ensures)
+
 put-lists-requires-2 : tie.Need-put-lists-requires-2
-put-lists-requires-2 c κs = ?
+put-lists-requires-2 c κs =
+    let r = c .before .before .before .before in
+    (rows-side r, room-next (listsText (rows (k (n r))) (f r)) (room-columns (n r) (f r) (r .row-entries .ensures)) (lists r .put-lists .ensures) .fits)
 
--- src/lib.rt:200:1
-same-length : tie.Need-same-length
-same-length c = ?
-
--- src/lib.rt:200:1
-same-length-2 : tie.Need-same-length-2
-same-length-2 c = search needs
-
--- src/lib.rt:200:1
-same-length-3 : tie.Need-same-length-3
-same-length-3 c = ?
-
--- src/lib.rt:200:1
 returns : tie.Need-returns
-returns c = ?
+returns c =
+    let last = c .before .before in
+    let r = last .before .before .before .before .before in
+    let o = n r in
+    whole-text (then (h o .put-head .ensures) (then (lists r .put-lists .ensures) (last .put-lists2 .ensures)))
+    ∙ ap (λ (t : List ℕ). written t (s (k o) .args .text .now))
+    (sym (text _ _ _ _ (s (k o) .pre .0) _ (k o .column-degrees .ensures) _ (o .column-entries .ensures) _ (r .row-entries .ensures)))
 
 pub write-in-spec : {M : Type 1} → statement M
 write-in-spec =
-    tie.close
-    (tie.spec
-    column-degrees-requires
-    largest-requires
-    largest-requires-2
-    put-pair-requires
-    put-pair-requires-2
-    put-list-requires
-    put-list-requires-2
-    column-entries-requires
-    put-lists-requires
-    row-entries-requires
-    put-lists-requires-2
-    same-length
-    same-length-2
-    same-length-3
-    returns)
+    tie.close (tie.spec column-degrees-requires put-head-requires column-entries-requires put-lists-requires (λ c κs. search needs) put-lists-requires-2
+    (λ c. search needs) (λ c. search needs) (λ c. search needs) returns)

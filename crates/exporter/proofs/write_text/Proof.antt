@@ -1,72 +1,39 @@
-use borrow.Author.Needs.{needs}
+-- `exporter::write_text` meets its contract: parts of its own lists are lent. Assumes nothing.
+use Rattle.integers.proofs.Prelude.{_≡_, refl, sym, ap, _∙_, arith, needs, length}
+use lib.ListN.{replicate}
+use Rattle.lists.specs.Tabulated.{written}
+use Rattle.model.specs.Limits.{mostBits, mostChecks, mostPlaces}
+use Rattle.model.specs.Code.{Code}
+use Rattle.model.specs.Alist.{alistOf}
+use Rattle.exporter.proofs.Work.{checks-few, part-long, degrees-asked, Prepared, prepared, same-code}
 use Rattle.exporter.proofs.write_text.Statement.{statement}
 use Rattle.exporter.proofs.write_text.Tie as tie
-use Rattle.exporter.proofs.write_text.Reads as reads
-use Rattle.exporter.proofs.write_text.Lts as lts
-use Rattle.sides.proofs.row_degrees.Reads as row-degrees-reads
-use Rattle.exporter.proofs.write_in.Reads as write-in-reads
 
--- src/lib.rt:229:39
-array-borrow-prefix-rows : tie.Need-array-borrow-prefix-rows
-array-borrow-prefix-rows c = ?
+-- the lists are ready
+ready : (c : tie.After-row-degrees)
+    → let s = c .before .before .before .before in
+    Prepared (s .args .s .now) (s .args .bits) (s .args .checks) (c .row-degrees .result) (replicate mostBits 0) (replicate mostChecks 0) (replicate mostPlaces 0)
+    (c .row-degrees .last .1 .1 .0)
+ready c =
+    let s = c .before .before .before .before in
+    prepared _ _ _ _ _ _ _ _ refl refl refl (s .pre .0) (c .row-degrees .ensures .0) (c .row-degrees .ensures .1)
 
--- src/lib.rt:229:39
-slice-aggregate-row-degrees : tie.Need-slice-aggregate-row-degrees
-slice-aggregate-row-degrees c = ?
-
--- src/lib.rt:229:9
-row-degrees-requires : tie.Need-row-degrees-requires
-row-degrees-requires c κs = ?
-
--- src/lib.rt:230:17
-array-borrow-prefix-columns : tie.Need-array-borrow-prefix-columns
-array-borrow-prefix-columns c = search needs
-
--- src/lib.rt:230:17
-slice-aggregate-write-in : tie.Need-slice-aggregate-write-in
-slice-aggregate-write-in c = ?
-
--- src/lib.rt:230:39
-array-share-prefix-rows : tie.Need-array-share-prefix-rows
-array-share-prefix-rows c = ?
-
--- src/lib.rt:230:39
-slice-aggregate-write-in-2 : tie.Need-slice-aggregate-write-in-2
-slice-aggregate-write-in-2 c = ?
-
--- src/lib.rt:230:56
-array-borrow-prefix-entries : tie.Need-array-borrow-prefix-entries
-array-borrow-prefix-entries c = ?
-
--- src/lib.rt:230:56
-slice-aggregate-write-in-3 : tie.Need-slice-aggregate-write-in-3
-slice-aggregate-write-in-3 c = ?
-
--- src/lib.rt:230:5
 write-in-requires : tie.Need-write-in-requires
-write-in-requires c κs = ?
+write-in-requires c κs =
+    let k = c .before .before .before .before .before in
+    let r = ready k in
+    let same = ap (λ (k : Code). length (alistOf k)) (same-code r) in
+    (r .lists, omega (arith, k .before .before .before .before .pre .1))
 
--- src/lib.rt:221:1
-same-length : tie.Need-same-length
-same-length c = search needs
-
--- src/lib.rt:221:1
 returns : tie.Need-returns
-returns c = ?
+returns c =
+    let w = c .before .before .before .before in
+    let k = w .before .before .before .before .before .before in
+    w .write-in .ensures ∙ ap (λ (l : Code). written (alistOf l) (k .before .before .before .before .args .text .now)) (same-code (ready k))
 
 pub write-text-spec : {M : Type 1} → statement M
 write-text-spec =
-    tie.close
-    (tie.spec
-    array-borrow-prefix-rows
-    slice-aggregate-row-degrees
-    row-degrees-requires
-    array-borrow-prefix-columns
-    slice-aggregate-write-in
-    array-share-prefix-rows
-    slice-aggregate-write-in-2
-    array-borrow-prefix-entries
-    slice-aggregate-write-in-3
-    write-in-requires
-    same-length
-    returns)
+    tie.close (tie.spec (λ c. checks-few _ _ _ (c .before .before .pre .0)) (λ c. sym (part-long _ _ _ (c .before .before .before .pre .0) _ refl))
+    (λ c κs. degrees-asked _ _ _ (c .before .before .before .pre .0) _ refl) (λ c. search needs) (λ c. sym (ready (c .before .before) .bits-long))
+    (λ c. ready (c .before .before) .checks) (λ c. sym (ready (c .before .before .before) .checks-long)) (λ c. ready (c .before .before .before) .places)
+    (λ c. sym (ready (c .before .before .before .before) .places-long)) write-in-requires (λ c. search needs) returns)
