@@ -1,11 +1,8 @@
 -- The answers of export and of its size, from the judgement and the room; and what is known of an accepted code. Assumes nothing.
-use Rattle.integers.proofs.Prelude.{_≡_, refl, sym, ap, ap₂, subst, _∙_, List, [], _∷_, ℕ, zero, suc, _≤_, _<_, arith, lt-ltb, le-ltb, length, drop}
+use Rattle.integers.proofs.Prelude.{_≡_, ap₂, _∙_, List, ℕ, zero, suc, _≤_, _<_, arith, lt-ltb, le-ltb, length, drop}
 use Rattle.lists.specs.Tabulated.{written}
-use Rattle.model.specs.Causes.{short}
-use Rattle.model.specs.Code.{Code}
-use Rattle.model.specs.Records.{checkCount, checksIn, codeOf, judge, judgeChecks}
+use Rattle.model.specs.Records.{checkCount, codeOf, judge}
 use Rattle.model.specs.RecordClaims.{Bytes}
-use Rattle.model.specs.Sound.{Sound}
 use Rattle.model.specs.Alist.{alistOf, Writing, exporter, Size, exportSize}
 use Rattle.model.specs.AlistPromises.{ExportCall, SizeCall}
 use Rattle.model.proofs.Accepted.{length-checks, bytes-sound, accepted}
@@ -59,7 +56,8 @@ module _ (b : List ℕ) where
       unfolding exporter
       export-short h = export-call b old (answer 10 0 old) bytes (rw (judged, lt-ltb (length old) (length (alistOf (codeOf b))) h))
 
-      pub export-done : (n : ℕ) (l : List ℕ) → n ≡ length (alistOf (codeOf b)) → n ≤ length old → l ≡ written (alistOf (codeOf b)) old → ExportCall b old (answer 0 n l)
+      pub export-done : (n : ℕ) (l : List ℕ) → n ≡ length (alistOf (codeOf b)) → n ≤ length old → l ≡ written (alistOf (codeOf b)) old
+          → ExportCall b old (answer 0 n l)
       unfolding exporter
       export-done n l e h w =
           let room : length (alistOf (codeOf b)) ≤ length old = omega arith in

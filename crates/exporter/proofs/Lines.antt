@@ -1,6 +1,6 @@
 -- Lines of numbers: how long they are, and how they grow. Assumes nothing.
-use Rattle.integers.proofs.Prelude.{_≡_, refl, sym, ap, _∙_, List, [], _∷_, _++_, append-assoc, append-nil, ℕ, zero, suc, _+_, _-_, _*_, _/_, _≤_, _<_, arith, add-one}
-use Rattle.integers.proofs.Prelude.{length, getD, take, drop, length-append, length-take-le, take-at, take-append-drop, take-suc, drop-at}
+use Rattle.integers.proofs.Prelude.{_≡_, refl, sym, ap, _∙_, List, [], _∷_, _++_, append-assoc, append-nil, ℕ, zero, suc, _+_, _-_, _*_, _/_, _≤_, _<_, arith}
+use Rattle.integers.proofs.Prelude.{add-one, length, getD, take, drop, length-append, length-take-le, take-at, take-append-drop, take-suc, drop-at}
 use lib.ListN.{replicate, length-replicate, replicate-append-replicate}
 use Rattle.lists.specs.Tabulated.{written}
 use Rattle.lists.specs.Entries.{total}
@@ -116,7 +116,8 @@ module _ {at : ℕ} {a b c : List ℕ} {next end : ℕ} where
       let size : length old ≡ next - 1 = length-append (take at a) t ∙ omega (arith, length-take-le at a (omega (arith, p .ends, p .fits)), p .ends, more x) in
       let here : take (next - 1) b ≡ old = ap (take (next - 1)) (p .list ∙ simp append-assoc) ∙ take-at old (x ∷ after) (next - 1) size in
       let rest : drop (next - 1 + 1) b ≡ after
-      = ap (drop (next - 1 + 1)) (p .list ∙ simp append-assoc) ∙ drop-at (old ++ (x ∷ [])) after (next - 1 + 1) (length-append old (x ∷ []) ∙ omega (arith, size)) in
+      = ap (drop (next - 1 + 1)) (p .list ∙ simp append-assoc)
+      ∙ drop-at (old ++ (x ∷ [])) after (next - 1 + 1) (length-append old (x ∷ []) ∙ omega (arith, size)) in
       let same : length (t ++ (x ∷ [])) ≡ length (t ++ (y ∷ [])) = omega (arith, more x, more y) in
       record {
         list = q .list ∙ rw (here, rest, same) (simp append-assoc);

@@ -1,10 +1,11 @@
 -- The lists of a side: the largest degree, and the text of the lists. Assumes nothing.
-use Rattle.integers.proofs.Prelude.{_≡_, refl, sym, ap, _∙_, List, [], _∷_, _++_, append-assoc, append-nil, ℕ, zero, suc, _+_, _-_, _*_, _≤_, _<_, max, arith, add-one}
-use Rattle.integers.proofs.Prelude.{length, getD, take, drop, length-append, length-take, length-take-le, length-drop, take-append-drop, take-suc, drop-cons, drop-drop}
+use Rattle.integers.proofs.Prelude.{_≡_, refl, sym, ap, _∙_, List, [], _∷_, _++_, append-assoc, append-nil, ℕ, zero, suc, _+_, _-_, _*_, _≤_, _<_, max, arith}
+use Rattle.integers.proofs.Prelude.{add-one, length, getD, take, drop, length-append, length-take, length-take-le, length-drop, take-append-drop, take-suc}
+use Rattle.integers.proofs.Prelude.{drop-cons, drop-drop}
 use Rattle.lists.specs.Entries.{total}
-use Rattle.lists.proofs.Entries.{total-append}
+use Rattle.lists.proofs.Entries.{total-append, total-next, total-part}
 use Rattle.model.specs.Alist.{largest, fill, lineOf, textOf}
-use Rattle.exporter.specs.Lines.{cut, Side, filledText, listsText, sideText}
+use Rattle.exporter.specs.Lines.{Side, filledText, listsText, sideText}
 use Rattle.exporter.proofs.Lines.{field, length-line, length-filled}
 
 -- ---- the largest degree
@@ -58,7 +59,8 @@ pub length-side : (degrees entries : List ℕ) → Side degrees entries
     → length (sideText degrees entries) ≡ total field degrees + total field entries + 2 * (length degrees * largest degrees - length entries)
 length-side degrees entries s =
     let lists = listsText degrees entries in
-    length-append (lineOf degrees) lists ∙ omega (arith, length-line degrees (some-degree degrees (s .some)), length-lists (largest degrees) (s .some) degrees entries (omega arith) (s .long))
+    let line = length-line degrees (some-degree degrees (s .some)) in
+    length-append (lineOf degrees) lists ∙ omega (arith, length-lists (largest degrees) (s .some) degrees entries (omega arith) (s .long))
 
 -- ---- of a loop over the lists, at the i-th, which has d entries and begins at first: as it is lent, and what is known of it
 abbrev pub lent : List ℕ → ℕ → ℕ → List ℕ
@@ -82,8 +84,8 @@ listed most degrees entries long i h first d begins degree =
     let text = filledText most (take i degrees) entries in
     let line = lineOf (fill most (lent entries first d)) in
     let one : here ≡ take i degrees ++ (getD degrees i 0 ∷ []) = rw (add-one i) (take-suc degrees i 0 h) in
-    let ends : first + d ≡ all here = rw one (omega (arith, total-append (λ d. d) (take i degrees) (getD degrees i 0 ∷ []))) in
-    let inside : first + d ≤ length entries = omega (arith, ap all (take-append-drop (i + 1) degrees), total-append (λ d. d) here (drop (i + 1) degrees)) in
+    let ends : first + d ≡ all here = rw (add-one i) (omega (arith, total-next (λ d. d) degrees i 0 h)) in
+    let inside : first + d ≤ length entries = omega (arith, total-part (λ d. d) degrees (i + 1)) in
     let same : first + d - first ≡ getD degrees i 0 = omega arith in
     let next : filledText most here entries ≡ text ++ line
     = rw (one, lists-append most (take i degrees) (getD degrees i 0 ∷ []) entries, same, begins) (ap (λ (s : List ℕ). text ++ s) (append-nil _)) in

@@ -1,6 +1,6 @@
 -- The text of a code, as the columns and rows that are one behind the other give it. Assumes nothing.
-use Rattle.integers.proofs.Prelude.{_≡_, refl, sym, ap, ap₂, _∙_, true, List, [], _∷_, _++_, map, append-assoc, ℕ, zero, suc, _+_, _*_, _≤_, _<_, arith, ltb}
-use Rattle.integers.proofs.Prelude.{length, getD, length-append, length-map, take-append-seam}
+use Rattle.integers.proofs.Prelude.{_≡_, refl, sym, ap, ap₂, _∙_, true, List, [], _∷_, _++_, map, append-assoc, ℕ, zero, suc, _+_, _*_, _≤_, arith, ltb, length}
+use Rattle.integers.proofs.Prelude.{getD, length-append, length-map, take-append-seam}
 use lib.Seq.{drop-append-seam}
 use Rattle.integers.specs.Sum.{sumℕ}
 use Rattle.integers.proofs.Sums.{sumℕ-same, sumℕ-first, sumℕ-swap}
@@ -11,7 +11,7 @@ use Rattle.model.specs.Limits.{mostBits, mostPlaces}
 use Rattle.model.specs.Text.{decimal}
 use Rattle.model.specs.Code.{Code, tripleCount}
 use Rattle.model.specs.Sound.{SoundChecks, Sound}
-use Rattle.model.specs.Alist.{largest, times, columnFrom, columnsOf, rowsOf, fill, linesOf, lineOf, textOf, alistOf}
+use Rattle.model.specs.Alist.{largest, times, columnFrom, columnsOf, rowsOf, fill, lineOf, textOf, alistOf}
 use Rattle.model.specs.AlistClaims.{joined, SamePlaces}
 use Rattle.model.proofs.Agreement.{times-length, columns-upTo, rows-upTo}
 use Rattle.model.proofs.AlistCode.{length-columns, length-rows, columns-from-one, rows-from-one, code-places}
@@ -170,7 +170,11 @@ module _ (k : Code) where
     some = places-some (k .bits) (k .checks) (s .checks) (s .checks-least)
 
     pub columns-side : Side column-degrees (joined (columnsOf k))
-    columns-side = side-of (columnsOf k) (omega (arith, columns-total, some)) (omega (arith, columns-total, few)) (omega (arith, length-columns k, s .bits-most))
+    columns-side =
+        let e = columns-total in
+        side-of (columnsOf k) (omega (arith, some)) (omega (arith, few)) (omega (arith, length-columns k, s .bits-most))
 
     pub rows-side : Side row-degrees (joined (rowsOf k))
-    rows-side = side-of (rowsOf k) (omega (arith, rows-total, some)) (omega (arith, rows-total, few)) (omega (arith, length-rows k, s .checks-most))
+    rows-side =
+        let e = rows-total in
+        side-of (rowsOf k) (omega (arith, some)) (omega (arith, few)) (omega (arith, length-rows k, s .checks-most))

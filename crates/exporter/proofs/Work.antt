@@ -1,16 +1,17 @@
 -- The lists that a measure and a text are made by: what the calls of `sides` want and give there. Assumes nothing.
-use Rattle.integers.proofs.Prelude.{_≡_, refl, sym, ap, ap₂, _∙_, List, [], _∷_, _++_, map, ℕ, suc, _+_, _≤_, arith, length, take, drop, length-append, length-map, length-take-le, take-at}
-use Rattle.lists.specs.Tabulated.{tab}
+use Rattle.integers.proofs.Prelude.{_≡_, refl, sym, ap, ap₂, _∙_, List, _++_, map, ℕ, suc, _≤_, arith, length, take, drop, length-append, length-map}
+use Rattle.integers.proofs.Prelude.{length-take-le, take-at}
+use lib.ListN.{replicate}
+use Rattle.lists.specs.Tabulated.{tab, written}
 use Rattle.lists.specs.Entries.{total}
 use Rattle.lists.proofs.Tabulated.{length-tab}
 use Rattle.model.specs.Limits.{mostBits, mostChecks, mostPlaces}
-use Rattle.model.specs.Text.{decimal}
 use Rattle.model.specs.Code.{Code}
 use Rattle.model.specs.Records.{checksIn, judgeChecks}
-use Rattle.model.specs.Alist.{largest, columnFrom, columnsOf, rowsOf, lineOf, alistOf}
+use Rattle.model.specs.Alist.{columnFrom, columnsOf, rowsOf, alistOf}
 use Rattle.model.specs.AlistClaims.{joined}
 use Rattle.model.proofs.Accepted.{length-checks}
-use Rattle.exporter.specs.Lines.{Side, listsText, sideText, codeFrom, Accepted, Lists}
+use Rattle.exporter.specs.Lines.{Side, codeFrom, Accepted, Lists}
 use Rattle.exporter.proofs.Lines.{Room, room-start}
 use Rattle.exporter.proofs.Texts.{total-degrees, column-degrees, row-degrees, column-degrees-are, row-degrees-are, columns-joined, rows-joined}
 use Rattle.exporter.proofs.Texts.{columns-total, few, columns-side, rows-side, textFrom, text-is}
@@ -130,6 +131,27 @@ prepared s n m r x y z p long-x long-y long-z sound degrees sum =
       };
     }
 
--- the code is the same by the parts
-pub same-code : {s : List ℕ} {n m r : ℕ} {x y z p : List ℕ} → Prepared s n m r x y z p → codeFrom (length (take n x)) (length (take m (p ++ drop m y))) s ≡ codeFrom n m s
-same-code {s = s} q = ap₂ (λ (n m : ℕ). codeFrom n m s) (q .bits-long) (q .checks-long)
+-- the lists that the code has
+abbrev zeros : ℕ → List ℕ
+zeros n = replicate n 0
+
+abbrev pub Ready : List ℕ → ℕ → ℕ → ℕ → List ℕ → Type 0
+Ready s n m r p = Prepared s n m r (zeros mostBits) (zeros mostChecks) (zeros mostPlaces) p
+
+pub ready : (s : List ℕ) (n m r : ℕ) (p : List ℕ) → Accepted n m s → p ≡ map length (checksIn (length (take m (zeros mostChecks))) s)
+    → r ≡ total length (checksIn (length (take m (zeros mostChecks))) s) → Ready s n m r p
+ready s n m r p sound degrees sum = prepared s n m r _ _ _ p refl refl refl sound degrees sum
+
+-- by the parts the code is the same, and so are its size and its text
+module _ {s : List ℕ} {n m r : ℕ} {x y z p : List ℕ} (q : Prepared s n m r x y z p) where
+  abbrev by-parts : Code
+  by-parts = codeFrom (length (take n x)) (length (take m (p ++ drop m y))) s
+
+  same-code : by-parts ≡ codeFrom n m s
+  same-code = ap₂ (λ (n m : ℕ). codeFrom n m s) (q .bits-long) (q .checks-long)
+
+  pub same-size : length (alistOf by-parts) ≡ length (alistOf (codeFrom n m s))
+  same-size = ap (λ (k : Code). length (alistOf k)) same-code
+
+  pub same-written : (old t : List ℕ) → t ≡ written (alistOf by-parts) old → t ≡ written (alistOf (codeFrom n m s)) old
+  same-written old t e = e ∙ ap (λ (k : Code). written (alistOf k) old) same-code

@@ -144,7 +144,8 @@ fn put_head(columns: &[u16], rows: &[u16], text: &mut [u8]) -> usize
     put_list(rows, checks, text, fourth)
 }
 
-// The bytes of the text of a code whose check records are `s`, by lists for its sides: one number for each bit, the degrees of the checks, and one for each place.
+// The bytes of the text of a code whose check records are `s`, by lists for its sides: a number for each bit, the degrees of the checks, and a number
+// for each place.
 fn measure_in(s: &[u8], columns: &mut [u16], rows: &[u16], entries: &mut [u16]) -> usize
     requires { ⌜ Lists (now s) (now columns) (now rows) (now entries) ⌝ }
     ensures { λ r. ⌜ r ≡ length (alistOf (codeFrom (length (now (columns .entry))) (length (now (rows .entry))) (now (s .entry)))) ⌝ }
@@ -152,7 +153,11 @@ fn measure_in(s: &[u8], columns: &mut [u16], rows: &[u16], entries: &mut [u16]) 
     let bits = columns.len();
     let checks = rows.len();
     sides::column_degrees(s, checks, columns);
-    let pairs = digits(bits) + digits(checks) + digits(largest(&columns[..])) + digits(largest(rows)) + 4;
+    let pairs = digits(bits)
+        + digits(checks)
+        + digits(largest(&columns[..]))
+        + digits(largest(rows))
+        + 4;
     sides::column_entries(s, checks, &columns[..], entries);
     let first = side_size(&columns[..], &entries[..]);
     sides::row_entries(s, bits, checks, entries);
@@ -169,14 +174,20 @@ fn measure(s: &[u8], bits: usize, checks: usize) -> usize
     let mut rows = [0u16; MOST_CHECKS];
     let mut entries = [0u16; MOST_PLACES];
     let places = sides::row_degrees(s, bits, &mut rows[..checks]);
-    measure_in(s, &mut columns[..bits], &rows[..checks], &mut entries[..places])
+    measure_in(
+        s,
+        &mut columns[..bits],
+        &rows[..checks],
+        &mut entries[..places],
+    )
 }
 
 // The text of a code whose check records are `s`, by lists as `measure_in` takes them.
 fn write_in(s: &[u8], columns: &mut [u16], rows: &[u16], entries: &mut [u16], text: &mut [u8])
     requires { ⌜ Lists (now s) (now columns) (now rows) (now entries) ⌝ }
     requires { ⌜ length (alistOf (codeFrom (length (now columns)) (length (now rows)) (now s))) ≤ length (now text) ⌝ }
-    ensures { λ _. ⌜ now (text .exit) ≡ written (alistOf (codeFrom (length (now (columns .entry))) (length (now (rows .entry))) (now (s .entry)))) (now (text .entry)) ⌝ }
+    ensures { λ _. ⌜ now (text .exit)
+        ≡ written (alistOf (codeFrom (length (now (columns .entry))) (length (now (rows .entry))) (now (s .entry)))) (now (text .entry)) ⌝ }
 {
     let bits = columns.len();
     let checks = rows.len();
@@ -198,7 +209,13 @@ fn write_text(s: &[u8], bits: usize, checks: usize, text: &mut [u8])
     let mut rows = [0u16; MOST_CHECKS];
     let mut entries = [0u16; MOST_PLACES];
     let places = sides::row_degrees(s, bits, &mut rows[..checks]);
-    write_in(s, &mut columns[..bits], &rows[..checks], &mut entries[..places], text);
+    write_in(
+        s,
+        &mut columns[..bits],
+        &rows[..checks],
+        &mut entries[..places],
+        text,
+    );
 }
 
 // The bytes that an export of these records will write.

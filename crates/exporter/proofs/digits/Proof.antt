@@ -1,6 +1,5 @@
 -- `exporter::digits` meets its contract: a tenth has a digit less. Assumes nothing.
-use Rattle.integers.proofs.Prelude.{_≡_, ℕ, _+_, _/_, arith, length}
-use Rattle.model.specs.Text.{decimal}
+use Rattle.integers.proofs.Prelude.{_/_, arith}
 use Rattle.exporter.proofs.Lines.{one-digit, more-digits}
 use Rattle.exporter.proofs.digits.Statement.{statement}
 use Rattle.exporter.proofs.digits.Tie as tie

@@ -1,5 +1,5 @@
 -- `exporter::export` meets its contract: the judgement, the room, and the text of an accepted code. Assumes nothing.
-use Rattle.integers.proofs.Prelude.{_≡_, ap, _∙_, List, arith, needs, length}
+use Rattle.integers.proofs.Prelude.{_≡_, ap, _∙_, arith, needs, length}
 use Rattle.lists.specs.Tabulated.{written}
 use Rattle.model.specs.Code.{Code}
 use Rattle.model.specs.Records.{codeOf}

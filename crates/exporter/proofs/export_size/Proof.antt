@@ -1,5 +1,5 @@
 -- `exporter::export_size` meets its contract: the judgement, and the bytes of an accepted code's text. Assumes nothing.
-use Rattle.integers.proofs.Prelude.{_≡_, ap, _∙_, needs, length}
+use Rattle.integers.proofs.Prelude.{ap, _∙_, needs, length}
 use Rattle.model.specs.Alist.{alistOf}
 use Rattle.reader.proofs.Answers.{Read, told-code, told-refused}
 use Rattle.exporter.proofs.Answers.{header-room, code-read, code-accepted, size-refused, size-told}

@@ -1,5 +1,5 @@
 -- `exporter::largest` meets its contract: the largest so far, or one that is to come. Assumes nothing.
-use Rattle.integers.proofs.Prelude.{_≡_, refl, ap, _∙_, ℕ, _-_, _≤_, max, arith, needs, length, drop, drop-of-length-le}
+use Rattle.integers.proofs.Prelude.{_≡_, ap, _-_, _≤_, max, arith, needs, drop, drop-of-length-le}
 use mathlib.Core.Logic.{⊎-elim}
 use Rattle.model.specs.Alist.{largest}
 use Rattle.exporter.proofs.Lists.{largest-next}

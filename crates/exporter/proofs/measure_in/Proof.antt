@@ -1,6 +1,5 @@
 -- `exporter::measure_in` meets its contract: the pairs, the columns and the rows. Assumes nothing.
-use Rattle.integers.proofs.Prelude.{_≡_, refl, sym, ap, _∙_, List, ℕ, arith, needs, length}
-use Rattle.model.specs.Text.{decimal}
+use Rattle.integers.proofs.Prelude.{refl, sym, arith, needs}
 use Rattle.model.specs.Alist.{largest}
 use Rattle.exporter.specs.Lines.{Side}
 use Rattle.exporter.proofs.Texts.{measured}

@@ -1,5 +1,5 @@
 -- `exporter::put_head` meets its contract: the pairs and the lines of the degrees, one after another. Assumes nothing.
-use Rattle.integers.proofs.Prelude.{_≡_, ap₂, List, [], _∷_, _++_, ℕ, _≤_, arith, needs, length}
+use Rattle.integers.proofs.Prelude.{_≡_, ap₂, List, [], _∷_, _++_, ℕ, arith, needs, length}
 use Rattle.model.specs.Alist.{largest, lineOf}
 use Rattle.text.specs.Appended.{Appended}
 use Rattle.text.proofs.Appended.{then}
@@ -73,7 +73,8 @@ module _ (c : tie.After-put-list) where
   abbrev pairs : tie.After-put-pair2
   pairs = c .before .before .before .before
 
-  third : Appended (pairs .put-pair2 .result) (lineOf (columns (start pairs))) (pairs .put-pair2 .last .1 .1 .0) (c .put-list .last .1 .1 .0) (c .put-list .result)
+  third : let p = pairs .put-pair2 in
+      Appended (p .result) (lineOf (columns (start pairs))) (p .last .1 .1 .0) (c .put-list .last .1 .1 .0) (c .put-list .result)
   third = rw (fill-none (columns (start pairs))) at (c .put-list .ensures)
 
 put-list-requires-2 : tie.Need-put-list-requires-2

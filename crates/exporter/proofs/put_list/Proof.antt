@@ -1,13 +1,12 @@
 -- `exporter::put_list` meets its contract: the numbers, the zeros, and the line feed in the place of the last space. Assumes nothing.
-use Rattle.integers.proofs.Prelude.{_≡_, sym, ap, _∙_, List, _++_, ℕ, _+_, _-_, _*_, _≤_, arith, needs, length, length-append}
+use Rattle.integers.proofs.Prelude.{_+_, _-_, _*_, _≤_, arith, needs, length}
 use lib.ListN.{replicate}
-use Rattle.lists.specs.Entries.{total}
-use Rattle.model.specs.Alist.{fill, lineOf}
+use Rattle.model.specs.Alist.{fill}
 use Rattle.model.proofs.AlistForm.{length-fill}
 use Rattle.text.specs.Appended.{Appended}
 use Rattle.text.proofs.Appended.{long, then}
 use Rattle.exporter.specs.Lines.{spaced}
-use Rattle.exporter.proofs.Lines.{field, length-spaced, length-zeros, spaced-append, some-spaced, length-filled, ended}
+use Rattle.exporter.proofs.Lines.{length-spaced, spaced-append, some-spaced, length-filled, ended}
 use Rattle.exporter.proofs.put_list.Statement.{statement}
 use Rattle.exporter.proofs.put_list.Tie as tie
 
@@ -54,5 +53,5 @@ returns c =
 
 pub put-list-spec : {M : Type 1} → statement M
 put-list-spec =
-    tie.close (tie.spec (λ c κs. omega (arith, room (c .before .before .before))) (λ c. search needs) put-zeros-requires (λ c. omega (arith, above (c .before .before .before)))
-    put-requires (λ c. search needs) returns)
+    tie.close (tie.spec (λ c κs. omega (arith, room (c .before .before .before))) (λ c. search needs) put-zeros-requires
+    (λ c. omega (arith, above (c .before .before .before))) put-requires (λ c. search needs) returns)

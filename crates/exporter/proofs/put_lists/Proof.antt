@@ -1,5 +1,5 @@
 -- `exporter::put_lists` meets its contract: the lines of the lists so far. Assumes nothing.
-use Rattle.integers.proofs.Prelude.{_≡_, refl, ap, List, ℕ, _-_, _≤_, arith, needs, length, take, take-all}
+use Rattle.integers.proofs.Prelude.{_≡_, refl, ap, ℕ, _-_, _≤_, arith, needs, length, take, take-all}
 use Rattle.lists.specs.Entries.{total}
 use Rattle.model.specs.Alist.{largest, textOf}
 use Rattle.text.specs.Appended.{Appended}

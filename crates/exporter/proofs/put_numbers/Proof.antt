@@ -1,5 +1,5 @@
 -- `exporter::put_numbers` meets its contract: the numbers so far. Assumes nothing.
-use Rattle.integers.proofs.Prelude.{_≡_, refl, sym, ap, _∙_, ℕ, _+_, _-_, _*_, _≤_, arith, needs, length, getD, take, take-all}
+use Rattle.integers.proofs.Prelude.{ap, ℕ, _+_, _-_, _≤_, arith, needs, length, take, take-all}
 use Rattle.model.specs.Text.{decimal}
 use Rattle.text.specs.Appended.{Appended}
 use Rattle.text.proofs.Appended.{none, long, then}
@@ -44,8 +44,9 @@ loop-again c =
     let q = c .before .before in
     let p = q .before .before .before .before in
     let k = p .before .before in
-    let i = l k .loop .i in
-    (omega arith, rw (spaced-next (s k .args .numbers .now) i (omega arith), ← k .index .ensures .0) (then (l k .loop .inv .1) (then (p .put-number .ensures) (q .put .ensures))))
+    let n = l k .loop in
+    let more = then (n .inv .1) (then (p .put-number .ensures) (q .put .ensures)) in
+    (omega arith, rw (spaced-next (s k .args .numbers .now) (n .i) (omega arith), ← k .index .ensures .0) more)
 
 returns : tie.Need-returns Inv-loop μ-loop
 returns c =

@@ -1,5 +1,5 @@
 -- `exporter::put_pair` meets its contract: a number, a space, a number and a line feed. Assumes nothing.
-use Rattle.integers.proofs.Prelude.{_≡_, sym, ap, _∙_, [], _∷_, _++_, append-assoc, ℕ, _+_, _≤_, arith, needs, length, length-append}
+use Rattle.integers.proofs.Prelude.{[], _∷_, _+_, _≤_, arith, needs, length}
 use Rattle.model.specs.Text.{decimal}
 use Rattle.model.specs.Alist.{lineOf}
 use Rattle.text.proofs.Appended.{long, then}

@@ -1,5 +1,5 @@
 -- `exporter::put_zeros` meets its contract: the zeros so far. Assumes nothing.
-use Rattle.integers.proofs.Prelude.{_≡_, refl, sym, ap, _∙_, ℕ, _+_, _-_, _*_, _≤_, arith, needs, length}
+use Rattle.integers.proofs.Prelude.{_≡_, _+_, _-_, _≤_, arith, needs, length}
 use lib.ListN.{replicate}
 use Rattle.text.specs.Appended.{Appended}
 use Rattle.text.proofs.Appended.{none, long, then}

@@ -1,7 +1,6 @@
 -- `exporter::side_size` meets its contract: the degrees, the entries, and two bytes for each zero. Assumes nothing.
-use Rattle.integers.proofs.Prelude.{_≡_, sym, ap, _∙_, ℕ, _+_, _-_, _*_, _≤_, arith, needs, length}
+use Rattle.integers.proofs.Prelude.{_≡_, ap, ℕ, _*_, _≤_, arith, needs, length}
 use native.Mathlib.Nat.{mul-le-mul}
-use Rattle.lists.specs.Entries.{total}
 use Rattle.model.specs.Alist.{largest}
 use Rattle.exporter.proofs.Lists.{total-most, length-side}
 use Rattle.exporter.proofs.side_size.Statement.{statement}
@@ -22,8 +21,7 @@ returns c =
     let l = c .before .before in
     let a = s l .args in
     let same : length (a .degrees .now) * l .largest .result ≡ length (a .degrees .now) * largest (a .degrees .now)
-    = ap (λ (most : ℕ). length (a .degrees .now) * most) (l .largest .ensures .0) in
-    (
+    = ap (λ (most : ℕ). length (a .degrees .now) * most) (l .largest .ensures .0) in (
       omega (arith, length-side (a .degrees .now) (a .entries .now) (s l .pre), c .before .size .ensures .0, c .size2 .ensures .0),
       omega (arith, few l, c .before .size .ensures .1, c .size2 .ensures .1, s l .pre .few, s l .pre .small),
     )

@@ -1,7 +1,7 @@
 -- `exporter::size` meets its contract: the bytes of the numbers so far. Assumes nothing.
-use Rattle.integers.proofs.Prelude.{_≡_, refl, sym, ap, _∙_, List, [], _∷_, ℕ, _+_, _-_, _*_, _≤_, arith, add-one, needs, length, getD, take, take-suc, take-all}
+use Rattle.integers.proofs.Prelude.{_≡_, refl, ap, _∙_, ℕ, _+_, _-_, _*_, _≤_, arith, add-one, needs, length, getD, take, take-all}
 use Rattle.lists.specs.Entries.{total}
-use Rattle.lists.proofs.Entries.{total-append}
+use Rattle.lists.proofs.Entries.{total-next}
 use Rattle.model.specs.Text.{decimal}
 use Rattle.exporter.proofs.Lines.{field}
 use Rattle.exporter.proofs.size.Statement.{statement}
@@ -19,7 +19,7 @@ loop-again c =
     let l = t .before .loop in
     let n = t .before .before .before .args .numbers .now in
     let next : total field (take (l .i + 1) n) ≡ total field (take (l .i) n) + field (getD n (l .i) 0)
-    = rw (add-one (l .i), take-suc n (l .i) 0 (omega arith), total-append field (take (l .i) n) (getD n (l .i) 0 ∷ [])) (omega arith) in
+    = rw (add-one (l .i)) (total-next field n (l .i) 0 (omega arith)) in
     let written : length (decimal (c .before .index .result)) ≡ length (decimal (getD n (l .i) 0))
     = ap (λ (x : ℕ). length (decimal x)) (c .before .index .ensures .0) in
     (omega arith, omega (arith, l .inv .1, c .digits .ensures .0), omega (arith, c .digits .ensures .1, l .inv .2))
