@@ -2,14 +2,13 @@
 ghost use mathlib.Core.Path.{_≡_};
 ghost use mathlib.Core.List.{[], _∷_};
 ghost use Prim.Native.Nat.{_+_, _*_, _-_, _≤_};
-ghost use lib.ListN.{length};
+ghost use lib.ListN.{length, replicate};
 ghost use Rattle.lists.specs.Entries.{total};
 ghost use Rattle.model.specs.Text.{decimal};
 ghost use Rattle.lists.specs.Tabulated.{written};
-ghost use Rattle.model.specs.Records.{checksIn};
 ghost use Rattle.model.specs.Alist.{largest, fill, lineOf, alistOf};
 ghost use Rattle.model.specs.AlistPromises.{ExportCall, SizeCall};
-ghost use Rattle.exporter.specs.Lines.{Side, listsText, sideText, SoundChecksOf};
+ghost use Rattle.exporter.specs.Lines.{Side, spaced, headText, listsText, sideText, codeFrom, Accepted, Lists};
 ghost use Rattle.text.specs.Appended.{Appended};
 use model::MOST_BITS;
 use model::MOST_CHECKS;
@@ -20,7 +19,7 @@ use model::Written;
 // How many digits x has.
 fn digits(x: usize) -> usize
     requires { ⌜ x ≤ 65535 ⌝ }
-    ensures { λ r. ⌜ r ≡ length (decimal x) ⌝ }
+    ensures { λ r. ⌜ (r ≡ length (decimal x)) × (r ≤ 5) ⌝ }
 {
     if x < 10 {
         return 1;
@@ -63,31 +62,46 @@ fn largest(degrees: &[u16]) -> usize
 // The bytes of a side: the line of its degrees, and its lists, each filled to the largest degree.
 fn side_size(degrees: &[u16], entries: &[u16]) -> usize
     requires { ⌜ Side (now degrees) (now entries) ⌝ }
-    ensures { λ r. ⌜ r ≡ length (sideText (now (degrees .entry)) (now (entries .entry))) ⌝ }
+    ensures { λ r. ⌜ (r ≡ length (sideText (now (degrees .entry)) (now (entries .entry)))) × (r ≤ 1000000000) ⌝ }
 {
     let filled = degrees.len() * largest(degrees);
     size(degrees) + size(entries) + 2 * (filled - entries.len())
 }
 
-// The line of a list that is filled to `most` numbers, from `at` on; where the next byte goes.
-fn put_list(list: &[u16], most: usize, text: &mut [u8], at: usize) -> usize
-    requires { ⌜ at + length (lineOf (fill most (now list))) ≤ length (now text) ⌝ }
-    ensures { λ r. ⌜ Appended at (lineOf (fill most (now (list .entry)))) (now (text .entry)) (now (text .exit)) r ⌝ }
+// These numbers, each with a space behind it, from `at` on; where the next byte goes.
+fn put_numbers(numbers: &[u16], text: &mut [u8], at: usize) -> usize
+    requires { ⌜ at + length (spaced (now numbers)) ≤ length (now text) ⌝ }
+    ensures { λ r. ⌜ Appended at (spaced (now (numbers .entry))) (now (text .entry)) (now (text .exit)) r ⌝ }
 {
     let mut next = at;
-    for i in 0..most {
-        let mut x = 0usize;
-        if i < list.len() {
-            x = slices::index(list[i]);
-        }
-        next = text::put_number(x, text, next);
-        let mut end = b' ';
-        if i + 1 == most {
-            end = b'\n';
-        }
-        next = text::put(end, text, next);
+    for i in 0..numbers.len() {
+        next = text::put_number(slices::index(numbers[i]), text, next);
+        next = text::put(b' ', text, next);
     }
     next
+}
+
+// So many zeros, each with a space behind it, from `at` on; where the next byte goes.
+fn put_zeros(count: usize, text: &mut [u8], at: usize) -> usize
+    requires { ⌜ at + 2 * count ≤ length (now text) ⌝ }
+    ensures { λ r. ⌜ Appended at (spaced (replicate count 0)) (now (text .entry)) (now (text .exit)) r ⌝ }
+{
+    let mut next = at;
+    for i in 0..count {
+        next = text::put(b'0', text, next);
+        next = text::put(b' ', text, next);
+    }
+    next
+}
+
+// The line of a list that is filled to `most` numbers, from `at` on; where the next byte goes. A line feed takes the place of the last space.
+fn put_list(list: &[u16], most: usize, text: &mut [u8], at: usize) -> usize
+    requires { ⌜ (1 ≤ most) × (length (now list) ≤ most) × (at + length (lineOf (fill most (now list))) ≤ length (now text)) ⌝ }
+    ensures { λ r. ⌜ Appended at (lineOf (fill most (now (list .entry)))) (now (text .entry)) (now (text .exit)) r ⌝ }
+{
+    let zeros = put_numbers(list, text, at);
+    let next = put_zeros(most - list.len(), text, zeros);
+    text::put(b'\n', text, next - 1)
 }
 
 // A line of two numbers, from `at` on; where the next byte goes.
@@ -101,11 +115,12 @@ fn put_pair(x: usize, y: usize, text: &mut [u8], at: usize) -> usize
     text::put(b'\n', text, end)
 }
 
-// The lines of the lists of a side, each filled to `most` numbers, from `at` on; where the next byte goes.
-fn put_lists(degrees: &[u16], entries: &[u16], most: usize, text: &mut [u8], at: usize) -> usize
-    requires { ⌜ Side (now degrees) (now entries) × (at + length (listsText most (now degrees) (now entries)) ≤ length (now text)) ⌝ }
-    ensures { λ r. ⌜ Appended at (listsText most (now (degrees .entry)) (now (entries .entry))) (now (text .entry)) (now (text .exit)) r ⌝ }
+// The lines of the lists of a side, each filled to the largest degree, from `at` on; where the next byte goes.
+fn put_lists(degrees: &[u16], entries: &[u16], text: &mut [u8], at: usize) -> usize
+    requires { ⌜ Side (now degrees) (now entries) × (at + length (listsText (now degrees) (now entries)) ≤ length (now text)) ⌝ }
+    ensures { λ r. ⌜ Appended at (listsText (now (degrees .entry)) (now (entries .entry))) (now (text .entry)) (now (text .exit)) r ⌝ }
 {
+    let most = largest(degrees);
     let mut next = at;
     let mut first = 0usize;
     for i in 0..degrees.len() {
@@ -116,47 +131,91 @@ fn put_lists(degrees: &[u16], entries: &[u16], most: usize, text: &mut [u8], at:
     next
 }
 
+// What stands before the lists, by the degrees of the columns and of the rows; where the next byte goes.
+fn put_head(columns: &[u16], rows: &[u16], text: &mut [u8]) -> usize
+    requires { ⌜ (1 ≤ length (now columns)) × (1 ≤ length (now rows)) × (length (headText (now columns) (now rows)) ≤ length (now text)) ⌝ }
+    ensures { λ r. ⌜ Appended 0 (headText (now (columns .entry)) (now (rows .entry))) (now (text .entry)) (now (text .exit)) r ⌝ }
+{
+    let bits = columns.len();
+    let checks = rows.len();
+    let second = put_pair(bits, checks, text, 0);
+    let third = put_pair(largest(columns), largest(rows), text, second);
+    let fourth = put_list(columns, bits, text, third);
+    put_list(rows, checks, text, fourth)
+}
+
+// The bytes of the text of a code whose check records are `s`, by lists for its sides: a number for each bit, the degrees of the checks, and a number
+// for each place.
+fn measure_in(s: &[u8], columns: &mut [u16], rows: &[u16], entries: &mut [u16]) -> usize
+    requires { ⌜ Lists (now s) (now columns) (now rows) (now entries) ⌝ }
+    ensures { λ r. ⌜ r ≡ length (alistOf (codeFrom (length (now (columns .entry))) (length (now (rows .entry))) (now (s .entry)))) ⌝ }
+{
+    let bits = columns.len();
+    let checks = rows.len();
+    sides::column_degrees(s, checks, columns);
+    let pairs = digits(bits)
+        + digits(checks)
+        + digits(largest(&columns[..]))
+        + digits(largest(rows))
+        + 4;
+    sides::column_entries(s, checks, &columns[..], entries);
+    let first = side_size(&columns[..], &entries[..]);
+    sides::row_entries(s, bits, checks, entries);
+    let second = side_size(rows, &entries[..]);
+    pairs + first + second
+}
+
 // The bytes of the text of a code whose check records are `s`.
 fn measure(s: &[u8], bits: usize, checks: usize) -> usize
-    requires { ⌜ SoundChecksOf bits checks (now s) ⌝ }
-    ensures { λ r. ⌜ r ≡ length (alistOf (record { bits = bits; checks = checksIn checks (now (s .entry)) })) ⌝ }
+    requires { ⌜ Accepted bits checks (now s) ⌝ }
+    ensures { λ r. ⌜ r ≡ length (alistOf (codeFrom bits checks (now (s .entry)))) ⌝ }
 {
-    let mut column_degrees = [0u16; MOST_BITS];
-    let mut row_degrees = [0u16; MOST_CHECKS];
+    let mut columns = [0u16; MOST_BITS];
+    let mut rows = [0u16; MOST_CHECKS];
     let mut entries = [0u16; MOST_PLACES];
-    let places = sides::row_degrees(s, bits, &mut row_degrees[..checks]);
-    sides::column_degrees(s, checks, &mut column_degrees[..bits]);
-    let c = largest(&column_degrees[..bits]);
-    let r = largest(&row_degrees[..checks]);
-    let pairs = digits(bits) + digits(checks) + digits(c) + digits(r) + 4;
-    sides::column_entries(s, checks, &column_degrees[..bits], &mut entries[..places]);
-    let columns = side_size(&column_degrees[..bits], &entries[..places]);
-    sides::row_entries(s, bits, checks, &mut entries[..places]);
-    let rows = side_size(&row_degrees[..checks], &entries[..places]);
-    pairs + columns + rows
+    let places = sides::row_degrees(s, bits, &mut rows[..checks]);
+    measure_in(
+        s,
+        &mut columns[..bits],
+        &rows[..checks],
+        &mut entries[..places],
+    )
+}
+
+// The text of a code whose check records are `s`, by lists as `measure_in` takes them.
+fn write_in(s: &[u8], columns: &mut [u16], rows: &[u16], entries: &mut [u16], text: &mut [u8])
+    requires { ⌜ Lists (now s) (now columns) (now rows) (now entries) ⌝ }
+    requires { ⌜ length (alistOf (codeFrom (length (now columns)) (length (now rows)) (now s))) ≤ length (now text) ⌝ }
+    ensures { λ _. ⌜ now (text .exit)
+        ≡ written (alistOf (codeFrom (length (now (columns .entry))) (length (now (rows .entry))) (now (s .entry)))) (now (text .entry)) ⌝ }
+{
+    let bits = columns.len();
+    let checks = rows.len();
+    sides::column_degrees(s, checks, columns);
+    let first = put_head(&columns[..], rows, text);
+    sides::column_entries(s, checks, &columns[..], entries);
+    let second = put_lists(&columns[..], &entries[..], text, first);
+    sides::row_entries(s, bits, checks, entries);
+    put_lists(rows, &entries[..], text, second);
 }
 
 // The text of a code whose check records are `s`.
 fn write_text(s: &[u8], bits: usize, checks: usize, text: &mut [u8])
-    requires { ⌜ SoundChecksOf bits checks (now s) ⌝ }
-    requires { ⌜ length (alistOf (record { bits = bits; checks = checksIn checks (now s) })) ≤ length (now text) ⌝ }
-    ensures { λ _. ⌜ now (text .exit) ≡ written (alistOf (record { bits = bits; checks = checksIn checks (now (s .entry)) })) (now (text .entry)) ⌝ }
+    requires { ⌜ Accepted bits checks (now s) ⌝ }
+    requires { ⌜ length (alistOf (codeFrom bits checks (now s))) ≤ length (now text) ⌝ }
+    ensures { λ _. ⌜ now (text .exit) ≡ written (alistOf (codeFrom bits checks (now (s .entry)))) (now (text .entry)) ⌝ }
 {
-    let mut column_degrees = [0u16; MOST_BITS];
-    let mut row_degrees = [0u16; MOST_CHECKS];
+    let mut columns = [0u16; MOST_BITS];
+    let mut rows = [0u16; MOST_CHECKS];
     let mut entries = [0u16; MOST_PLACES];
-    let places = sides::row_degrees(s, bits, &mut row_degrees[..checks]);
-    sides::column_degrees(s, checks, &mut column_degrees[..bits]);
-    let c = largest(&column_degrees[..bits]);
-    let r = largest(&row_degrees[..checks]);
-    let mut at = put_pair(bits, checks, text, 0);
-    at = put_pair(c, r, text, at);
-    at = put_list(&column_degrees[..bits], bits, text, at);
-    at = put_list(&row_degrees[..checks], checks, text, at);
-    sides::column_entries(s, checks, &column_degrees[..bits], &mut entries[..places]);
-    at = put_lists(&column_degrees[..bits], &entries[..places], c, text, at);
-    sides::row_entries(s, bits, checks, &mut entries[..places]);
-    at = put_lists(&row_degrees[..checks], &entries[..places], r, text, at);
+    let places = sides::row_degrees(s, bits, &mut rows[..checks]);
+    write_in(
+        s,
+        &mut columns[..bits],
+        &rows[..checks],
+        &mut entries[..places],
+        text,
+    );
 }
 
 // The bytes that an export of these records will write.
