@@ -1,5 +1,5 @@
--- Document 02, L1, of every text and code: what 18 and 19 mean, what is imported, and that import and export belong together. Statements only; the proofs are in
--- proofs/Spelling.antt (how numbers are written), proofs/Agreement.antt (19), proofs/AlistText.antt (all of a text) and proofs/AlistTrips.antt (import and export).
+-- Document 02, L1, of every text and code: what 18 and 19 mean, what is imported, and that import and export belong together. Statements only; the proofs are
+-- in proofs/Spelling.antt (how numbers are written), Agreement.antt (19), AlistText.antt (all of a text) and AlistTrips.antt (import and export).
 use mathlib.Core.Path.{_≡_}
 use mathlib.Core.Bool.{true}
 use mathlib.Core.List.{List, [], _∷_, _++_, map}
