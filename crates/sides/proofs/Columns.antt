@@ -1,4 +1,4 @@
--- The columns of checks: how long they are, one check more, and where each begins. Assumes nothing.
+-- The columns of checks: how long they are, one check more, and what a counting sort of check records keeps. Assumes nothing.
 use Rattle.integers.proofs.Prelude.{_≡_, refl, sym, ap, _∙_, Bool, true, false, cond, List, [], _∷_, _++_, append-assoc, append-nil, ℕ, suc, _+_, _≤_, _<_}
 use Rattle.integers.proofs.Prelude.{arith, eq-eqb, eqb, length, getD}
 use Rattle.lists.specs.Tabulated.{tab, over}

@@ -84,8 +84,8 @@ loop-again c =
       ap length n ∙ length-counted k (l .loop .next) ∙ l .loop .inv .1,
       rw e (length-placed (j + 1) (l .loop .next) k (l .loop .entries) ∙ l .loop .inv .2),
       rw (n, e)
-          (sorted-next (l .loop .inv .3) (column (j + 1) (a .s .now)) k (j + 1) (omega (arith, s .pre .0 .1, l .loop .inv .1)) (omega (arith, filled s, l .loop .inv .2))
-          (record-sound _ _ (judged t) .rising) (column-open _ _ _ w (a .checks) (t .loop-test .taken))
+          (sorted-next (l .loop .inv .3) (column (j + 1) (a .s .now)) k (j + 1) (omega (arith, s .pre .0 .1, l .loop .inv .1))
+          (omega (arith, filled s, l .loop .inv .2)) (record-sound _ _ (judged t) .rising) (column-open _ _ _ w (a .checks) (t .loop-test .taken))
           (λ b h. column-within (a .s .now) j (a .checks) b (l .loop .inv .4)) (column-grown _ _ _ w)),
       omega arith,
     )
@@ -101,5 +101,5 @@ returns c =
 pub column-entries-spec : {M : Type 1} → statement M
 column-entries-spec =
     tie.close (tie.spec Inv-loop μ-loop (λ c κs. let s = c .before .before .before .before in (s .pre .0 .1, refl, omega (arith, s .pre .1 .1))) loop-holds
-    (λ c. search needs) place-requires (λ c κs. record-sound _ _ (judged (c .before .before .before .before .before)) .room) (λ c. search needs) (λ c. search needs)
-    loop-again (λ c. c .before .loop .inv .2) returns)
+    (λ c. search needs) place-requires (λ c κs. record-sound _ _ (judged (c .before .before .before .before .before)) .room) (λ c. search needs)
+    (λ c. search needs) loop-again (λ c. c .before .loop .inv .2) returns)
