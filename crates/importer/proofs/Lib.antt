@@ -1,0 +1,3 @@
+pub mod Indices
+pub mod Rows
+pub mod Judging
