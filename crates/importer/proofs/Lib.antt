@@ -1,3 +1,4 @@
 pub mod Indices
 pub mod Rows
 pub mod Judging
+pub mod Writing
