@@ -2,3 +2,4 @@ pub mod Indices
 pub mod Rows
 pub mod Judging
 pub mod Writing
+pub mod Covered
