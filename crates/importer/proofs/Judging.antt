@@ -1,16 +1,17 @@
 -- A judgement, step by step. Assumes nothing.
-use Rattle.integers.proofs.Prelude.{_≡_, refl, sym, ap, _∙_, List, [], _∷_, ℕ, suc, _+_, _*_, _≤_, _<_, arith, add-one, lt-ltb, le-ltb, length, getD, drop}
-use Rattle.integers.proofs.Prelude.{drop-of-length-le, drop-cons}
+use Rattle.integers.proofs.Prelude.{_≡_, refl, sym, ap, _∙_, true, false, not, List, [], _∷_, ℕ, suc, _+_, _*_, _≤_, _<_, arith, add-one, lt-ltb, le-ltb, ltb}
+use Rattle.integers.proofs.Prelude.{length, getD, drop, drop-of-length-le, drop-cons}
 use Rattle.lists.specs.Entries.{total}
-use Rattle.model.specs.Causes.{firstOf}
-use Rattle.model.specs.Code.{tripleCount}
-use Rattle.model.specs.Records.{indices, judgeCheck, recordOf, recordSize}
-use Rattle.model.specs.RecordClaims.{checkCause, checksCause}
+use Rattle.model.specs.Limits.{mostBits, mostChecks, mostTriples}
+use Rattle.model.specs.Causes.{_if_, firstOf, outside}
+use Rattle.model.specs.Code.{Code, tripleCount, triples}
+use Rattle.model.specs.Records.{indices, judgeCheck, covered, recordOf, recordSize}
+use Rattle.model.specs.RecordClaims.{checkCause, checksCause, judgeCode}
 use Rattle.model.proofs.Causes.{only, refused}
 use Rattle.model.proofs.RecordClaims.{length-record, indices-back, check-judged, check-clear}
 use Rattle.text.specs.Appended.{Appended}
 use Rattle.importer.specs.declared.Judgement.{Judgement}
-use Rattle.importer.specs.Judged.{Judged, JudgedCheck, JudgedChecks}
+use Rattle.importer.specs.Judged.{Judged, JudgedCheck, JudgedChecks, JudgedCode}
 
 -- ---- a cause is told
 pub refuses : (x : ℕ) {cause triples bytes : ℕ} {r : Judgement} → r .cause ≡ suc x → cause ≡ suc x → Judged cause triples bytes r
@@ -36,6 +37,11 @@ pub check-sizes : (n : ℕ) (c : List ℕ) {r : Judgement} → JudgedCheck n c r
 check-sizes n c told z =
     let s = check-clear n c .0 (sym (told .first) ∙ z) in
     (omega (arith, told .counted z, s .most), omega (arith, told .sized z, s .most))
+
+-- so many bytes a check has at most, for its triples
+pub few-bytes : (cs : List (List ℕ)) → total recordSize cs ≤ 2 * total tripleCount cs + 7 * length cs
+few-bytes [] = omega arith
+few-bytes (c ∷ cs) = omega (arith, few-bytes cs)
 
 -- ---- several: j of the checks cs passed, with so many triples and bytes, and what is left decides
 pub record Passed (n : ℕ) (cs : List (List ℕ)) (j triples bytes : ℕ) : Type 0 where
@@ -85,3 +91,47 @@ module _ {n : ℕ} {cs : List (List ℕ)} {j triples bytes : ℕ} (p : Passed n 
         counted = λ _. omega (arith, p .counted, ap (total tripleCount) none);
         sized = λ _. omega (arith, p .sized, ap (total recordSize) none);
       }
+
+-- ---- the code, in the order of its causes
+module _ (k : Code) where
+  pub bits-refused : {r : Judgement} → outside 3 mostBits (k .bits) ≡ true → r .cause ≡ 3 → JudgedCode k r
+  unfolding judgeCode
+  bits-refused h e = refuses 2 e (rw h)
+
+  module _ (bits : outside 3 mostBits (k .bits) ≡ false) where
+    pub count-refused : {r : Judgement} → outside 1 mostChecks (length (k .checks)) ≡ true → r .cause ≡ 3 → JudgedCode k r
+    unfolding judgeCode
+    count-refused h e = refuses 2 e (rw (bits, h))
+
+    module _ (count : outside 1 mostChecks (length (k .checks)) ≡ false) {found : Judgement} (told : JudgedChecks (k .bits) (k .checks) found) where
+      checks-decide : judgeCode k ≡ firstOf (found .cause ∷ 7 if ltb mostTriples (triples k) ∷ 8 if not (covered k) ∷ [])
+      unfolding judgeCode
+      checks-decide = rw (bits, count, ← told .first)
+
+      pub checks-refused : (found .cause ≡ 0 → ⊥) → JudgedCode k found
+      checks-refused z = record {
+        first = sym (checks-decide ∙ refused (found .cause) (7 if ltb mostTriples (triples k) ∷ 8 if not (covered k) ∷ []) z);
+        counted = λ e. absurd (z e);
+        sized = λ e. absurd (z e);
+      }
+
+      module _ (fine : found .cause ≡ 0) where
+        whole-decides : judgeCode k ≡ firstOf (7 if ltb mostTriples (found .triples) ∷ 8 if not (covered k) ∷ [])
+        whole-decides = checks-decide ∙ rw (fine, told .counted fine)
+
+        pub triples-refused : {r : Judgement} → mostTriples < found .triples → r .cause ≡ 7 → JudgedCode k r
+        triples-refused h e = refuses 6 e (whole-decides ∙ rw (lt-ltb mostTriples (found .triples) h))
+
+        module _ (few : found .triples ≤ mostTriples) where
+          covered-decides : judgeCode k ≡ firstOf (8 if not (covered k) ∷ [])
+          covered-decides = whole-decides ∙ rw (le-ltb mostTriples (found .triples) few)
+
+          pub bare-refused : {r : Judgement} → covered k ≡ false → r .cause ≡ 8 → JudgedCode k r
+          bare-refused h e = refuses 7 e (covered-decides ∙ rw h)
+
+          pub code-passes : covered k ≡ true → JudgedCode k (record { cause = 0; triples = found .triples; bytes = 6 + found .bytes })
+          code-passes h = record {
+            first = sym (covered-decides ∙ rw h);
+            counted = λ _. told .counted fine;
+            sized = λ _. omega (arith, told .sized fine);
+          }

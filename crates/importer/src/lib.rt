@@ -127,10 +127,10 @@ fn judge(text: &[u8], columns: Side, rows: Side) -> Judgement
 {
     let bits = columns.count;
     let checks = rows.count;
-    if bits < 3 || MOST_BITS < bits {
+    if records::outside(3, MOST_BITS, bits) {
         return refused(3);
     }
-    if checks < 1 || MOST_CHECKS < checks {
+    if records::outside(1, MOST_CHECKS, checks) {
         return refused(3);
     }
     let found = judge_rows(text, rows, bits);
