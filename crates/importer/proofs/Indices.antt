@@ -20,8 +20,7 @@ module _ {s : List ℕ} {at degree : ℕ} (row : Indexed s at degree) where
       let x = next-at l i stand next in
       let many = length-take-le degree l (row .small .long) in
       let same : getD (take degree l) i 0 ≡ value = getD-take degree l i 0 h ∙ same-at l i 0 none (omega (arith, row .small .long)) ∙ sym (x .0) in
-      let above = ltb-true 0 (getD (take degree l) i 0) (every-at (ltb 0) (take degree l) i 0 (row .above) (omega arith)) in
-      (
+      let above = ltb-true 0 (getD (take degree l) i 0) (every-at (ltb 0) (take degree l) i 0 (row .above) (omega arith)) in (
         omega arith,
         omega (arith, x .0, small-at degree l i none (row .small) h),
         List·getD-map (λ i. i - 1) (take degree l) i 0 ∙ ap (λ (i : ℕ). i - 1) same,

@@ -28,7 +28,9 @@ pub record-judged : (n : ℕ) (c : List ℕ) {old list : List ℕ} {cause triple
 record-judged n c {old} written judged counted =
     record {
       first = judged ∙ ap (judgeCheck n) (written .list) ∙ check-judged n c (drop (0 + length (recordOf c)) old);
-      counted = λ _. counted ∙ ap (λ (b : List ℕ). tripleCount (indices b)) (written .list) ∙ ap tripleCount (indices-back c (drop (0 + length (recordOf c)) old));
+      counted = λ _.
+          counted ∙ ap (λ (b : List ℕ). tripleCount (indices b)) (written .list)
+          ∙ ap tripleCount (indices-back c (drop (0 + length (recordOf c)) old));
       sized = λ _. omega (arith, written .ends, length-record c);
     }
 

@@ -3,3 +3,5 @@ pub mod Rows
 pub mod Judging
 pub mod Writing
 pub mod Covered
+pub mod Sides
+pub mod Answers

@@ -1,5 +1,5 @@
 -- The records of a code, written check by check. Assumes nothing.
-use Rattle.integers.proofs.Prelude.{_≡_, sym, ap, _∙_, List, [], _∷_, _++_, ℕ, suc, _+_, _≤_, _<_, arith, add-one, length, getD, take, drop, length-append}
+use Rattle.integers.proofs.Prelude.{_≡_, sym, ap, _∙_, List, [], _∷_, _++_, ℕ, suc, _+_, _≤_, _<_, arith, add-one, length, getD, take, drop}
 use Rattle.integers.proofs.Prelude.{take-append-drop, take-suc, drop-cons, take-all}
 use Rattle.lists.specs.Entries.{total}
 use Rattle.lists.specs.Tabulated.{written}

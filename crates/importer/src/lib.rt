@@ -10,6 +10,7 @@ ghost use Rattle.model.specs.Limits.{mostChecks, mostDegree};
 ghost use Rattle.model.specs.Records.{recordOf, recordsOf, recordsSize};
 ghost use Rattle.model.specs.RecordClaims.{judgeCode};
 ghost use Rattle.model.specs.Alist.{agree};
+ghost use Rattle.model.specs.AlistPromises.{ImportCall};
 ghost use Rattle.text.specs.Appended.{Appended};
 ghost use Rattle.numbers.specs.Walked.{from, Small};
 ghost use Rattle.importer.specs.Rows.{namedIn, Sided, Indexed, bitsAt, checksOf, codeOfRows};
@@ -21,7 +22,7 @@ use model::MOST_TRIPLES;
 use model::Written;
 use numbers::Side;
 
-// The most bytes of the record of a check.
+// The most bytes of the record of a check: three, and two for each index.
 const MOST_RECORD: usize = 67;
 
 // What a judgement finds: the first cause, or 0; how many triples there are, and how many bytes of records.
@@ -168,4 +169,42 @@ fn write_records(text: &[u8], rows: Side, bits: usize, code: &mut [u8])
         let list = numbers::largest(text, at, most);
         at = list.end;
     }
+}
+
+// Import: the records of an alist text.
+pub fn import(text: &[u8], code: &mut [u8]) -> Written
+    ensures { λ r. ⌜ ImportCall (now (text .entry)) (now (code .entry)) (record { number = r .number; bytes = r .bytes; list = now (code .exit) }) ⌝ }
+{
+    let form = alist::read_form(text);
+    if !form.sound {
+        return Written {
+            number: 18,
+            bytes: 0,
+        };
+    }
+    let columns = form.columns;
+    let rows = form.rows;
+    if !places::agree(text, columns, rows) {
+        return Written {
+            number: 19,
+            bytes: 0,
+        };
+    }
+    let found = judge(text, columns, rows);
+    let cause = found.cause;
+    let bytes = found.bytes;
+    if cause != 0 {
+        return Written {
+            number: cause,
+            bytes: 0,
+        };
+    }
+    if code.len() < bytes {
+        return Written {
+            number: 10,
+            bytes: 0,
+        };
+    }
+    write_records(text, rows, columns.count, code);
+    Written { number: 0, bytes }
 }

@@ -1,5 +1,5 @@
 -- `importer::all_named` meets its contract: the degrees that are left decide. Assumes nothing.
-use Rattle.integers.proofs.Prelude.{_≡_, refl, sym, ap, _∙_, Bool, List, ℕ, suc, _-_, _≤_, _<_, arith, add-one, needs, lt-ltb, le-ltb, ltb, length, getD, take, drop}
+use Rattle.integers.proofs.Prelude.{_≡_, refl, sym, _∙_, List, ℕ, suc, _-_, _≤_, _<_, arith, add-one, needs, lt-ltb, le-ltb, ltb, length, getD, take, drop}
 use Rattle.integers.proofs.Prelude.{length-take-le, getD-take}
 use Rattle.lists.specs.Entries.{every}
 use Rattle.lists.proofs.Entries.{every-next, every-stop, every-end}
@@ -45,13 +45,15 @@ module _ (c : tie.After-next Inv-loop μ-loop) where
 returns : tie.Need-returns Inv-loop μ-loop
 returns c =
     let n = c .before .before in
-    sym (n .before .before .loop .inv .0 ∙ every-stop (ltb 0) (first n) (b n) none (there n) (le-ltb 0 (getD (first n) (b n) none) (omega (arith, value n, c .if1 .taken))))
+    let bare = le-ltb 0 (getD (first n) (b n) none) (omega (arith, value n, c .if1 .taken)) in
+    sym (n .before .before .loop .inv .0 ∙ every-stop (ltb 0) (first n) (b n) none (there n) bare)
 
 loop-again : tie.Need-loop-again Inv-loop μ-loop
 loop-again c =
     let n = c .before .before in
+    let passes = lt-ltb 0 (getD (first n) (b n) none) (omega (arith, value n, c .if1 .left)) in
     rw (add-one (b n)) (
-      n .before .before .loop .inv .0 ∙ every-next (ltb 0) (first n) (b n) none (there n) (lt-ltb 0 (getD (first n) (b n) none) (omega (arith, value n, c .if1 .left))),
+      n .before .before .loop .inv .0 ∙ every-next (ltb 0) (first n) (b n) none (there n) passes,
       number n .1,
       n .next .ensures .within,
       omega arith,

@@ -1,5 +1,5 @@
 -- `importer::judge` meets its contract: the causes in their order, and the sizes of a code that has none. Assumes nothing.
-use Rattle.integers.proofs.Prelude.{_≡_, sym, ap, ap₂, _∙_, Bool, true, false, List, ℕ, _≤_, arith, needs, not-false, not-true, ltb, length}
+use Rattle.integers.proofs.Prelude.{_≡_, sym, ap, _∙_, false, ℕ, arith, needs, not-false, not-true, ltb, length}
 use Rattle.lists.specs.Entries.{every}
 use Rattle.model.specs.Limits.{mostBits, mostChecks}
 use Rattle.model.specs.Causes.{outside}
@@ -7,7 +7,7 @@ use Rattle.model.specs.Code.{Code}
 use Rattle.model.specs.Records.{covered}
 use Rattle.model.proofs.Causes.{within}
 use Rattle.model.proofs.Agreement.{agreement}
-use Rattle.importer.specs.Rows.{namedIn, lowered, codeOfRows}
+use Rattle.importer.specs.Rows.{namedIn, codeOfRows}
 use Rattle.importer.proofs.Rows.{length-named, length-checks}
 use Rattle.importer.proofs.Covered.{covered-named}
 use Rattle.importer.proofs.Judging.{few-bytes, bits-refused, count-refused, checks-refused, triples-refused, bare-refused, code-passes}

@@ -1,14 +1,11 @@
 -- `importer::judge_rows` meets its contract: the rows so far are sound, and those that are left decide. Assumes nothing.
-use Rattle.integers.proofs.Prelude.{_≡_, sym, ap, _∙_, List, [], ℕ, _+_, _-_, _≤_, _<_, arith, needs, length, getD}
+use Rattle.integers.proofs.Prelude.{_≡_, List, [], ℕ, _-_, _<_, arith, needs, length, getD}
 use Rattle.numbers.specs.declared.Side.{Side}
 use Rattle.importer.specs.Rows.{bitsAt, checksOf}
-use Rattle.importer.specs.Judged.{JudgedCheck}
 use Rattle.importer.proofs.Rows.{length-checks, Walk, walk-start, walk-indexed, walk-check, walk-next}
 use Rattle.importer.proofs.Judging.{check-sizes, Passed, passed-start, passed-next, passed-not, passed-all}
 use Rattle.importer.proofs.judge_rows.Statement.{statement}
 use Rattle.importer.proofs.judge_rows.Tie as tie
-use Rattle.importer.proofs.judge_rows.Reads as reads
-use Rattle.importer.proofs.judge_rows.Lts as lts
 
 abbrev Inv-loop : tie.InvT-loop
 Inv-loop text bits count most degrees₀ at₀ triples₀ bytes₀ j₀ degrees at triples bytes j =
@@ -69,8 +66,7 @@ add-bytes c =
 loop-again : tie.Need-loop-again Inv-loop μ-loop
 loop-again c =
     let e = c .before .before .before in
-    let r = e .before .before in
-    (
+    let r = e .before .before in (
       walk-next (start r .pre .0) (j r) (r .before .before .loop-test .taken) (at-loop r .loop .inv .0) (r .before .next .ensures) (c .largest .ensures),
       passed-next (at-loop r .loop .inv .1) (there r) (here r) (r .judge-row .ensures) (e .if1 .left),
     )
@@ -83,4 +79,5 @@ returns-2 c =
 pub judge-rows-spec : {M : Type 1} → statement M
 judge-rows-spec =
     tie.close
-    (tie.spec Inv-loop μ-loop loop-holds (λ c κs. search needs) judge-row-requires returns add-triples add-bytes (λ c κs. search needs) (λ c. search needs) (λ c. search needs) loop-again returns-2)
+    (tie.spec Inv-loop μ-loop loop-holds (λ c κs. search needs) judge-row-requires returns add-triples add-bytes (λ c κs. search needs)
+    (λ c. search needs) (λ c. search needs) loop-again returns-2)

@@ -1,11 +1,10 @@
 -- `importer::write_records` meets its contract: the header, and after j turns the records of the first j rows. Assumes nothing.
-use Rattle.integers.proofs.Prelude.{_≡_, refl, sym, ap, _∙_, List, [], ℕ, _+_, _-_, _≤_, _<_, arith, needs, length, getD, take}
+use Rattle.integers.proofs.Prelude.{_≡_, ap, _∙_, List, [], ℕ, _-_, _≤_, _<_, arith, needs, length, getD, take}
 use Rattle.numbers.specs.declared.Side.{Side}
 use Rattle.model.specs.Limits.{mostDegree}
 use Rattle.model.specs.Code.{Code}
 use Rattle.model.specs.Records.{checkRecords}
-use Rattle.model.specs.RecordClaims.{judgeCode}
-use Rattle.model.specs.Sound.{Sound, SoundCheck}
+use Rattle.model.specs.Sound.{Sound}
 use Rattle.model.proofs.Sound.{sound-at}
 use Rattle.model.proofs.RecordClaims as claims
 use Rattle.text.specs.Appended.{Appended}
@@ -16,8 +15,6 @@ use Rattle.importer.proofs.Rows.{length-checks, Walk, walk-start, walk-
 use Rattle.importer.proofs.Writing.{records-next, records-room, records-all}
 use Rattle.importer.proofs.write_records.Statement.{statement}
 use Rattle.importer.proofs.write_records.Tie as tie
-use Rattle.importer.proofs.write_records.Reads as reads
-use Rattle.importer.proofs.write_records.Lts as lts
 
 abbrev Inv-loop : tie.InvT-loop
 Inv-loop text bits code₀ count most degrees₀ at₀ next₀ j₀ code degrees at next j =
@@ -102,8 +99,7 @@ loop-again : tie.Need-loop-again Inv-loop μ-loop
 loop-again c =
     let w = c .before .before .before in
     let n = w .before .before in
-    let l = at-loop n in
-    (
+    let l = at-loop n in (
       walk-next (begun n .pre .0 .0) (j l) (n .before .loop-test .taken) (l .loop .inv .0) (n .next .ensures) (c .largest .ensures),
       rw (records-next (checks l) (j l) (there n) (here n)) (then (l .loop .inv .1) (w .write-row .ensures)),
     )

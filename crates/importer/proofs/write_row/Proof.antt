@@ -1,6 +1,6 @@
 -- `importer::write_row` meets its contract: after i turns the first i bits are in the row. Assumes nothing.
-use Rattle.integers.proofs.Prelude.{_≡_, refl, sym, ap, ap₂, _∙_, List, [], _∷_, _++_, ℕ, suc, _-_, _≤_, _<_, arith, add-one, needs, length, getD, take, drop, set}
-use Rattle.integers.proofs.Prelude.{length-set, length-take-le, take-all, take-suc}
+use Rattle.integers.proofs.Prelude.{_≡_, refl, sym, ap, ap₂, _∙_, List, [], _∷_, _++_, ℕ, suc, _-_, _≤_, _<_, arith, add-one, needs, length}
+use Rattle.integers.proofs.Prelude.{getD, take, drop, set, length-set, length-take-le, take-all, take-suc}
 use lib.Seq.{take-suc-set}
 use Rattle.model.specs.Limits.{mostNumber}
 use Rattle.numbers.specs.Walked.{from}
@@ -9,10 +9,6 @@ use Rattle.importer.specs.Rows.{bitsAt}
 use Rattle.importer.proofs.Indices.{length-bits, index-at}
 use Rattle.importer.proofs.write_row.Statement.{statement}
 use Rattle.importer.proofs.write_row.Tie as tie
-use Rattle.importer.proofs.write_row.Reads as reads
-use Rattle.importer.proofs.write_row.Lts as lts
-use Rattle.numbers.proofs.next.Reads as next-reads
-use Rattle.records.proofs.write_check.Reads as write-check-reads
 
 abbrev Inv-loop : tie.InvT-loop
 Inv-loop text at degree code next row₀ end₀ i₀ row end i =
