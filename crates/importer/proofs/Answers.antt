@@ -50,11 +50,11 @@ module _ (s old : List ℕ) where
         pub no-room : length old < recordsSize code → ImportCall s old (answer 10 0 old)
         no-room h = refused 9 (decided ∙ rw (sound, length-code code, lt-ltb (length old) (recordsSize code) h))
 
-        pub imported : (bytes : ℕ) (list : List ℕ) → bytes ≡ recordsSize code → bytes ≤ length old → list ≡ written (recordsOf code) old
+        pub imported : {k : Code} (bytes : ℕ) (list : List ℕ) → k ≡ code → bytes ≡ recordsSize code → bytes ≤ length old → list ≡ written (recordsOf k) old
             → ImportCall s old (answer 0 bytes list)
         unfolding importer
-        imported bytes list size h e =
+        imported bytes list same size h e =
             let fits = le-ltb (length old) (recordsSize code) (omega arith) in
             let none : firstOf (importCauses s old) ≡ 0 = decided ∙ rw (sound, length-code code, fits) in
             import-call s old (answer 0 bytes list)
-            (rw (size, e, ← length-code code) (sym (write-done (importCauses s old) (recordsOf code) old none)))
+            (rw (size, e, same, ← length-code code) (sym (write-done (importCauses s old) (recordsOf code) old none)))

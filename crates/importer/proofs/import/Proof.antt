@@ -1,10 +1,8 @@
 -- `importer::import` meets its contract: each cause in its order, and the records of a code that has none. Assumes nothing.
-use Rattle.integers.proofs.Prelude.{_≡_, sym, ap, _∙_, true, arith, needs, not-false, not-true}
+use Rattle.integers.proofs.Prelude.{_≡_, sym, _∙_, true, arith, needs, not-false, not-true}
 use Rattle.model.specs.Code.{Code}
-use Rattle.model.specs.Records.{recordsOf}
 use Rattle.model.specs.RecordClaims.{judgeCode}
 use Rattle.model.specs.Alist.{numbersOf, agree, named, columns, rows, codeOfText}
-use Rattle.lists.specs.Tabulated.{written}
 use Rattle.importer.specs.Judged.{JudgedCode}
 use Rattle.importer.proofs.Sides.{formed, columns-sided, rows-sided, sides-held, named-agree, lists-agree, code-is}
 use Rattle.importer.proofs.Answers.{no-form, no-agreement, no-code, no-room, imported}
@@ -100,8 +98,8 @@ returns-5 c =
     let j = e .before in
     let told = read j .read-form .ensures in
     let yes = sound (fine (both j .before)) in
-    imported _ _ (formed told yes) (agreed (both j)) (judged-sound e) _ _ (judged j .sized (e .if3 .left)) (r .if4 .left)
-    (w .write-records .ensures ∙ ap (λ (k : Code). written (recordsOf k) (start j .args .code .now)) (code-is told yes))
+    imported _ _ (formed told yes) (agreed (both j)) (judged-sound e) _ _ (code-is told yes) (judged j .sized (e .if3 .left)) (r .if4 .left)
+    (w .write-records .ensures)
 
 pub import-spec : {M : Type 1} → statement M
 import-spec =
