@@ -1,6 +1,6 @@
 -- What crates above cite of a walk over the numbers of a text (`numbers::next`, `numbers::largest`; `numbers::read`'s laws are in Fill):
 --
 --   the number at a place that stands after j numbers, and the place after it: next-at; whether it is there: there      Walk
---   so many numbers of at most 65,535: small-none, small-next, small-at                                                  Walk
+--   so many numbers of at most 65,535: small-none, small-next, small-at, small-part                                       Walk
 pub mod Walk
 pub mod Fill

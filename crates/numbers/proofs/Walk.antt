@@ -1,10 +1,10 @@
 -- The numbers of a text from a place on, and numbers of at most 65,535. Assumes nothing.
 use Rattle.integers.proofs.Prelude.{_≡_, refl, sym, ap, _∙_, Bool, true, false, cond, List, [], _∷_, ℕ, zero, suc, _+_, _-_, _≤_, _<_, max, arith, decLt}
 use Rattle.integers.proofs.Prelude.{leb-true, le-leb, leb, length, getD, take, drop, drop-of-length-le, List·getD-eq-default, length-take-le, drop-drop}
-use Rattle.integers.proofs.Prelude.{drop-cons, getD-take, getD-drop}
+use Rattle.integers.proofs.Prelude.{length-drop, drop-cons, getD-take, getD-drop}
 use native.Mathlib.Nat.{add-zero}
 use Rattle.lists.specs.Entries.{every}
-use Rattle.lists.proofs.Entries.{every-at}
+use Rattle.lists.proofs.Entries.{every-at, every-in}
 use Rattle.lists.proofs.Tests.{and-left, and-right}
 use Rattle.model.specs.Limits.{mostNumber}
 use Rattle.model.specs.Alist.{separator, further, ended, numbersOf, largest}
@@ -87,6 +87,18 @@ pub small-next : (n : ℕ) (l : List ℕ) → Small n l → getD l n none ≤ mo
 small-next n l h k =
     let i : n < length l = there l n (omega arith) in
     record { long = omega arith; small = every-more small l n none i (h .small) (le-leb (getD l n none) mostNumber k) }
+
+pub small-part : (a b n : ℕ) (l : List ℕ) → a + b ≤ n → Small n l → Small b (drop a l)
+small-part a b n l h s =
+    let long : b ≤ length (drop a l) = omega (arith, length-drop a l, s .long) in
+    record {
+      long = long;
+      small = every-in small (take b (drop a l)) 0
+          (λ i k.
+          let j : i < b = omega (arith, length-take-le b (drop a l) long) in
+          le-leb (getD (take b (drop a l)) i 0) mostNumber
+          (rw (getD-take b (drop a l) i 0 j, getD-drop a l i 0) (small-at n l (a + i) 0 s (omega arith))));
+    }
 
 -- ---- the largest
 pub largest-next : (l : List ℕ) (i d : ℕ) → i < length l → largest (take (suc i) l) ≡ max (largest (take i l)) (getD l i d)
