@@ -1,7 +1,7 @@
 -- Lists of counters, and how often numbers name a place of a window. Assumes nothing.
-use Rattle.integers.proofs.Prelude.{_≡_, refl, sym, ap, _∙_, Bool, true, false, cond, _&&_, List, [], _∷_, _++_, ℕ, zero, suc, _+_, _-_, _*_, _/_, _%_, _≤_}
+use Rattle.integers.proofs.Prelude.{_≡_, refl, sym, ap, ap₂, _∙_, Bool, true, false, cond, _&&_, List, [], _∷_, _++_, ℕ, zero, suc, _+_, _-_, _*_, _/_, _%_, _≤_}
 use Rattle.integers.proofs.Prelude.{_<_, arith, decLt, eqb, eqb-true, eqb-false, eq-eqb, ne-eqb, length, getD, take, drop, set, length-set, length-take-le}
-use Rattle.integers.proofs.Prelude.{List·getD-eq-default, take-append-drop, take-suc, take-take}
+use Rattle.integers.proofs.Prelude.{List·getD-eq-default, take-append-drop, take-suc, take-take, take-add, drop-drop}
 use mathlib.Core.Logic.{_≢_}
 use native.Mathlib.Nat.{add-zero, mul-le-mul-right, div-add-mod', mod-lt, div-lt-iff-lt-mul}
 use lib.Arith.{digits-div, digits-mod}
@@ -10,8 +10,9 @@ use lib.Seq.{take-nil, drop-nil, getD-set-same, getD-set-other}
 use Rattle.lists.specs.Entries.{total}
 use Rattle.model.specs.Causes.{_if_}
 use Rattle.model.specs.Alist.{times}
+use Rattle.numbers.specs.Walked.{from, Filled}
 use Rattle.places.specs.declared.Window.{Window}
-use Rattle.places.specs.Counters.{listAt, namedIn, inRows, inColumns, More, sum, Room}
+use Rattle.places.specs.Counters.{listAt, namedIn, inRows, inColumns, More, Above, sum, Room}
 
 -- ---- sums
 pub sum-set : (l : List ℕ) (i x : ℕ) → i < length l → sum (set l i x) + getD l i 0 ≡ sum l + x
@@ -31,6 +32,15 @@ sum-none (y ∷ l) h = omega (arith, h 0 (omega arith), sum-none l (λ i k. h (s
 pub sum-zeros : (l : List ℕ) → sum l ≡ 0 → l ≡ replicate (length l) 0
 sum-zeros [] h = refl
 sum-zeros (y ∷ l) h = let z : y ≡ 0 = omega arith in rw z (ap (_∷_ 0) (sum-zeros l (omega arith)))
+
+pub zeros-sum : (n : ℕ) → sum (replicate n 0) ≡ 0
+zeros-sum zero = refl
+zeros-sum (suc n) = omega (arith, zeros-sum n)
+
+pub zeros-at : (n p : ℕ) → _≡_ {A = ℕ} (getD (replicate n 0) p 0) 0
+zeros-at zero p = refl
+zeros-at (suc n) zero = refl
+zeros-at (suc n) (suc p) = zeros-at n p
 
 -- ---- counters that are more
 module _ (l : List ℕ) (i : ℕ) where
@@ -130,6 +140,10 @@ module _ (most a x : ℕ) where
           let g : a * most + most - suc q ≡ 0 = omega arith in
           rw (f, drop-nil {A = ℕ} (a * most - q)) (other (λ p. omega (arith, ap (λ (n : ℕ). n * most) p, div-add-mod' q most, mod-lt q h)) ∙ ih ∙ rw (g, drop-nil {A = ℕ} (a * most - suc q)))
 
+pub some-each : (a b : ℕ) {n : ℕ} → n < a * b → 1 ≤ b
+some-each a zero h = absurd (omega arith)
+some-each a (suc b) h = omega arith
+
 -- of all numbers of n lists
 drop-take : (b m : ℕ) (l : List ℕ) → drop b (take (b + m) l) ≡ take m (drop b l)
 drop-take zero m l = let e : zero + m ≡ m = omega arith in rw e
@@ -217,3 +231,48 @@ room-next w most q values l m r h p = by (decLt p (length l))
     by : Dec (p < length l) → getD m p 0 ≤ q + length values - p / w .width * most
     by (yes k) = omega (arith, r p, h .each p k, named-most most (p / w .width) (suc (w .left + p % w .width)) q values)
     by (no k) = let e : getD m p 0 ≡ 0 = List·getD-eq-default m 0 {n = p} (omega (arith, h .long)) in omega arith
+
+pub room-rows : (w : Window) (most q : ℕ) (l old now : List ℕ) → old ≡ replicate (length old) 0 → q ≤ length l → More (inRows w most 0 (take q l)) old now
+    → Room w most q now
+room-rows w most q l old now z h m p =
+    let none : Room w most 0 old = λ p. omega (arith, ap (λ (k : List ℕ). getD k p 0) z ∙ zeros-at (length old) p) in
+    omega (arith, room-next w most 0 (take q l) old now none m p, length-take-le q l h)
+
+-- ---- block by block: the numbers from `done` on of l
+module _ (most done size : ℕ) (l : List ℕ) (h : done + size ≤ length l) where
+  named-block : (a x : ℕ) → namedIn most a x 0 (take (done + size) l) ≡ namedIn most a x 0 (take done l) + namedIn most a x done (take size (drop done l))
+  named-block a x =
+      let e : 0 + length (take done l) ≡ done = omega (arith, length-take-le done l (omega arith)) in
+      ap (namedIn most a x 0) (take-add done size l) ∙ named-append most a x 0 (take done l) (take size (drop done l))
+      ∙ ap (λ (n : ℕ). namedIn most a x 0 (take done l) + namedIn most a x n (take size (drop done l))) e
+
+  -- a block that was read
+  pub block-read : {s : List ℕ} {at end : ℕ} {values : List ℕ} → from s at ≡ drop done l → length values ≡ size → Filled s at values end
+      → (values ≡ take size (drop done l)) × (from s end ≡ drop (done + size) l)
+  block-read {values = values} e g f = (
+    f .list ∙ ap₂ (λ (n : ℕ) (k : List ℕ). take n k) g e,
+    f .rest ∙ ap₂ (λ (n : ℕ) (k : List ℕ). drop n k) g e ∙ drop-drop size done l,
+  )
+
+  module _ (w : Window) (values old now : List ℕ) (e : values ≡ take size (drop done l)) where
+    pub up-block : (next : List ℕ) → More (inRows w most 0 (take done l)) old now → More (inRows w most done values) now next
+        → More (inRows w most 0 (take (done + size) l)) old next
+    up-block next m n =
+        more-then (inRows w most 0 (take done l)) (inRows w most done values) (inRows w most 0 (take (done + size) l)) m n
+        (λ p k. rw e (named-block (p / w .width) (suc (w .left + p % w .width))))
+
+    column-block : (p : ℕ) → inColumns w most 0 (take (done + size) l) p ≡ inColumns w most done values p + inColumns w most 0 (take done l) p
+    column-block p = rw e (omega (arith, named-block (p % w .width) (suc (w .top + p / w .width))))
+
+    pub down-block : (next : List ℕ) → More (inColumns w most 0 (take done l)) now old → More (inColumns w most done values) next now
+        → More (inColumns w most 0 (take (done + size) l)) next old
+    down-block next m n =
+        more-then (inColumns w most done values) (inColumns w most 0 (take done l)) (inColumns w most 0 (take (done + size) l)) n m (λ p k. column-block p)
+
+    -- where a block would take too many, all together do
+    pub above-block : (total : ℕ) → done + size ≤ total → More (inColumns w most 0 (take done l)) now old → Above (inColumns w most done values) now
+        → Above (inColumns w most 0 (take total l)) old
+    above-block total k m (p, j, n) =
+        let part : namedIn most (p % w .width) (suc (w .top + p / w .width)) 0 (take (done + size) l) ≤ inColumns w most 0 (take total l) p
+        = rw (← take-take (done + size) total l k) (named-part most (p % w .width) (suc (w .top + p / w .width)) 0 (done + size) (take total l)) in
+        (p, omega (arith, m .long), omega (arith, m .each p j, column-block p, part))
