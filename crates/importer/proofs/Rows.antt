@@ -1,15 +1,15 @@
 -- The rows of a side, one after another: a loop over them keeps `Walk`, the place of the next degree and of the next list. Assumes nothing.
-use Rattle.integers.proofs.Prelude.{_≡_, refl, sym, ap, _∙_, true, List, [], _∷_, ℕ, zero, suc, _+_, _*_, _≤_, _<_, arith, add-one, decLt, le-leb, ltb, length}
-use Rattle.integers.proofs.Prelude.{getD, take, drop, length-take, length-map, length-drop, drop-drop, length-take-le, take-take, getD-take, getD-drop}
+use Rattle.integers.proofs.Prelude.{_≡_, refl, sym, ap, _∙_, true, List, [], _∷_, ℕ, zero, suc, _+_, _*_, _≤_, _<_, arith, add-one, decLt, ltb, length}
+use Rattle.integers.proofs.Prelude.{getD, take, drop, length-take, length-map, drop-drop, length-take-le, take-take, getD-take}
 use native.Mathlib.Nat.{mul-le-mul-right}
 use lib.ListN.{List·getD-map}
 use Rattle.lists.specs.Entries.{every}
-use Rattle.lists.proofs.Entries.{every-at, every-in}
+use Rattle.lists.proofs.Entries.{every-at}
 use Rattle.model.specs.Limits.{mostNumber}
 use Rattle.model.specs.Alist.{pieces, listed}
 use Rattle.numbers.specs.declared.Side.{Side}
 use Rattle.numbers.specs.Walked.{from, none, Next, Small, Scanned}
-use Rattle.numbers.proofs.Walk.{next-at, same-at, small, small-at}
+use Rattle.numbers.proofs.Walk.{next-at, same-at, small-part}
 use Rattle.importer.specs.Rows.{namedIn, Sided, lowered, Indexed, bitsAt, checksOf}
 
 -- list j of so many
@@ -21,16 +21,6 @@ listed-at (suc count) size (d ∷ ds) l zero h k = let z : 0 * size ≡ 0 = omeg
 listed-at (suc count) size (d ∷ ds) l (suc j) h k =
     let e : size + j * size ≡ suc j * size = omega arith in
     listed-at count size ds (drop size l) j (omega arith) (omega arith) ∙ rw (drop-drop (j * size) size l, e)
-
--- so many of several numbers
-small-part : (a b n : ℕ) (l : List ℕ) → Small n l → a + b ≤ n → Small b (drop a l)
-small-part a b n l h k = record {
-  long = omega (arith, h .long, length-drop a l);
-  small = every-in small (take b (drop a l)) 0 (λ i m.
-      let below : i < b = omega (arith, length-take b (drop a l)) in
-      let same = getD-take b (drop a l) i 0 below ∙ getD-drop a l i 0 in
-      le-leb (getD (take b (drop a l)) i 0) mostNumber (omega (arith, small-at n l (a + i) 0 h (omega arith))));
-}
 
 -- ---- a walk: j rows were passed, the next degree stands at `degrees` and the next list at `at`
 pub record Walk (s : List ℕ) (side : Side) (j degrees at : ℕ) : Type 0 where
@@ -97,7 +87,7 @@ module _ {s : List ℕ} {side : Side} (h : Sided s side) where
       pub walk-indexed : Indexed s at value
       walk-indexed = rw value-is (record {
         within = w .lists-within;
-        small = rw (w .lists-at) (small-part (j * side .most) degree (side .count * side .most) l (h .numbers) (omega (arith, room, degree-most)));
+        small = rw (w .lists-at) (small-part (j * side .most) degree (side .count * side .most) l (omega (arith, room, degree-most)) (h .numbers));
         above = rw (w .lists-at) above;
       })
 
@@ -108,7 +98,7 @@ module _ {s : List ℕ} {side : Side} (h : Sided s side) where
       pub walk-next : {most last : ℕ} → Scanned s at (side .most) most last → Walk s side (j + 1) end last
       walk-next {most} {last} scan =
           let m : j * side .most + side .most ≡ (j + 1) * side .most = omega arith in
-          let part = small-part (j * side .most) (side .most) (side .count * side .most) l (h .numbers) room in
+          let part = small-part (j * side .most) (side .most) (side .count * side .most) l room (h .numbers) in
           let small-most : most ≤ mostNumber = by (decLt mostNumber most) (rw (w .lists-at) part) in
           record {
             degrees-at = next-at ds j (w .degrees-at) next .1 ∙ rw (add-one j);
