@@ -28,7 +28,7 @@ module _ (ds es : List ℕ) (cs rs : List (List ℕ)) (p : allFilled ds cs ≡ t
           sym (agree-not (listed ds cs) (listed es rs) (λ h.
           subst T (sym (agreement cs rs .1 (λ r c. sym (times-listed c es rs q r) ∙ h r c ∙ times-listed r ds cs p c)) ∙ e) tt))
 
--- ---- one side: count degrees in ds, as many lists of at most `most` numbers in l
+-- ---- one side: count degrees in ds, as many lists of `most` numbers in l
 record Listed (count most : ℕ) (ds l : List ℕ) : Type 0 where
   small-count : count ≤ mostNumber
   small-most : most ≤ mostNumber

@@ -64,6 +64,7 @@ fn judge_row(text: &[u8], at: usize, degree: usize, bits: usize) -> Judgement
     }
 }
 
+// A cause alone.
 fn refused(cause: u32) -> Judgement
     ensures { λ r. ⌜ r .cause ≡ cause ⌝ }
 {
