@@ -10,7 +10,7 @@ use Rattle.numbers.specs.declared.Side.{Side}
 use Rattle.numbers.specs.Walked.{Small}
 use Rattle.numbers.proofs.Walk.{small-at}
 use Rattle.alist.specs.declared.Form.{Form}
-use Rattle.alist.specs.Form.{Stands, Formed}
+use Rattle.alist.specs.Form.{filledLists, Stands, Formed}
 use Rattle.alist.proofs.Parts.{parts-of, lists-say}
 use Rattle.places.specs.Held.{Held, listsOf}
 use Rattle.importer.specs.Rows.{namedIn, Sided, lowered, codeOfRows}
@@ -33,16 +33,18 @@ record Listed (count most : ℕ) (ds l : List ℕ) : Type 0 where
   small-count : count ≤ mostNumber
   small-most : most ≤ mostNumber
   degrees : Small count ds
-  numbers : Small (count * most) l
-  filled : allFilled (take count ds) (pieces count most l) ≡ true
+  lists : filledLists count most ds l ≡ true
   lengths : map length (listed (take count ds) (pieces count most l)) ≡ take count ds
   indices : every (every (ltb 0)) (listed (take count ds) (pieces count most l)) ≡ true
 
 module _ {s : List ℕ} {side : Side} {count most : ℕ} {ds l : List ℕ} (at : Stands s side count most ds l) (h : Listed count most ds l) where
+  side-numbers : Small (count * most) l × (allFilled (take count ds) (pieces count most l) ≡ true)
+  side-numbers = lists-say count most ds l (h .degrees .long) (h .lists)
+
   side-held : Held s side
   side-held = record {
     within = at .lists-within;
-    numbers = rw (at .count-is, at .most-is, at .lists-at) (h .numbers);
+    numbers = rw (at .count-is, at .most-is, at .lists-at) (side-numbers .0);
     count = rw (at .count-is) (h .small-count);
     most = rw (at .most-is) (h .small-most);
   }
@@ -58,7 +60,7 @@ module _ {s : List ℕ} {side : Side} {count most : ℕ} {ds l : List ℕ} (at :
     degrees-within = at .degrees-within;
     lists-within = at .lists-within;
     degrees = rw (at .count-is, at .degrees-at) (h .degrees);
-    numbers = rw (at .count-is, at .most-is, at .lists-at) (h .numbers);
+    numbers = rw (at .count-is, at .most-is, at .lists-at) (side-numbers .0);
     lengths = rw (at .count-is, at .most-is, at .degrees-at, at .lists-at) (h .lengths);
     indices = rw (at .count-is, at .most-is, at .degrees-at, at .lists-at) (h .indices);
   }
@@ -69,13 +71,11 @@ module _ (l : List ℕ) (sound : wellFormed l ≡ true) where
   columns-listed =
       let p = parts-of l sound in
       let f = parts.form-back l sound in
-      let lists = lists-say (getD l 0 0) (getD l 2 0) (columnDegrees l) (columnLists l) (p .column-degrees .long) (p .column-lists) in
       record {
         small-count = small-at 4 l 0 0 (p .sizes) (omega arith);
         small-most = small-at 4 l 2 0 (p .sizes) (omega arith);
         degrees = p .column-degrees;
-        numbers = lists .0;
-        filled = lists .1;
+        lists = p .column-lists;
         lengths = f .column-degrees;
         indices = f .column-indices;
       }
@@ -84,13 +84,11 @@ module _ (l : List ℕ) (sound : wellFormed l ≡ true) where
   rows-listed =
       let p = parts-of l sound in
       let f = parts.form-back l sound in
-      let lists = lists-say (getD l 1 0) (getD l 3 0) (rowDegrees l) (rowLists l) (p .row-degrees .long) (p .row-lists) in
       record {
         small-count = small-at 4 l 1 0 (p .sizes) (omega arith);
         small-most = small-at 4 l 3 0 (p .sizes) (omega arith);
         degrees = p .row-degrees;
-        numbers = lists .0;
-        filled = lists .1;
+        lists = p .row-lists;
         lengths = f .row-degrees;
         indices = f .row-indices;
       }
@@ -126,7 +124,8 @@ module _ {s : List ℕ} {f : Form} (told : Formed s f) (fine : f .sound ≡ true
       let c = columns-listed l formed in
       let r = rows-listed l formed in
       ap₂ agree (side-lists (told .columns fine) c) (side-lists (told .rows fine) r)
-      ∙ agree-listed (columns l .degrees) (rows l .degrees) (columns l .lists) (rows l .lists) (c .filled) (r .filled)
+      ∙ agree-listed (columns l .degrees) (rows l .degrees) (columns l .lists) (rows l .lists) (side-numbers (told .columns fine) c .1)
+      (side-numbers (told .rows fine) r .1)
 
   -- the code
   pub code-is : codeOfRows s (f .columns .count) (f .rows) ≡ codeOfText s
