@@ -41,7 +41,7 @@ says-list (suc d) (suc most) (x ∷ l) s h =
     rw (and-left (small x) (every small (take most l)) front, and-left (ltb 0 x) (filled d (take most l)) h) more
 
 -- ---- the lists of a side, one for each degree
-lists-say : (count most : ℕ) (ds l : List ℕ) → count ≤ length ds → filledLists count most ds l ≡ true
+pub lists-say : (count most : ℕ) (ds l : List ℕ) → count ≤ length ds → filledLists count most ds l ≡ true
     → Small (count * most) l × (allFilled (take count ds) (pieces count most l) ≡ true)
 unfolding filledLists
 lists-say zero most ds l k h = let z : 0 * most ≡ 0 = omega arith in (rw z (small-none l), refl)

@@ -2,6 +2,6 @@
 --
 --   the number at a place that stands after j numbers, and the place after it: next-at; whether it is there: there, same-at  Walk
 --   so many numbers of at most 65,535: small-none, small-next, small-cons, small-at; with what is behind them: small-join, small-front,
---   small-behind, small-all                                                                                              Walk
+--   small-behind, small-part, small-all                                                                                  Walk
 pub mod Walk
 pub mod Fill

@@ -4,7 +4,7 @@ use Rattle.integers.proofs.Prelude.{leb-true, le-leb, leb, length, getD, take, 
 use Rattle.integers.proofs.Prelude.{drop-cons, getD-take, getD-drop, length-drop, take-append-drop, take-add}
 use native.Mathlib.Nat.{add-zero}
 use Rattle.lists.specs.Entries.{every}
-use Rattle.lists.proofs.Entries.{every-at, every-append}
+use Rattle.lists.proofs.Entries.{every-at, every-in, every-append}
 use Rattle.lists.proofs.Tests.{and-left, and-right}
 use Rattle.model.specs.Limits.{mostNumber}
 use Rattle.model.specs.Alist.{separator, further, ended, numbersOf, largest}
@@ -118,6 +118,19 @@ small-behind a l e = and-right (every small (take a l)) (every small (drop a l))
 -- and back
 pub small-all : (a : ℕ) (l : List ℕ) → Small a l → every small (drop a l) ≡ true → (every small l ≡ true) × (length l ≡ a + length (drop a l))
 small-all a l h e = (every-parts a l ∙ rw (h .small) e, omega (arith, h .long, length-drop a l))
+
+-- so many of them, behind so many
+pub small-part : (a b n : ℕ) (l : List ℕ) → a + b ≤ n → Small n l → Small b (drop a l)
+small-part a b n l h s =
+    let long : b ≤ length (drop a l) = omega (arith, length-drop a l, s .long) in
+    record {
+      long = long;
+      small = every-in small (take b (drop a l)) 0
+          (λ i k.
+          let j : i < b = omega (arith, length-take-le b (drop a l) long) in
+          le-leb (getD (take b (drop a l)) i 0) mostNumber
+          (rw (getD-take b (drop a l) i 0 j, getD-drop a l i 0) (small-at n l (a + i) 0 s (omega arith))));
+    }
 
 -- ---- the largest
 pub largest-next : (l : List ℕ) (i d : ℕ) → i < length l → largest (take (suc i) l) ≡ max (largest (take i l)) (getD l i d)

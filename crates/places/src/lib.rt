@@ -1,8 +1,14 @@
 // Cause 19 of an alist text (document 02, L1): whether columns and rows name the same places, each equally often. No list is kept: a window of rows by columns has a
 // counter for each of its places; the rows count up, the columns count down, and the window agrees where no counter would fall below 0 and all end at 0.
 ghost use mathlib.Core.Path.{_≡_};
+ghost use mathlib.Core.Bool.{true, false};
+ghost use Prim.Native.Nat.{ℕ, _+_, _*_, _^_, _≤_, _<_, min};
+ghost use lib.ListN.{length, getD, take, drop, replicate};
+ghost use Rattle.model.specs.Limits.{mostNumber};
 ghost use Rattle.model.specs.Alist.{agree};
+ghost use Rattle.numbers.specs.Walked.{from, Small};
 ghost use Rattle.places.specs.Held.{Held, listsOf};
+ghost use Rattle.places.specs.Counters.{mostCounters, Agrees, Tells, inRows, inColumns, More, Above, sum, Room, Inside, Block};
 use numbers::Side;
 
 // So many counters a window can have.
@@ -19,17 +25,16 @@ struct Window {
     width: usize,
 }
 
-// Whether no counter would have fallen below 0, how many indices are counted up and not down again, and where the text goes on.
-struct Walk {
-    fine: bool,
-    open: usize,
-    end: usize,
-}
-
-// The first two of these.
+// Whether no counter would have fallen below 0, and how many indices are counted up and not down again.
 struct Count {
     fine: bool,
-    open: usize,
+    left: usize,
+}
+
+// Whether all counters are 0, and where the text goes on.
+struct Walk {
+    fine: bool,
+    end: usize,
 }
 
 // Counts up the indices of the rows in the window's columns: `values` are numbers of its rows, from the `first` on. How many there are.
@@ -39,7 +44,11 @@ fn count_up(
     most: usize,
     window: Window,
     counters: &mut [u16],
-) -> usize {
+) -> usize
+    requires { ⌜ Inside window (length (now counters)) × Block most first (length (now values)) (window .height) × Room window most first (now counters) ⌝ }
+    ensures { λ r. ⌜ More (inRows window most first (now (values .entry))) (now (counters .entry)) (now (counters .exit))
+        × (sum (now (counters .exit)) ≡ sum (now (counters .entry)) + r) × (r ≤ length (now (values .entry))) ⌝ }
+{
     let left = window.left;
     let width = window.width;
     let mut row = first / most * width;
@@ -60,8 +69,13 @@ fn count_up(
     open
 }
 
-// Counts the rows of a window up: `most` numbers of each, from `at` on.
-fn rows_up(text: &[u8], at: usize, most: usize, window: Window, counters: &mut [u16]) -> Walk {
+// Counts the rows of a window up: `most` numbers of each, from `at` on. How many indices are in its columns.
+fn rows_up(text: &[u8], at: usize, most: usize, window: Window, counters: &mut [u16]) -> usize
+    requires { ⌜ (at ≤ length (now text)) × Small (window .height * most) (from (now text) at) × (most ≤ mostNumber) ⌝ }
+    requires { ⌜ Inside window (length (now counters)) × (now counters ≡ replicate (length (now counters)) 0) ⌝ }
+    ensures { λ r. ⌜ More (inRows window most 0 (take (window .height * most) (from (now (text .entry)) at))) (now (counters .entry)) (now (counters .exit))
+        × (sum (now (counters .exit)) ≡ r) ⌝ }
+{
     let total = window.height * most;
     let mut values = [0u16; BLOCK];
     let mut open = 0usize;
@@ -73,11 +87,7 @@ fn rows_up(text: &[u8], at: usize, most: usize, window: Window, counters: &mut [
         open += count_up(&values[..size], done, most, window, counters);
         done += size;
     }
-    Walk {
-        fine: true,
-        open,
-        end,
-    }
+    open
 }
 
 // Counts down the indices of the columns in the window's rows: `values` are numbers of its columns, from the `first` on.
@@ -86,24 +96,26 @@ fn count_down(
     first: usize,
     most: usize,
     window: Window,
-    open: usize,
+    count: usize,
     counters: &mut [u16],
-) -> Count {
+) -> Count
+    requires { ⌜ Inside window (length (now counters)) × Block most first (length (now values)) (window .width) × (count ≡ sum (now counters)) ⌝ }
+    ensures { λ r. ⌜ (r .fine ≡ true → More (inColumns window most first (now (values .entry))) (now (counters .exit)) (now (counters .entry))
+        × (r .left ≡ sum (now (counters .exit)))) ⌝ }
+    ensures { λ r. ⌜ (r .fine ≡ false → Above (inColumns window most first (now (values .entry))) (now (counters .entry))) ⌝ }
+{
     let top = window.top;
     let height = window.height;
     let width = window.width;
     let mut column = first / most;
     let mut i = first % most;
-    let mut left = open;
+    let mut left = count;
     for k in 0..values.len() {
         let value = slices::index(values[k]);
         if top < value && value <= top + height {
             let place = (value - top - 1) * width + column;
             if counters[place] == 0 {
-                return Count {
-                    fine: false,
-                    open: left,
-                };
+                return Count { fine: false, left };
             }
             counters[place] -= 1;
             left -= 1;
@@ -114,68 +126,75 @@ fn count_down(
             column += 1;
         }
     }
-    Count {
-        fine: true,
-        open: left,
-    }
+    Count { fine: true, left }
 }
 
-// Counts the columns of a window down.
+// Counts the columns of a window down: whether all counters end at 0.
 fn columns_down(
     text: &[u8],
     at: usize,
     most: usize,
     window: Window,
-    open: usize,
+    count: usize,
     counters: &mut [u16],
-) -> Walk {
+) -> Walk
+    requires { ⌜ (at ≤ length (now text)) × Small (window .width * most) (from (now text) at) × (most ≤ mostNumber) ⌝ }
+    requires { ⌜ Inside window (length (now counters)) × (count ≡ sum (now counters)) ⌝ }
+    ensures { λ r. ⌜ Tells (r .fine) ((p : ℕ) → p < length (now (counters .entry)) → getD (now (counters .entry)) p 0
+        ≡ inColumns window most 0 (take (window .width * most) (from (now (text .entry)) at)) p) ⌝ }
+    ensures { λ r. ⌜ (r .fine ≡ true → (now (counters .exit) ≡ replicate (length (now (counters .entry))) 0)
+        × (from (now (text .entry)) (r .end) ≡ drop (window .width * most) (from (now (text .entry)) at)) × (r .end ≤ length (now (text .entry)))) ⌝ }
+{
     let total = window.width * most;
     let mut values = [0u16; BLOCK];
-    let mut left = open;
+    let mut left = count;
     let mut end = at;
     let mut done = 0usize;
     while done < total {
         let size = least(BLOCK, total - done);
         end = numbers::read(text, end, &mut values[..size]);
         let counted = count_down(&values[..size], done, most, window, left, counters);
-        left = counted.open;
+        left = counted.left;
         if !counted.fine {
-            return Walk {
-                fine: false,
-                open: left,
-                end,
-            };
+            return Walk { fine: false, end };
         }
         done += size;
     }
     Walk {
         fine: left == 0,
-        open: left,
         end,
     }
 }
 
-fn least(x: usize, y: usize) -> usize {
+fn least(x: usize, y: usize) -> usize
+    ensures { λ r. ⌜ r ≡ min x y ⌝ }
+{
     if x < y { x } else { y }
 }
 
 // Whether columns and rows agree in the rows top .. top + height - 1, window by window.
 fn band(
     text: &[u8],
-    rows_at: usize,
-    row_most: usize,
+    at: usize,
+    most: usize,
     columns: Side,
     top: usize,
     height: usize,
     wide: usize,
     counters: &mut [u16],
-) -> bool {
-    let count = columns.count;
+) -> bool
+    requires { ⌜ (at ≤ length (now text)) × Small (height * most) (from (now text) at) × (most ≤ mostNumber) × Held (now text) columns ⌝ }
+    requires { ⌜ (top + height ≤ mostNumber) × (1 ≤ wide) × (height * wide ≤ mostCounters) × (now counters ≡ replicate mostCounters 0) ⌝ }
+    ensures { λ r. ⌜ Tells r (Agrees (record { top = top; height = height; left = 0; width = columns .count }) most (from (now (text .entry)) at)
+        (columns .most) (from (now (text .entry)) (columns .lists))) ⌝ }
+    ensures { λ r. ⌜ (r ≡ true → now (counters .exit) ≡ replicate mostCounters 0) ⌝ }
+{
+    let all = columns.count;
     let column_most = columns.most;
     let mut columns_at = columns.lists;
     let mut left = 0usize;
-    while left < count {
-        let width = least(wide, count - left);
+    while left < all {
+        let width = least(wide, all - left);
         let window = Window {
             top,
             height,
@@ -183,13 +202,13 @@ fn band(
             width,
         };
         let size = height * width;
-        let up = rows_up(text, rows_at, row_most, window, &mut counters[..size]);
+        let count = rows_up(text, at, most, window, &mut counters[..size]);
         let down = columns_down(
             text,
             columns_at,
             column_most,
             window,
-            up.open,
+            count,
             &mut counters[..size],
         );
         if !down.fine {
@@ -201,19 +220,33 @@ fn band(
     true
 }
 
-// How wide a window is best: rows are walked once for each window beside the first, columns once for each band of rows.
-fn window_width(columns: Side, rows: Side, row_bytes: usize, column_bytes: usize) -> usize {
-    let n = columns.count;
-    let m = rows.count;
+// The bytes of a part of a text, in parts of so many that there are at most 2^24.
+fn bytes(at: usize, end: usize, length: usize) -> usize
+    requires { ⌜ end ≤ length ⌝ }
+    ensures { λ r. ⌜ r ≤ 2 ^ 24 ⌝ }
+{
+    let scale = length / 16777216 + 1;
+    if at < end { (end - at) / scale } else { 0 }
+}
+
+// How wide a window is best: rows are walked once for each window of a band, columns once for each band. `rows` are the bytes of the rows for each column, `columns`
+// those of the columns for each row.
+fn window_width(rows: usize, columns: usize) -> usize
+    ensures { λ r. ⌜ (1 ≤ r) × (r ≤ mostCounters) ⌝ }
+{
     let mut width = 1usize;
-    while width < COUNTERS && (column_bytes * m) / (COUNTERS / width) < (row_bytes * n) / width {
+    while 2 * width <= COUNTERS && columns / (COUNTERS / width) < rows / width {
         width *= 2;
     }
     width
 }
 
 // Whether columns and rows agree in all windows.
-fn windows_agree(text: &[u8], columns: Side, rows: Side, wide: usize) -> bool {
+fn windows_agree(text: &[u8], columns: Side, rows: Side, wide: usize) -> bool
+    requires { ⌜ Held (now text) columns × Held (now text) rows × (1 ≤ wide) × (wide ≤ mostCounters) ⌝ }
+    ensures { λ r. ⌜ Tells r (Agrees (record { top = 0; height = rows .count; left = 0; width = columns .count }) (rows .most) (from (now (text .entry)) (rows .lists))
+        (columns .most) (from (now (text .entry)) (columns .lists))) ⌝ }
+{
     let mut counters = [0u16; COUNTERS];
     let high = COUNTERS / wide;
     let count = rows.count;
@@ -242,12 +275,8 @@ pub fn agree(text: &[u8], columns: Side, rows: Side) -> bool
     if rows.count < in_columns.largest || columns.count < in_rows.largest {
         return false;
     }
-    let scale = text.len() / 16777216 + 1;
-    let width = window_width(
-        columns,
-        rows,
-        (in_rows.end - rows.lists) / scale,
-        (in_columns.end - columns.lists) / scale,
-    );
+    let row_bytes = bytes(rows.lists, in_rows.end, text.len());
+    let column_bytes = bytes(columns.lists, in_columns.end, text.len());
+    let width = window_width(row_bytes * columns.count, column_bytes * rows.count);
     windows_agree(text, columns, rows, width)
 }

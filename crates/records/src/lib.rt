@@ -15,7 +15,8 @@ use model::MOST_DEGREE;
 use model::MOST_TRIPLES;
 use model::Reading;
 
-fn outside(low: usize, high: usize, x: usize) -> bool
+// Whether x is outside low..high.
+pub fn outside(low: usize, high: usize, x: usize) -> bool
     ensures { λ r. ⌜ r ≡ outside low high x ⌝ }
 {
     x < low || high < x

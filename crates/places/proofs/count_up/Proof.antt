@@ -1,0 +1,121 @@
+-- `places::count_up` meets its contract: k numbers of the block are counted. Assumes nothing.
+use Rattle.integers.proofs.Prelude.{_≡_, refl, sym, ap, _∙_, List, ℕ, _+_, _-_, _*_, _/_, _%_, _≤_, _<_, arith, needs, leb-true, leb-false, length, getD, take, set, take-all}
+use mathlib.Core.Logic.{⊎-elim}
+use native.Mathlib.Nat.{add-zero, mod-lt}
+use Rattle.model.specs.Limits.{mostNumber}
+use Rattle.places.specs.Counters.{inRows, More, sum}
+use Rattle.places.proofs.Counters.{sum-set, more-none}
+use Rattle.places.proofs.Counting.{row-start, list-goes-on, list-ends, row-fits, up-in, up-out, up-fits}
+use Rattle.places.proofs.count_up.Statement.{statement}
+use Rattle.places.proofs.count_up.Tie as tie
+
+abbrev Inv-loop : tie.InvT-loop
+Inv-loop values first most counters₀ left width row₀ i₀ open₀ k₀ k-end counters row i «open» k =
+    More (inRows (record { top = 0; height = 0; left = left; width = width }) most first (take k values)) counters₀ counters
+    × (sum counters ≡ sum counters₀ + «open») × («open» ≤ k) × (row ≡ (first + k) / most * width) × (i ≡ (first + k) % most) × (k ≤ k-end)
+
+abbrev μ-loop : tie.MeasureT-loop
+μ-loop values first most counters₀ left width row₀ i₀ open₀ k₀ k-end counters row i «open» k = k-end - k
+
+mul-row : tie.Need-mul-row Inv-loop μ-loop
+mul-row c = let a = c .before .before .args in let p = c .before .before .pre in omega (arith, row-start (a .window) (length (a .counters .now)) (a .most) (a .first) (length (a .values .now)) (p .0) (p .1))
+
+loop-holds : tie.Need-loop-holds Inv-loop μ-loop
+loop-holds c =
+    let a = c .before .before .args in
+    let e : a .first ≡ a .first + 0 = sym (add-zero (a .first)) in (
+      more-none _ _ (λ p h. refl),
+      omega arith,
+      omega arith,
+      ap (λ (n : ℕ). n / a .most * a .window .width) e,
+      ap (λ (n : ℕ). n % a .most) e,
+      omega arith,
+    )
+
+-- the number at hand
+module _ (x : tie.After-index Inv-loop μ-loop) where
+  abbrev turn : tie.At-loop Inv-loop μ-loop
+  turn = x .before .before .before
+
+  abbrev start : tie.Start Inv-loop μ-loop
+  start = turn .before .before .before
+
+  abbrev place : ℕ
+  place = turn .loop .row + (x .index .result - start .args .window .left - 1)
+
+  in-list : turn .loop .i < mostNumber
+  in-list = omega (arith, turn .loop .inv .4, mod-lt (start .args .first + turn .loop .k) (start .pre .1 .some), start .pre .1 .small)
+
+  -- the counters of its row
+  fits : turn .loop .row + start .args .window .width ≤ length (turn .loop .counters)
+  fits =
+      let a = start .args in
+      let p = start .pre in
+      row-fits (a .window) (a .most) (a .first) (a .values .now) (a .counters .now) (turn .loop .counters) (turn .loop .k) (x .index .result) (p .0)
+      (x .before .before .loop-test .taken) (x .index .ensures .0) (p .1) (turn .loop .row) (turn .loop .inv .3) (turn .loop .inv .0)
+
+  room : start .args .window .left < x .index .result → x .index .result ≤ start .args .window .left + start .args .window .width
+      → getD (turn .loop .counters) place 0 < mostNumber
+  room l r =
+      let a = start .args in
+      let p = start .pre in
+      up-fits (a .window) (a .most) (a .first) (a .values .now) (a .counters .now) (turn .loop .counters) (turn .loop .k) (x .index .result) (p .0)
+      (x .before .before .loop-test .taken) (x .index .ensures .0) (p .1) (turn .loop .row) (turn .loop .inv .3) (turn .loop .inv .0) (p .2) l r
+
+  abbrev Next : List ℕ → ℕ → Type 0
+  Next counters n =
+      More (inRows (start .args .window) (start .args .most) (start .args .first) (take (turn .loop .k + 1) (start .args .values .now))) (start .args .counters .now) counters
+      × (sum counters ≡ sum (start .args .counters .now) + n) × (n ≤ turn .loop .k + 1)
+
+  counted : start .args .window .left < x .index .result → x .index .result ≤ start .args .window .left + start .args .window .width
+      → Next (set (turn .loop .counters) place (getD (turn .loop .counters) place 0 + 1)) (turn .loop .«open» + 1)
+  counted l r =
+      let a = start .args in
+      let p = start .pre in (
+        up-in (a .window) (a .most) (a .first) (a .values .now) (a .counters .now) (turn .loop .counters) (turn .loop .k) (x .index .result) (p .0)
+            (x .before .before .loop-test .taken) (x .index .ensures .0) (p .1) (turn .loop .row) (turn .loop .inv .3) (turn .loop .inv .0) l r,
+        omega (arith, sum-set (turn .loop .counters) place (getD (turn .loop .counters) place 0 + 1) (omega (arith, fits)), turn .loop .inv .1),
+        omega (arith, turn .loop .inv .2),
+      )
+
+  passed : (start .args .window .left < x .index .result → x .index .result ≤ start .args .window .left + start .args .window .width → ⊥)
+      → Next (turn .loop .counters) (turn .loop .«open»)
+  passed n =
+      let a = start .args in
+      let p = start .pre in (
+        up-out (a .window) (a .most) (a .first) (a .values .now) (a .counters .now) (turn .loop .counters) (turn .loop .k) (x .index .result) (p .0)
+            (x .before .before .loop-test .taken) (x .index .ensures .0) (p .1) (turn .loop .row) (turn .loop .inv .3) (turn .loop .inv .0) n,
+        turn .loop .inv .1,
+        omega (arith, turn .loop .inv .2),
+      )
+
+loop-again : tie.Need-loop-again Inv-loop μ-loop
+loop-again c =
+    let j = c .before in
+    let x = j .before in
+    let n : Next x (j .if1 .counters) (j .if1 .«open»)
+    = ⊎-elim (λ w. rw (w .3, w .4) (counted x (w .0 .taken) (leb-true _ _ (w .1 .taken))))
+    (λ w. rw (w .1, w .2) (passed x (⊎-elim (λ v l r. omega (arith, leb-false, v .1)) (λ v l r. omega (arith, v .left)) (w .0 .came)))) (j .if1 .came) in
+    let l = turn x .loop in
+    let a = start x .args in
+    let g : (c .if3 .row ≡ (a .first + (l .k + 1)) / a .most * a .window .width) × (c .if3 .i ≡ (a .first + (l .k + 1)) % a .most)
+    = ⊎-elim (λ w. rw (w .1, w .2) (list-ends (a .first) (l .k) (a .window .width) (start x .pre .1 .some) (l .inv .3) (l .inv .4) (w .0 .taken)))
+    (λ w. rw (w .1, w .2) (list-goes-on (a .first) (l .k) (a .window .width) (start x .pre .1 .some) (l .inv .3) (l .inv .4) (w .0 .left))) (c .if3 .came) in
+    (n .0, n .1, n .2, g .0, g .1, omega arith)
+
+returns : tie.Need-returns Inv-loop μ-loop
+returns c =
+    let l = c .before .loop in
+    let a = c .before .before .before .before .args in
+    let e : take (l .k) (a .values .now) ≡ a .values .now = take-all (l .k) (a .values .now) (c .loop-test .left) in
+    (rw (← e) (l .inv .0), l .inv .1, omega arith)
+
+pub count-up-spec : {M : Type 1} → statement M
+count-up-spec =
+    tie.close (tie.spec Inv-loop μ-loop (λ c. search needs) mul-row (λ c. search needs) loop-holds (λ c. search needs) (λ c. search needs)
+    (λ c κs. search needs) (λ c. search needs) (λ c. search needs) (λ c. search needs) (λ c. omega (arith, leb-true, fits (c .before .before)))
+    (λ c. omega (arith, leb-true, fits (c .before .before))) (λ c. omega (arith, leb-true, fits (c .before .before .before)))
+    (λ c. omega (arith, room (c .before .before .before) (c .before .before .if1 .taken) (leb-true _ _ (c .before .if2 .taken))))
+    (λ c. omega (arith, leb-true, fits (c .before .before .before))) (λ c. search needs)
+    (λ c. omega (arith, in-list (c .before))) (λ c. omega (arith, leb-true, fits (c .before .before))) (λ c. search needs) (λ c. search needs) loop-again
+    (λ c. c .before .loop .inv .0 .long) returns)
