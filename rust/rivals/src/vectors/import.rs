@@ -17,8 +17,9 @@ fn read(text: &[u8]) -> Refused<(Side, Side)> {
     Ok((columns, rows))
 }
 
+/// Whether a row, sorted, is this one; most rows are so as they stand.
 fn is_sorted_as(row: &[u16], sorted: &[u16]) -> bool {
-    row == sorted || {
+    row.iter().eq(sorted) || {
         let mut row = row.to_vec();
         row.sort_unstable();
         row == sorted

@@ -63,7 +63,7 @@ impl Side {
         }
         let mut next = starts(&degrees);
         let mut indices = vec![0; self.indices.len()];
-        for (place, list) in (1..).zip(self.lists()) {
+        for (place, list) in (1..=u16::MAX).zip(self.lists()) {
             for &index in list {
                 let next = &mut next[usize::from(index) - 1];
                 indices[*next] = place;
