@@ -1,6 +1,7 @@
 //! The tables that the program prints.
 
 use crate::contest::ContestResult;
+use crate::conversion::{Call, Task};
 use crate::scenario::{Scenario, SCALE, SETTINGS};
 
 pub fn settings() {
@@ -94,5 +95,42 @@ pub fn growth_line(scenario: &Scenario, result: &ContestResult) {
         numbers(times.clone().map(|least| 1e6 * least / frames), 9, 1),
         "",
         numbers(times.map(|least| per_triple(scenario, result, least)), 8, 2),
+    );
+}
+
+pub fn conversion_heading(names: Vec<&str>) {
+    println!();
+    println!(
+        "Alist texts; the least time of interleaved rounds, one round of the reference:\ncall   text                             bytes number | ms: {} | ns a byte: {} | {} |  bar ms",
+        columns(&names, 11),
+        columns(&names, 9),
+        columns(&[&ratio_names(&names)[0]], 17),
+    );
+}
+
+pub fn conversion_line(task: &Task, seconds: &[f64]) {
+    let call = match task.call {
+        Call::Import => "import",
+        Call::Export => "export",
+    };
+    let bar = match task.bar {
+        Some(bar) => format!("{:>7.0}", 1e3 * bar),
+        None => String::new(),
+    };
+    let times = seconds.iter();
+    println!(
+        "{call} {:<28} {:>9} {:>6} | {:3} {} | {:10} {} | {} | {bar}",
+        task.name,
+        task.bytes(),
+        task.answer.number,
+        "",
+        numbers(times.clone().map(|seconds| 1e3 * seconds), 11, 3),
+        "",
+        numbers(
+            times.map(|seconds| 1e9 * seconds / task.bytes() as f64),
+            9,
+            2
+        ),
+        numbers([seconds[0] / seconds[1]].into_iter(), 17, 2),
     );
 }

@@ -1,6 +1,7 @@
 //! Codes and frames to decode.
 
-use compare::codes::{records, regular_code, training_code, Code};
+use crate::places::regular;
+use compare::codes::{records, training_code, Code};
 use compare::random::Random;
 use interface::{Channel, Library, Settings};
 use reference::SOUND;
@@ -51,10 +52,6 @@ fn frame(random: &mut Random, bits: usize, noise: f64) -> Vec<i16> {
     let number = SOUND.front(Channel::Gaussian(SCALE), &samples, &mut costs);
     assert_eq!(number, 0);
     costs
-}
-
-fn regular(bits: usize) -> Code {
-    regular_code(&mut Random::new(SEED + bits as u64), bits, 3, 6)
 }
 
 /// Each code at a level where most frames settle soon, and at a hard one.

@@ -1,12 +1,13 @@
-//! The rivals against the reference: decoders written apart.
+//! The rivals against the reference: written apart.
 
 use compare::comparison::compare;
-use compare::families::{calls, Effort};
-use compare::outcome::decoded;
+use compare::families::{calls, conversions, Effort};
+use compare::outcome::{converted, decoded};
 use compare::reflections::assert_reflects;
+use compare::round_trips::assert_round_trips;
 use interface::Decoder;
 use reference::SOUND;
-use rivals::{Plain, Tuned};
+use rivals::{Plain, Tuned, Vectors};
 
 fn assert_equals_the_reference(decoder: &dyn Decoder) {
     let tally = compare(|case| decoded(decoder, case), calls(), Effort::Full).unwrap();
@@ -28,4 +29,17 @@ fn tuned_equals_the_reference() {
 fn the_rivals_reflect() {
     assert_reflects(&Plain, &SOUND);
     assert_reflects(&Tuned, &SOUND);
+}
+
+#[test]
+fn vectors_equals_the_reference() {
+    let families = calls().into_iter().chain(conversions()).collect();
+    let tally = compare(|case| converted(&Vectors, case), families, Effort::Full).unwrap();
+    println!("{}", tally.summary());
+    tally.assert_complete(&["import", "export", "export_size"], 20);
+}
+
+#[test]
+fn round_trips_of_vectors() {
+    assert_round_trips(&Vectors);
 }

@@ -1,12 +1,15 @@
-//! Two decoders to measure against: a plain one, as a good engineer would
-//! first write it, and one tuned for x86-64.
+//! Rivals to measure against. Two decoders: a plain one, as a good engineer would
+//! first write it, and one tuned for x86-64. One for import and export, with as much
+//! memory as it likes.
 
 mod plain;
 #[cfg(target_arch = "x86_64")]
 mod tuned;
+mod vectors;
 
 pub use plain::Plain;
 #[cfg(not(target_arch = "x86_64"))]
 pub use plain::Plain as Tuned;
 #[cfg(target_arch = "x86_64")]
 pub use tuned::Tuned;
+pub use vectors::Vectors;
