@@ -12,7 +12,7 @@ use Rattle.model.specs.Causes.{_if_}
 use Rattle.model.specs.Alist.{times}
 use Rattle.numbers.specs.Walked.{from, Filled}
 use Rattle.places.specs.declared.Window.{Window}
-use Rattle.places.specs.Counters.{listAt, namedIn, inRows, inColumns, More, Above, sum, Room}
+use Rattle.places.specs.Counters.{listAt, namedIn, inRows, inColumns, More, Above, sum, Room, Tells}
 
 -- ---- sums
 pub sum-set : (l : List ℕ) (i x : ℕ) → i < length l → sum (set l i x) + getD l i 0 ≡ sum l + x
@@ -276,3 +276,23 @@ module _ (most done size : ℕ) (l : List ℕ) (h : done + size ≤ length l) wh
         let part : namedIn most (p % w .width) (suc (w .top + p / w .width)) 0 (take (done + size) l) ≤ inColumns w most 0 (take total l) p
         = rw (← take-take (done + size) total l k) (named-part most (p % w .width) (suc (w .top + p / w .width)) 0 (done + size) (take total l)) in
         (p, omega (arith, m .long), omega (arith, m .each p j, column-block p, part))
+
+-- ---- what the counters tell at the end
+module _ (f : ℕ → ℕ) (old : List ℕ) where
+  abbrev Equal : Type 0
+  Equal = (p : ℕ) → p < length old → getD old p 0 ≡ f p
+
+  pub above-tells : Above f old → Tells false Equal
+  above-tells (p, h, k) = record { so = λ e. let z : _≡_ {A = ℕ} 0 1 = cc in absurd (omega arith); not-so = λ _ e. omega (arith, e p h) }
+
+  module _ (now : List ℕ) (n : ℕ) (m : More f now old) (e : n ≡ sum now) where
+    pub end-tells : Tells (eqb n 0) Equal
+    end-tells = record {
+      so = λ z p h. omega (arith, eqb-true n 0 z, m .each p (omega (arith, m .long)), sum-at now p);
+      not-so = λ z h.
+          let none : sum now ≡ 0 = sum-none now (λ p k. omega (arith, m .each p k, h p (omega (arith, m .long)))) in
+          eqb-false n 0 z (e ∙ none);
+    }
+
+    pub end-zeros : eqb n 0 ≡ true → now ≡ replicate (length old) 0
+    end-zeros z = sum-zeros now (sym e ∙ eqb-true n 0 z) ∙ ap (λ (k : ℕ). replicate k 0) (sym (m .long))
