@@ -1,2 +1,3 @@
 pub mod Counters
 pub mod Counting
+pub mod Windows
