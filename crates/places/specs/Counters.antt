@@ -13,7 +13,7 @@ use Rattle.places.specs.declared.Window.{Window}
 
 -- so many counters a window can have
 abbrev pub mostCounters : ℕ
-mostCounters = 65536
+mostCounters = 131072
 
 -- ---- agreement
 -- the i-th list of `most` numbers
@@ -54,6 +54,9 @@ Above f l = (p : ℕ) × (p < length l) × (getD l p 0 < f p)
 
 abbrev pub sum : List ℕ → ℕ
 sum l = total (λ x. x) l
+
+abbrev pub Zeros : List ℕ → Type 0
+Zeros l = (p : ℕ) → getD l p 0 ≡ 0
 
 -- no more is counted at a place than was read of its row, up to the q-th number: so one more fits 16 bits
 abbrev pub Room : Window → ℕ → ℕ → List ℕ → Type 0
