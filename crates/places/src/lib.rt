@@ -1,5 +1,5 @@
-// Cause 19 of an alist text (document 02, L1): whether columns and rows name the same places, each equally often. No list is kept: a window of rows by columns has a
-// counter for each of its places; the rows count up, the columns count down, and the window agrees where no counter would fall below 0 and all end at 0.
+// Cause 19 of an alist text (document 02, L1): whether columns and rows name the same places, each equally often. No list is kept: a window of rows by columns
+// has a counter for each of its places; the rows count up, the columns count down, and the window agrees where no counter would fall below 0 and all end at 0.
 ghost use mathlib.Core.Path.{_≡_};
 ghost use mathlib.Core.Bool.{true, false};
 ghost use Prim.Native.Nat.{ℕ, _+_, _*_, _^_, _≤_, _<_, min};
@@ -230,13 +230,13 @@ fn bytes(at: usize, end: usize, length: usize) -> usize
     if at < end { (end - at) / scale } else { 0 }
 }
 
-// How wide a window is best: rows are walked once for each window of a band, columns once for each band. `rows` are the bytes of the rows for each column, `columns`
-// those of the columns for each row.
+// How wide a window is best: rows are walked once for each window of a band, columns once for each band; twice as wide where that is cheaper. `rows` are the
+// bytes of the rows for each column, `columns` those of the columns for each row.
 fn window_width(rows: usize, columns: usize) -> usize
     ensures { λ r. ⌜ (1 ≤ r) × (r ≤ mostCounters) ⌝ }
 {
     let mut width = 1usize;
-    while 2 * width <= COUNTERS && columns / (COUNTERS / width) < rows / (2 * width) {
+    while 2 * width <= COUNTERS && columns / (COUNTERS / width) < rows / width / 2 {
         width *= 2;
     }
     width
