@@ -8,7 +8,7 @@ use Rattle.lists.proofs.Entries.{every-at, every-in, every-append}
 use Rattle.lists.proofs.Tests.{and-left, and-right}
 use Rattle.model.specs.Limits.{mostNumber}
 use Rattle.model.specs.Alist.{separator, further, ended, numbersOf, largest}
-use Rattle.numbers.specs.Walked.{from, none, Next, Small}
+use Rattle.numbers.specs.Walked.{from, none, Next, Small, Scanned}
 
 -- ---- at the place i of the text s
 module _ (s : List ℕ) (i : ℕ) where
@@ -137,3 +137,12 @@ pub largest-next : (l : List ℕ) (i d : ℕ) → i < length l → largest (take
 largest-next [] i d h = absurd (omega arith)
 largest-next (x ∷ l) zero d h = omega arith
 largest-next (x ∷ l) (suc i) d h = omega (arith, largest-next l i d (omega arith))
+
+-- so many small numbers, of which the largest and the end were found
+pub scanned-small : {s : List ℕ} {at count most end : ℕ} → Scanned s at count most end → Small count (from s at)
+    → (most ≤ mostNumber) × (most ≡ largest (take count (from s at))) × (from s end ≡ drop count (from s at))
+scanned-small {s} {at} {count} {most} {end} r h = by (decLt mostNumber most)
+  where
+    by : Dec (mostNumber < most) → (most ≤ mostNumber) × (most ≡ largest (take count (from s at))) × (from s end ≡ drop count (from s at))
+    by (yes k) = absurd (r .unsound k h)
+    by (no k) = let low : most ≤ mostNumber = omega arith in let f = r .sound low in (low, f .1, f .2)

@@ -1,7 +1,7 @@
 -- Lists of counters, and how often numbers name a place of a window. Assumes nothing.
 use Rattle.integers.proofs.Prelude.{_≡_, refl, sym, ap, ap₂, _∙_, Bool, true, false, cond, _&&_, List, [], _∷_, _++_, ℕ, zero, suc, _+_, _-_, _*_, _/_, _%_, _≤_}
 use Rattle.integers.proofs.Prelude.{_<_, arith, decLt, eqb, eqb-true, eqb-false, eq-eqb, ne-eqb, length, getD, take, drop, set, length-set, length-take-le}
-use Rattle.integers.proofs.Prelude.{List·getD-eq-default, take-append-drop, take-suc, take-take, take-add, drop-drop}
+use Rattle.integers.proofs.Prelude.{List·getD-eq-default, take-append-drop, take-suc, take-take, take-add, drop-at, drop-drop, getD-drop}
 use mathlib.Core.Logic.{_≢_}
 use native.Mathlib.Nat.{add-zero, mul-le-mul-right, div-add-mod', mod-lt, div-lt-iff-lt-mul}
 use lib.Arith.{digits-div, digits-mod}
@@ -12,7 +12,7 @@ use Rattle.model.specs.Causes.{_if_}
 use Rattle.model.specs.Alist.{times}
 use Rattle.numbers.specs.Walked.{from, Filled}
 use Rattle.places.specs.declared.Window.{Window}
-use Rattle.places.specs.Counters.{listAt, namedIn, inRows, inColumns, More, Above, sum, Room}
+use Rattle.places.specs.Counters.{listAt, namedIn, inRows, inColumns, More, Above, sum, Zeros, Room, Tells}
 
 -- ---- sums
 pub sum-set : (l : List ℕ) (i x : ℕ) → i < length l → sum (set l i x) + getD l i 0 ≡ sum l + x
@@ -29,18 +29,29 @@ pub sum-none : (l : List ℕ) → ((i : ℕ) → i < length l → getD l i 0 ≡
 sum-none [] h = refl
 sum-none (y ∷ l) h = omega (arith, h 0 (omega arith), sum-none l (λ i k. h (suc i) (omega arith)))
 
-pub sum-zeros : (l : List ℕ) → sum l ≡ 0 → l ≡ replicate (length l) 0
-sum-zeros [] h = refl
-sum-zeros (y ∷ l) h = let z : y ≡ 0 = omega arith in rw z (ap (_∷_ 0) (sum-zeros l (omega arith)))
-
-pub zeros-sum : (n : ℕ) → sum (replicate n 0) ≡ 0
-zeros-sum zero = refl
-zeros-sum (suc n) = omega (arith, zeros-sum n)
-
-pub zeros-at : (n p : ℕ) → _≡_ {A = ℕ} (getD (replicate n 0) p 0) 0
+-- ---- zeros
+pub zeros-at : (n : ℕ) → Zeros (replicate n 0)
 zeros-at zero p = refl
 zeros-at (suc n) zero = refl
 zeros-at (suc n) (suc p) = zeros-at n p
+
+pub zeros-sum : (l : List ℕ) → Zeros l → sum l ≡ 0
+zeros-sum l h = sum-none l (λ i k. h i)
+
+pub zeros-take : (n : ℕ) (l : List ℕ) → Zeros l → Zeros (take n l)
+zeros-take zero l h p = refl
+zeros-take (suc n) [] h p = refl
+zeros-take (suc n) (x ∷ l) h zero = h 0
+zeros-take (suc n) (x ∷ l) h (suc p) = zeros-take n l (λ i. h (suc i)) p
+
+-- a part that was lent, n counters long, comes back as k after it came back as m
+pub zeros-back : (n : ℕ) (l m k : List ℕ) → length m ≡ n → Zeros l → Zeros k → Zeros (k ++ drop n (m ++ drop n l))
+zeros-back n l m k e h z = rw (drop-at m (drop n l) n e) (both k (drop n l) z (λ p. getD-drop n l p 0 ∙ h (n + p)))
+  where
+    both : (k m : List ℕ) → Zeros k → Zeros m → Zeros (k ++ m)
+    both [] m z h p = h p
+    both (x ∷ k) m z h zero = z 0
+    both (x ∷ k) m z h (suc p) = both k m (λ i. z (suc i)) h p
 
 -- ---- counters that are more
 module _ (l : List ℕ) (i : ℕ) where
@@ -232,10 +243,10 @@ room-next w most q values l m r h p = by (decLt p (length l))
     by (yes k) = omega (arith, r p, h .each p k, named-most most (p / w .width) (suc (w .left + p % w .width)) q values)
     by (no k) = let e : getD m p 0 ≡ 0 = List·getD-eq-default m 0 {n = p} (omega (arith, h .long)) in omega arith
 
-pub room-rows : (w : Window) (most q : ℕ) (l old now : List ℕ) → old ≡ replicate (length old) 0 → q ≤ length l → More (inRows w most 0 (take q l)) old now
+pub room-rows : (w : Window) (most q : ℕ) (l old now : List ℕ) → Zeros old → q ≤ length l → More (inRows w most 0 (take q l)) old now
     → Room w most q now
 room-rows w most q l old now z h m p =
-    let none : Room w most 0 old = λ p. omega (arith, ap (λ (k : List ℕ). getD k p 0) z ∙ zeros-at (length old) p) in
+    let none : Room w most 0 old = λ p. omega (arith, z p) in
     omega (arith, room-next w most 0 (take q l) old now none m p, length-take-le q l h)
 
 -- ---- block by block: the numbers from `done` on of l
@@ -276,3 +287,23 @@ module _ (most done size : ℕ) (l : List ℕ) (h : done + size ≤ length l) wh
         let part : namedIn most (p % w .width) (suc (w .top + p / w .width)) 0 (take (done + size) l) ≤ inColumns w most 0 (take total l) p
         = rw (← take-take (done + size) total l k) (named-part most (p % w .width) (suc (w .top + p / w .width)) 0 (done + size) (take total l)) in
         (p, omega (arith, m .long), omega (arith, m .each p j, column-block p, part))
+
+-- ---- what the counters tell at the end
+module _ (f : ℕ → ℕ) (old : List ℕ) where
+  abbrev Equal : Type 0
+  Equal = (p : ℕ) → p < length old → getD old p 0 ≡ f p
+
+  pub above-tells : Above f old → Tells false Equal
+  above-tells (p, h, k) = record { so = λ e. let z : _≡_ {A = ℕ} 0 1 = cc in absurd (omega arith); not-so = λ _ e. omega (arith, e p h) }
+
+  module _ (now : List ℕ) (n : ℕ) (m : More f now old) (e : n ≡ sum now) where
+    pub end-tells : Tells (eqb n 0) Equal
+    end-tells = record {
+      so = λ z p h. omega (arith, eqb-true n 0 z, m .each p (omega (arith, m .long)), sum-at now p);
+      not-so = λ z h.
+          let none : sum now ≡ 0 = sum-none now (λ p k. omega (arith, m .each p k, h p (omega (arith, m .long)))) in
+          eqb-false n 0 z (e ∙ none);
+    }
+
+    pub end-zeros : eqb n 0 ≡ true → Zeros now
+    end-zeros z p = omega (arith, eqb-true n 0 z, sum-at now p)

@@ -1,2 +1,4 @@
 pub mod Counters
 pub mod Counting
+pub mod Windows
+pub mod Whole

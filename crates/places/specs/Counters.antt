@@ -55,6 +55,9 @@ Above f l = (p : ℕ) × (p < length l) × (getD l p 0 < f p)
 abbrev pub sum : List ℕ → ℕ
 sum l = total (λ x. x) l
 
+abbrev pub Zeros : List ℕ → Type 0
+Zeros l = (p : ℕ) → getD l p 0 ≡ 0
+
 -- no more is counted at a place than was read of its row, up to the q-th number: so one more fits 16 bits
 abbrev pub Room : Window → ℕ → ℕ → List ℕ → Type 0
 Room w most q l = (p : ℕ) → getD l p 0 ≤ q - p / w .width * most

@@ -3,12 +3,12 @@
 ghost use mathlib.Core.Path.{_≡_};
 ghost use mathlib.Core.Bool.{true, false};
 ghost use Prim.Native.Nat.{ℕ, _+_, _*_, _^_, _≤_, _<_, min};
-ghost use lib.ListN.{length, getD, take, drop, replicate};
+ghost use lib.ListN.{length, getD, take, drop};
 ghost use Rattle.model.specs.Limits.{mostNumber};
 ghost use Rattle.model.specs.Alist.{agree};
 ghost use Rattle.numbers.specs.Walked.{from, Small};
 ghost use Rattle.places.specs.Held.{Held, listsOf};
-ghost use Rattle.places.specs.Counters.{mostCounters, Agrees, Tells, inRows, inColumns, More, Above, sum, Room, Inside, Block};
+ghost use Rattle.places.specs.Counters.{mostCounters, Agrees, Tells, inRows, inColumns, More, Above, sum, Zeros, Room, Inside, Block};
 use numbers::Side;
 
 // So many counters a window can have.
@@ -72,7 +72,7 @@ fn count_up(
 // Counts the rows of a window up: `most` numbers of each, from `at` on. How many indices are in its columns.
 fn rows_up(text: &[u8], at: usize, most: usize, window: Window, counters: &mut [u16]) -> usize
     requires { ⌜ (at ≤ length (now text)) × Small (window .height * most) (from (now text) at) × (most ≤ mostNumber) ⌝ }
-    requires { ⌜ Inside window (length (now counters)) × (now counters ≡ replicate (length (now counters)) 0) ⌝ }
+    requires { ⌜ Inside window (length (now counters)) × Zeros (now counters) ⌝ }
     ensures { λ r. ⌜ More (inRows window most 0 (take (window .height * most) (from (now (text .entry)) at))) (now (counters .entry)) (now (counters .exit))
         × (sum (now (counters .exit)) ≡ r) ⌝ }
 {
@@ -142,7 +142,7 @@ fn columns_down(
     requires { ⌜ Inside window (length (now counters)) × (count ≡ sum (now counters)) ⌝ }
     ensures { λ r. ⌜ Tells (r .fine) ((p : ℕ) → p < length (now (counters .entry)) → getD (now (counters .entry)) p 0
         ≡ inColumns window most 0 (take (window .width * most) (from (now (text .entry)) at)) p) ⌝ }
-    ensures { λ r. ⌜ (r .fine ≡ true → (now (counters .exit) ≡ replicate (length (now (counters .entry))) 0)
+    ensures { λ r. ⌜ (r .fine ≡ true → Zeros (now (counters .exit))
         × (from (now (text .entry)) (r .end) ≡ drop (window .width * most) (from (now (text .entry)) at)) × (r .end ≤ length (now (text .entry)))) ⌝ }
 {
     let total = window.width * most;
@@ -184,10 +184,11 @@ fn band(
     counters: &mut [u16],
 ) -> bool
     requires { ⌜ (at ≤ length (now text)) × Small (height * most) (from (now text) at) × (most ≤ mostNumber) × Held (now text) columns ⌝ }
-    requires { ⌜ (top + height ≤ mostNumber) × (1 ≤ wide) × (height * wide ≤ mostCounters) × (now counters ≡ replicate mostCounters 0) ⌝ }
+    requires { ⌜ (top + height ≤ mostNumber) × (1 ≤ wide) × (height * wide ≤ mostCounters) ⌝ }
+    requires { ⌜ (length (now counters) ≡ mostCounters) × Zeros (now counters) ⌝ }
     ensures { λ r. ⌜ Tells r (Agrees (record { top = top; height = height; left = 0; width = columns .count }) most (from (now (text .entry)) at)
         (columns .most) (from (now (text .entry)) (columns .lists))) ⌝ }
-    ensures { λ r. ⌜ (r ≡ true → now (counters .exit) ≡ replicate mostCounters 0) ⌝ }
+    ensures { λ r. ⌜ (r ≡ true → Zeros (now (counters .exit))) ⌝ }
 {
     let all = columns.count;
     let column_most = columns.most;

@@ -27,7 +27,7 @@ mul-total c = omega (arith, few (c .before .before .before))
 loop-holds : tie.Need-loop-holds Inv-loop μ-loop
 loop-holds c =
     let s = c .before .before .before in
-    (more-none _ _ (λ p h. refl), ap sum (s .pre .1 .1) ∙ zeros-sum (length (s .args .counters .now)), omega arith, refl, s .pre .0 .0, omega arith, refl)
+    (more-none _ _ (λ p h. refl), zeros-sum (s .args .counters .now) (s .pre .1 .1), omega arith, refl, s .pre .0 .0, omega arith, refl)
 
 -- ---- the next block
 module _ (x : tie.After-least Inv-loop μ-loop) where
