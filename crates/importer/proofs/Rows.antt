@@ -1,15 +1,14 @@
 -- The rows of a side, one after another: a loop over them keeps `Walk`, the place of the next degree and of the next list. Assumes nothing.
-use Rattle.integers.proofs.Prelude.{_≡_, refl, sym, ap, _∙_, true, List, [], _∷_, ℕ, zero, suc, _+_, _*_, _≤_, _<_, arith, add-one, decLt, ltb, length}
+use Rattle.integers.proofs.Prelude.{_≡_, refl, sym, ap, _∙_, true, List, [], _∷_, ℕ, zero, suc, _+_, _*_, _≤_, _<_, arith, add-one, ltb, length}
 use Rattle.integers.proofs.Prelude.{getD, take, drop, length-take, length-map, drop-drop, length-take-le, take-take, getD-take}
 use native.Mathlib.Nat.{mul-le-mul-right}
 use lib.ListN.{List·getD-map}
 use Rattle.lists.specs.Entries.{every}
 use Rattle.lists.proofs.Entries.{every-at}
-use Rattle.model.specs.Limits.{mostNumber}
 use Rattle.model.specs.Alist.{pieces, listed}
 use Rattle.numbers.specs.declared.Side.{Side}
-use Rattle.numbers.specs.Walked.{from, none, Next, Small, Scanned}
-use Rattle.numbers.proofs.Walk.{next-at, same-at, small-part}
+use Rattle.numbers.specs.Walked.{from, none, Next, Scanned}
+use Rattle.numbers.proofs.Walk.{next-at, same-at, small-part, scanned-small}
 use Rattle.importer.specs.Rows.{namedIn, Sided, lowered, Indexed, bitsAt, checksOf}
 
 -- list j of so many
@@ -96,18 +95,13 @@ module _ {s : List ℕ} {side : Side} (h : Sided s side) where
 
       -- and at what follows
       pub walk-next : {most last : ℕ} → Scanned s at (side .most) most last → Walk s side (j + 1) end last
-      walk-next {most} {last} scan =
+      walk-next scan =
           let m : j * side .most + side .most ≡ (j + 1) * side .most = omega arith in
           let part = small-part (j * side .most) (side .most) (side .count * side .most) l room (h .numbers) in
-          let small-most : most ≤ mostNumber = by (decLt mostNumber most) (rw (w .lists-at) part) in
           record {
             degrees-at = next-at ds j (w .degrees-at) next .1 ∙ rw (add-one j);
-            lists-at = scan .sound small-most .2 ∙ ap (drop (side .most)) (w .lists-at) ∙ drop-drop (side .most) (j * side .most) l ∙ rw m;
+            lists-at = scanned-small scan (rw (w .lists-at) part) .2 ∙ ap (drop (side .most)) (w .lists-at) ∙ drop-drop (side .most) (j * side .most) l ∙ rw m;
             degrees-within = next .within;
             lists-within = scan .within;
             passed = omega arith;
           }
-        where
-          by : Dec (mostNumber < most) → Small (side .most) (from s at) → most ≤ mostNumber
-          by (yes a) p = absurd (scan .unsound a p)
-          by (no a) p = omega arith
