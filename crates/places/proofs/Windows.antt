@@ -5,7 +5,7 @@ use lib.Arith.{digits-lt, digits-div, digits-mod}
 use Rattle.model.specs.Alist.{times}
 use Rattle.places.specs.declared.Window.{Window}
 use Rattle.places.specs.Counters.{listAt, Agrees, Tells, inRows, inColumns, More, Zeros}
-use Rattle.places.proofs.Counters.{named-list}
+use Rattle.places.proofs.Named.{named-list}
 
 -- ---- l are the numbers of the rows from the window's first on, k those of the columns
 module _ (w : Window) (h : 1 ≤ w .width) (rowMost : ℕ) (l : List ℕ) (columnMost : ℕ) (k : List ℕ) where
