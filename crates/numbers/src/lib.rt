@@ -125,8 +125,8 @@ pub fn largest(text: &[u8], at: usize, count: usize) -> Scan
     Scan { largest, end }
 }
 
-// Reads as many numbers as the list has entries, from `at` on; where they end. A byte is a separator or a digit, whose fifth bit tells which; each takes the same
-// steps, so that the time does not depend on the text.
+// Reads as many numbers as the list has entries, from `at` on; where they end. A byte is a separator or a digit, whose fifth bit tells which; each takes the
+// same steps, so that the time does not depend on the text.
 pub fn read(text: &[u8], at: usize, values: &mut [u16]) -> usize
     requires { ⌜ (at ≤ length (now text)) × Small (length (now values)) (from (now text) at) ⌝ }
     ensures { λ r. ⌜ Filled (now (text .entry)) at (now (values .exit)) r × (length (now (values .exit)) ≡ length (now (values .entry))) ⌝ }

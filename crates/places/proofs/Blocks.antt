@@ -1,9 +1,8 @@
 -- Numbers that are read and counted block by block. Assumes nothing.
-use Rattle.integers.proofs.Prelude.{_≡_, sym, ap, ap₂, _∙_, List, _++_, ℕ, zero, suc, _+_, _-_, _*_, _/_, _%_, _≤_, _<_, min, arith, decLt, length, getD}
+use Rattle.integers.proofs.Prelude.{_≡_, ap, ap₂, _∙_, List, _++_, ℕ, zero, suc, _+_, _-_, _*_, _/_, _%_, _≤_, _<_, min, arith, decLt, length, getD}
 use Rattle.integers.proofs.Prelude.{take, drop, length-take-le, List·getD-eq-default, take-at, take-take, take-add, drop-drop}
 use lib.Seq.{length-front}
 use Rattle.numbers.specs.Walked.{from, Small, Filled}
-use Rattle.numbers.proofs.Walk.{small-part}
 use Rattle.places.specs.declared.Window.{Window}
 use Rattle.places.specs.Counters.{namedIn, inRows, inColumns, More, Above, Zeros, Room}
 use Rattle.places.proofs.Counters.{more-then}
@@ -17,7 +16,8 @@ pub record Next (total done size : ℕ) (values : List ℕ) : Type 0 where
   pub room : size ≤ length values
   pub lent : length (take size values) ≡ size
 
-pub next-block : {total done size : ℕ} {values : List ℕ} → 1 ≤ length values → done < total → size ≡ min (length values) (total - done) → Next total done size values
+pub next-block : {total done size : ℕ} {values : List ℕ} → 1 ≤ length values → done < total → size ≡ min (length values) (total - done)
+    → Next total done size values
 next-block {size = size} {values = values} n h e =
     let room : size ≤ length values = omega arith in
     record { some = omega arith; within = omega arith; room = room; lent = length-take-le size values room }

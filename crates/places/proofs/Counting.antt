@@ -58,7 +58,8 @@ pub record Down (w : Window) (most first : ℕ) (values old counters : List ℕ)
   -- a counter that would fall below 0
   pub none-left : w .top < v → v ≤ w .top + w .height → getD counters ((v - w .top - 1) * w .width + column) 0 ≡ 0 → Above (inColumns w most first values) old
 
-module _ {w : Window} {most first : ℕ} {values old counters : List ℕ} {k v : ℕ} (s : Inside w (length old)) (h : k < length values) (e : v ≡ getD values k 0) where
+module _ {w : Window} {most first : ℕ} {values old counters : List ℕ} {k v : ℕ} (s : Inside w (length old)) (h : k < length values)
+    (e : v ≡ getD values k 0) where
   pub up-turn : {row : ℕ} → Block most first (length values) (w .height) → Room w most first old → row ≡ (first + k) / most * w .width
       → More (inRows w most first (take k values)) old counters → Up w most first values old counters row k v
   up-turn {row} b room f m =
@@ -74,7 +75,8 @@ module _ {w : Window} {most first : ℕ} {values old counters : List ℕ} {k v :
         fits = λ l r.
             let d : i / w .width ≡ q / most = rw f (digits-div (q / most) {m = w .width} {r = v - w .left - 1} (omega arith)) in
             let t : length (take k values) ≡ k = length-take-le k values (omega arith) in
-            omega (arith, room-next w most first (take k values) old counters room m i, t, ap (λ (n : ℕ). n * most) d, div-add-mod' q most, mod-lt q (b .some), b .small);
+            let read = room-next w most first (take k values) old counters room m i in
+            omega (arith, t, ap (λ (n : ℕ). n * most) d, div-add-mod' q most, mod-lt q (b .some), b .small);
         counted = λ l r. more-then before (λ p. 1 if eqb p i) after m (more-up counters i)
             (λ p j.
             let one : 1 if (eqb (q / most) (p / w .width) && eqb (suc (w .left + p % w .width)) v) ≡ 1 if eqb p i = rw f (row-hit w (q / most) v p l r) in
@@ -83,8 +85,8 @@ module _ {w : Window} {most first : ℕ} {values old counters : List ℕ} {k v :
             (λ p j. next p ∙ ap (λ (n : ℕ). before p + n) (row-miss w (q / most) v p (s .wide) n));
       }
 
-  pub down-turn : {column : ℕ} → Block most first (length values) (w .width) → column ≡ (first + k) / most → More (inColumns w most first (take k values)) counters old
-      → Down w most first values old counters column k v
+  pub down-turn : {column : ℕ} → Block most first (length values) (w .width) → column ≡ (first + k) / most
+      → More (inColumns w most first (take k values)) counters old → Down w most first values old counters column k v
   down-turn {column} b f m =
       let q = first + k in
       let i = (v - w .top - 1) * w .width + column in

@@ -1,6 +1,7 @@
 -- How often numbers name a place of a window. Assumes nothing.
 use Rattle.integers.proofs.Prelude.{_≡_, refl, sym, ap, _∙_, Bool, true, false, _&&_, List, [], _∷_, _++_, ℕ, zero, suc, _+_, _-_, _*_, _/_, _%_, _≤_, _<_}
-use Rattle.integers.proofs.Prelude.{arith, decLt, eqb, eqb-true, eq-eqb, ne-eqb, length, getD, take, drop, length-take-le, take-append-drop, take-suc, take-take}
+use Rattle.integers.proofs.Prelude.{arith, decLt, eqb, eqb-true, eq-eqb, ne-eqb, length, getD, take, drop, length-take-le, take-append-drop, take-suc}
+use Rattle.integers.proofs.Prelude.{take-take}
 use mathlib.Core.Logic.{_≢_}
 use native.Mathlib.Nat.{add-zero, mul-le-mul-right, div-add-mod', mod-lt, div-lt-iff-lt-mul}
 use lib.Arith.{digits-div, digits-mod}

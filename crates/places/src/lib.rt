@@ -1,5 +1,5 @@
-// Cause 19 of an alist text (document 02, L1): whether columns and rows name the same places, each equally often. No list is kept: a window of rows by columns has a
-// counter for each of its places; the rows count up, the columns count down, and the window agrees where no counter would fall below 0 and all end at 0.
+// Cause 19 of an alist text (document 02, L1): whether columns and rows name the same places, each equally often. No list is kept: a window of rows by columns
+// has a counter for each of its places; the rows count up, the columns count down, and the window agrees where no counter would fall below 0 and all end at 0.
 ghost use mathlib.Core.Path.{_≡_};
 ghost use mathlib.Core.Bool.{true, false};
 ghost use Prim.Native.Nat.{ℕ, _+_, _*_, _^_, _≤_, _<_, min};
@@ -230,8 +230,8 @@ fn bytes(at: usize, end: usize, length: usize) -> usize
     if at < end { (end - at) / scale } else { 0 }
 }
 
-// How wide a window is best: rows are walked once for each window of a band, columns once for each band. `rows` are the bytes of the rows for each column, `columns`
-// those of the columns for each row.
+// How wide a window is best: rows are walked once for each window of a band, columns once for each band. `rows` are the bytes of the rows for each column,
+// `columns` those of the columns for each row.
 fn window_width(rows: usize, columns: usize) -> usize
     ensures { λ r. ⌜ (1 ≤ r) × (r ≤ mostCounters) ⌝ }
 {
@@ -245,8 +245,8 @@ fn window_width(rows: usize, columns: usize) -> usize
 // Whether columns and rows agree in all windows.
 fn windows_agree(text: &[u8], columns: Side, rows: Side, wide: usize) -> bool
     requires { ⌜ Held (now text) columns × Held (now text) rows × (1 ≤ wide) × (wide ≤ mostCounters) ⌝ }
-    ensures { λ r. ⌜ Tells r (Agrees (record { top = 0; height = rows .count; left = 0; width = columns .count }) (rows .most) (from (now (text .entry)) (rows .lists))
-        (columns .most) (from (now (text .entry)) (columns .lists))) ⌝ }
+    ensures { λ r. ⌜ Tells r (Agrees (record { top = 0; height = rows .count; left = 0; width = columns .count })
+        (rows .most) (from (now (text .entry)) (rows .lists)) (columns .most) (from (now (text .entry)) (columns .lists))) ⌝ }
 {
     let mut counters = [0u16; COUNTERS];
     let high = COUNTERS / wide;

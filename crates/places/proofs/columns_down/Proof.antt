@@ -55,7 +55,8 @@ module _ (y : tie.After-read Inv-loop μ-loop) where
   abbrev columns : List ℕ
   columns = from (start last .args .text .now) (start last .args .at)
 
-  taken : Taken (start last .args .text .now) columns (turn last .loop .done) (last .least .result) (turn last .loop .values) (y .read .last .1 .1 .0) (y .read .result)
+  taken : Taken (start last .args .text .now) columns (turn last .loop .done) (last .least .result) (turn last .loop .values) (y .read .last .1 .1 .0)
+      (y .read .result)
   taken = block-taken (next last) (start last .pre .0 .1) (turn last .loop .inv .2) (y .read .ensures .1) (y .read .ensures .0)
 
 count-down-requires : tie.Need-count-down-requires Inv-loop μ-loop
@@ -130,7 +131,8 @@ pub columns-down-spec : {M : Type 1} → statement M
 columns-down-spec =
     tie.close (tie.spec Inv-loop μ-loop (λ c. omega (arith, few (c .before .before .before))) loop-holds (λ c. search needs) (λ c κs. search needs)
     (λ c. next c .room) (λ c. sym (next (c .before) .lent)) read-requires
-    (λ c. let y = c .before in omega (arith, taken y .whole, next (last y) .room)) (λ c. let t = taken (c .before .before) in sym (ap length (t .back) ∙ t .long))
+    (λ c. let y = c .before in omega (arith, taken y .whole, next (last y) .room))
+    (λ c. let t = taken (c .before .before) in sym (ap length (t .back) ∙ t .long))
     count-down-requires same-length returns
     (λ c. let x = last (read (c .before .before .before .before)) in omega (arith, next x .within, few (start x)))
     (λ c. let x = last (read (c .before .before .before .before)) in omega (arith, next x .within, next x .some)) loop-again

@@ -57,7 +57,8 @@ module _ (y : tie.After-read Inv-loop μ-loop) where
   abbrev rows : List ℕ
   rows = from (start last .args .text .now) (start last .args .at)
 
-  taken : Taken (start last .args .text .now) rows (turn last .loop .done) (last .least .result) (turn last .loop .values) (y .read .last .1 .1 .0) (y .read .result)
+  taken : Taken (start last .args .text .now) rows (turn last .loop .done) (last .least .result) (turn last .loop .values) (y .read .last .1 .1 .0)
+      (y .read .result)
   taken = block-taken (next last) (start last .pre .0 .1) (turn last .loop .inv .3) (y .read .ensures .1) (y .read .ensures .0)
 
 count-up-requires : tie.Need-count-up-requires Inv-loop μ-loop
@@ -93,8 +94,8 @@ loop-again c =
     let s = start x in
     let v = turn x .loop .inv in
     let t = taken y in (
-      up-block (s .args .most) (turn x .loop .done) (x .least .result) (rows y) (t .enough) (s .args .window) _ (s .args .counters .now) (turn x .loop .counters)
-          (t .back ∙ t .list) _ (v .0) (n .count-up .ensures .0),
+      up-block (s .args .most) (turn x .loop .done) (x .least .result) (rows y) (t .enough) (s .args .window) _ (s .args .counters .now)
+          (turn x .loop .counters) (t .back ∙ t .list) _ (v .0) (n .count-up .ensures .0),
       omega (arith, n .count-up .ensures .1, v .1),
       omega (arith, few-more n, v .2),
       t .rest,
@@ -114,7 +115,8 @@ pub rows-up-spec : {M : Type 1} → statement M
 rows-up-spec =
     tie.close (tie.spec Inv-loop μ-loop (λ c. omega (arith, few (c .before .before .before))) loop-holds (λ c. search needs) (λ c κs. search needs)
     (λ c. next c .room) (λ c. sym (next (c .before) .lent)) read-requires
-    (λ c. let y = c .before in omega (arith, taken y .whole, next (last y) .room)) (λ c. let t = taken (c .before .before) in sym (ap length (t .back) ∙ t .long))
+    (λ c. let y = c .before in omega (arith, taken y .whole, next (last y) .room))
+    (λ c. let t = taken (c .before .before) in sym (ap length (t .back) ∙ t .long))
     count-up-requires
     (λ c. let x = last (read (c .before .before)) in omega (arith, few-more (c .before .before), turn x .loop .inv .2, next x .within, few (start x)))
     (λ c. let x = last (read (c .before .before)) in omega (arith, next x .within, few (start x)))
