@@ -1,106 +1,111 @@
--- A turn of the loops that count up and down. Assumes nothing.
-use Rattle.integers.proofs.Prelude.{_≡_, refl, sym, ap, _∙_, List, ℕ, suc, _+_, _-_, _*_, _/_, _%_, _≤_, _<_, arith, add-one, _&&_, eqb, eq-eqb, length, getD, take, set, length-take-le}
+-- A turn of the loops that count a block of numbers up and down. Assumes nothing.
+use Rattle.integers.proofs.Prelude.{_≡_, refl, ap, _∙_, _&&_, List, ℕ, suc, _+_, _-_, _*_, _/_, _%_, _≤_, _<_, arith, add-one, eqb, eq-eqb, length, getD, take}
+use Rattle.integers.proofs.Prelude.{set, length-take-le}
 use mathlib.Core.Logic.{_≢_}
 use native.Mathlib.Nat.{mul-le-mul-right, div-add-mod', mod-lt, div-lt-iff-lt-mul}
-use lib.Arith.{digits-lt, digits-div}
+use lib.Arith.{digits-lt, digits-div, digits-mod}
 use Rattle.model.specs.Causes.{_if_}
 use Rattle.model.specs.Limits.{mostNumber}
 use Rattle.places.specs.declared.Window.{Window}
 use Rattle.places.specs.Counters.{inRows, inColumns, More, Above, Room, Inside, Block}
-use Rattle.places.proofs.Counters.{more-up, more-down, more-none, more-then, named-next, named-part, row-hit, row-miss, column-hit, column-miss, room-next, next-in, next-list}
+use Rattle.places.proofs.Counters.{more-up, more-down, more-none, more-then}
+use Rattle.places.proofs.Named.{named-next, named-part, row-hit, row-miss, column-hit, column-miss}
+use Rattle.places.proofs.Blocks.{room-next}
 
--- ---- the list of a number, and its place there: the counters of the list begin at `row`
+-- ---- the list of the number q, q / most, and the number's place i there
 pub row-start : (w : Window) (n most first size : ℕ) → Inside w n → Block most first size (w .height) → first / most * w .width ≤ n
 row-start w n most first size s b =
     let low : first / most < suc (w .height) = div-lt-iff-lt-mul {x = first} {y = suc (w .height)} (b .some) .1 (omega (arith, b .some, b .within)) in
     let most-rows : first / most ≤ w .height = omega arith in
     omega (arith, mul-le-mul-right (w .width) most-rows, s .counters)
 
-module _ (first k width : ℕ) {most row i : ℕ} (h : 1 ≤ most) (f : row ≡ (first + k) / most * width) (g : i ≡ (first + k) % most) where
-  q+1 : first + (k + 1) ≡ first + k + 1
-  q+1 = omega arith
+pub in-list : {first size lists most : ℕ} → Block most first size lists → (q i : ℕ) → i ≡ q % most → i < mostNumber
+in-list b q i g = omega (arith, mod-lt q (b .some), b .small)
 
+-- at the next number; `row` is `width` for each list
+module _ (first k width : ℕ) {most row i : ℕ} (h : 1 ≤ most) (f : row ≡ (first + k) / most * width) (g : i ≡ (first + k) % most) where
   pub list-goes-on : i + 1 ≢ most → (row ≡ (first + (k + 1)) / most * width) × (i + 1 ≡ (first + (k + 1)) % most)
-  list-goes-on n = let e = next-in (first + k) h (λ p. n (omega arith)) in rw (q+1, e .0, e .1) (f, omega arith)
+  list-goes-on n =
+      let q = first + k in
+      let low : q % most + 1 < most = omega (arith, mod-lt q h, n) in
+      let e : first + (k + 1) ≡ q / most * most + (q % most + 1) = omega (arith, div-add-mod' q most) in
+      rw (e, digits-div (q / most) low, digits-mod (q / most) low) (f, omega arith)
 
   pub list-ends : i + 1 ≡ most → (row + width ≡ (first + (k + 1)) / most * width) × (0 ≡ (first + (k + 1)) % most)
-  list-ends n = let e = next-list (first + k) h (omega arith) in rw (q+1, e .0, e .1) (omega arith, refl)
+  list-ends n =
+      let q = first + k in
+      let e : first + (k + 1) ≡ (q / most + 1) * most + 0 = omega (arith, div-add-mod' q most) in
+      rw (e, digits-div (q / most + 1) h, digits-mod (q / most + 1) h) (omega arith, refl)
 
--- the k-th number of a block, v, after k were counted
-module _ (w : Window) (most first : ℕ) (values old counters : List ℕ) (k v : ℕ) (s : Inside w (length old)) (h : k < length values) (e : v ≡ getD values k 0) where
-  abbrev q : ℕ
-  q = first + k
+-- ---- the k-th number of a block, v: k were counted from the counters `old`
+-- up: it is one of the row whose counters begin at `row`
+pub record Up (w : Window) (most first : ℕ) (values old counters : List ℕ) (row k v : ℕ) : Type 0 where
+  pub row-fits : row + w .width ≤ length counters
+  pub fits : w .left < v → v ≤ w .left + w .width → getD counters (row + (v - w .left - 1)) 0 < mostNumber
+  pub counted : w .left < v → v ≤ w .left + w .width
+      → let i = row + (v - w .left - 1) in
+      More (inRows w most first (take (k + 1) values)) old (set counters i (getD counters i 0 + 1))
+  pub passed : (w .left < v → v ≤ w .left + w .width → ⊥) → More (inRows w most first (take (k + 1) values)) old counters
 
-  -- ---- up: it is one of the row q / most, whose counters begin at `row`
-  module _ (b : Block most first (length values) (w .height)) (row : ℕ) (f : row ≡ q / most * w .width) (m : More (inRows w most first (take k values)) old counters) where
-    pub row-fits : row + w .width ≤ length counters
-    row-fits =
-        let below : q / most < w .height = div-lt-iff-lt-mul {x = q} {y = w .height} (b .some) .1 (omega (arith, b .within)) in
-        omega (arith, mul-le-mul-right (w .width) below, s .counters, m .long)
+-- down: it is one of the column `column`
+pub record Down (w : Window) (most first : ℕ) (values old counters : List ℕ) (column k v : ℕ) : Type 0 where
+  pub column-fits : column < w .width
+  pub place-fits : w .top < v → v ≤ w .top + w .height → (v - w .top - 1) * w .width + column < length counters
+  pub counted : w .top < v
+      → let i = (v - w .top - 1) * w .width + column in
+      0 < getD counters i 0 → More (inColumns w most first (take (k + 1) values)) (set counters i (getD counters i 0 - 1)) old
+  pub passed : (w .top < v → v ≤ w .top + w .height → ⊥) → More (inColumns w most first (take (k + 1) values)) counters old
+  -- a counter that would fall below 0
+  pub none-left : w .top < v → v ≤ w .top + w .height → getD counters ((v - w .top - 1) * w .width + column) 0 ≡ 0 → Above (inColumns w most first values) old
 
-    next-row : (p : ℕ) → inRows w most first (take (k + 1) values) p
-        ≡ inRows w most first (take k values) p + 1 if (eqb (q / most) (p / w .width) && eqb (suc (w .left + p % w .width)) v)
-    next-row p = rw (add-one k, e) (named-next most (p / w .width) (suc (w .left + p % w .width)) first values k h)
+module _ {w : Window} {most first : ℕ} {values old counters : List ℕ} {k v : ℕ} (s : Inside w (length old)) (h : k < length values)
+    (e : v ≡ getD values k 0) where
+  pub up-turn : {row : ℕ} → Block most first (length values) (w .height) → Room w most first old → row ≡ (first + k) / most * w .width
+      → More (inRows w most first (take k values)) old counters → Up w most first values old counters row k v
+  up-turn {row} b room f m =
+      let q = first + k in
+      let i = row + (v - w .left - 1) in
+      let before = inRows w most first (take k values) in
+      let after = inRows w most first (take (k + 1) values) in
+      let below : q / most < w .height = div-lt-iff-lt-mul {x = q} {y = w .height} (b .some) .1 (omega (arith, b .within)) in
+      let next : (p : ℕ) → after p ≡ before p + 1 if (eqb (q / most) (p / w .width) && eqb (suc (w .left + p % w .width)) v)
+      = λ p. rw (add-one k, e) (named-next most (p / w .width) (suc (w .left + p % w .width)) first values k h) in
+      record {
+        row-fits = omega (arith, mul-le-mul-right (w .width) below, s .counters, m .long);
+        fits = λ l r.
+            let d : i / w .width ≡ q / most = rw f (digits-div (q / most) {m = w .width} {r = v - w .left - 1} (omega arith)) in
+            let t : length (take k values) ≡ k = length-take-le k values (omega arith) in
+            let read = room-next w most first (take k values) old counters room m i in
+            omega (arith, t, ap (λ (n : ℕ). n * most) d, div-add-mod' q most, mod-lt q (b .some), b .small);
+        counted = λ l r. more-then before (λ p. 1 if eqb p i) after m (more-up counters i)
+            (λ p j.
+            let one : 1 if (eqb (q / most) (p / w .width) && eqb (suc (w .left + p % w .width)) v) ≡ 1 if eqb p i = rw f (row-hit w (q / most) v p l r) in
+            next p ∙ ap (λ (n : ℕ). before p + n) one);
+        passed = λ n. more-then before (λ _. 0) after m (more-none (λ _. 0) counters (λ p j. refl))
+            (λ p j. next p ∙ ap (λ (n : ℕ). before p + n) (row-miss w (q / most) v p (s .wide) n));
+      }
 
-    pub up-in : w .left < v → v ≤ w .left + w .width
-        → let i = row + (v - w .left - 1) in
-        More (inRows w most first (take (k + 1) values)) old (set counters i (getD counters i 0 + 1))
-    up-in l r =
-        let i = row + (v - w .left - 1) in
-        let one : (p : ℕ) → 1 if (eqb (q / most) (p / w .width) && eqb (suc (w .left + p % w .width)) v) ≡ 1 if eqb p i = λ p. rw f (row-hit w (q / most) v p l r) in
-        more-then (inRows w most first (take k values)) (λ p. 1 if eqb p i) (inRows w most first (take (k + 1) values)) m (more-up counters i)
-        (λ p j. next-row p ∙ ap (λ (n : ℕ). inRows w most first (take k values) p + n) (one p))
-
-    pub up-out : (w .left < v → v ≤ w .left + w .width → ⊥) → More (inRows w most first (take (k + 1) values)) old counters
-    up-out n =
-        more-then (inRows w most first (take k values)) (λ _. 0) (inRows w most first (take (k + 1) values)) m (more-none (λ _. 0) counters (λ p j. refl))
-        (λ p j. next-row p ∙ ap (λ (n : ℕ). inRows w most first (take k values) p + n) (row-miss w (q / most) v p (s .wide) n))
-
-    -- one more fits
-    pub up-fits : Room w most first old → w .left < v → v ≤ w .left + w .width → getD counters (row + (v - w .left - 1)) 0 < mostNumber
-    up-fits r l j =
-        let i = row + (v - w .left - 1) in
-        let d : i / w .width ≡ q / most = rw f (digits-div (q / most) {m = w .width} {r = v - w .left - 1} (omega arith)) in
-        let t : length (take k values) ≡ k = length-take-le k values (omega arith) in
-        omega (arith, room-next w most first (take k values) old counters r m i, t, ap (λ (n : ℕ). n * most) d, div-add-mod' q most, mod-lt q (b .some), b .small)
-
-  -- ---- down: it is one of the column q / most
-  module _ (b : Block most first (length values) (w .width)) (column : ℕ) (f : column ≡ q / most) (m : More (inColumns w most first (take k values)) counters old) where
-    pub column-below : column < w .width
-    column-below = rw f (div-lt-iff-lt-mul {x = q} {y = w .width} (b .some) .1 (omega (arith, b .within)))
-
-    pub place-below : w .top < v → v ≤ w .top + w .height → (v - w .top - 1) * w .width + column < length counters
-    place-below l r =
-        omega (arith, digits-lt {q = v - w .top - 1} {m = w .height} {r = column} {c = w .width} (omega arith) column-below, s .counters, m .long)
-
-    next-column : (p : ℕ) → inColumns w most first (take (k + 1) values) p
-        ≡ inColumns w most first (take k values) p + 1 if (eqb column (p % w .width) && eqb (suc (w .top + p / w .width)) v)
-    next-column p = rw (add-one k, e, f) (named-next most (p % w .width) (suc (w .top + p / w .width)) first values k h)
-
-    column-one : w .top < v → (p : ℕ)
-        → inColumns w most first (take (k + 1) values) p ≡ inColumns w most first (take k values) p + 1 if eqb p ((v - w .top - 1) * w .width + column)
-    column-one l p = next-column p ∙ ap (λ (n : ℕ). inColumns w most first (take k values) p + n) (column-hit w column v p column-below l)
-
-    pub down-in : w .top < v
-        → let i = (v - w .top - 1) * w .width + column in
-        0 < getD counters i 0 → More (inColumns w most first (take (k + 1) values)) (set counters i (getD counters i 0 - 1)) old
-    down-in l z =
-        let i = (v - w .top - 1) * w .width + column in
-        more-then (λ p. 1 if eqb p i) (inColumns w most first (take k values)) (inColumns w most first (take (k + 1) values)) (more-down counters i z) m
-        (λ p j. omega (arith, column-one l p))
-
-    pub down-out : (w .top < v → v ≤ w .top + w .height → ⊥) → More (inColumns w most first (take (k + 1) values)) counters old
-    down-out n =
-        more-then (λ _. 0) (inColumns w most first (take k values)) (inColumns w most first (take (k + 1) values)) (more-none (λ _. 0) counters (λ p j. refl)) m
-        (λ p j. omega (arith, next-column p, column-miss w column v p (s .wide) (omega (arith, s .counters, m .long)) n))
-
-    -- a counter that would fall below 0
-    pub down-none : w .top < v → v ≤ w .top + w .height → getD counters ((v - w .top - 1) * w .width + column) 0 ≡ 0
-        → Above (inColumns w most first values) old
-    down-none l r z =
-        let i = (v - w .top - 1) * w .width + column in
-        let one : 1 if eqb i i ≡ 1 = rw (eq-eqb i i refl) in (
-          i,
-          omega (arith, place-below l r, m .long),
-          omega (arith, m .each i (place-below l r), column-one l i, one, named-part most (i % w .width) (suc (w .top + i / w .width)) first (k + 1) values),
-        )
+  pub down-turn : {column : ℕ} → Block most first (length values) (w .width) → column ≡ (first + k) / most
+      → More (inColumns w most first (take k values)) counters old → Down w most first values old counters column k v
+  down-turn {column} b f m =
+      let q = first + k in
+      let i = (v - w .top - 1) * w .width + column in
+      let before = inColumns w most first (take k values) in
+      let after = inColumns w most first (take (k + 1) values) in
+      let below : column < w .width = rw f (div-lt-iff-lt-mul {x = q} {y = w .width} (b .some) .1 (omega (arith, b .within))) in
+      let place : w .top < v → v ≤ w .top + w .height → i < length counters
+      = λ l r. omega (arith, digits-lt {q = v - w .top - 1} {m = w .height} {r = column} {c = w .width} (omega arith) below, s .counters, m .long) in
+      let next : (p : ℕ) → after p ≡ before p + 1 if (eqb column (p % w .width) && eqb (suc (w .top + p / w .width)) v)
+      = λ p. rw (add-one k, e, f) (named-next most (p % w .width) (suc (w .top + p / w .width)) first values k h) in
+      let one : w .top < v → (p : ℕ) → after p ≡ before p + 1 if eqb p i = λ l p. next p ∙ ap (λ (n : ℕ). before p + n) (column-hit w column v p below l) in
+      record {
+        column-fits = below;
+        place-fits = place;
+        counted = λ l z. more-then (λ p. 1 if eqb p i) before after (more-down counters i z) m (λ p j. omega (arith, one l p));
+        passed = λ n. more-then (λ _. 0) before after (more-none (λ _. 0) counters (λ p j. refl)) m
+            (λ p j. omega (arith, next p, column-miss w column v p (s .wide) (omega (arith, s .counters, m .long)) n));
+        none-left = λ l r z.
+            let here : 1 if eqb i i ≡ 1 = rw (eq-eqb i i refl) in
+            let part = named-part most (i % w .width) (suc (w .top + i / w .width)) first (k + 1) values in
+            (i, omega (arith, place l r, m .long), omega (arith, m .each i (place l r), one l i, here, part));
+      }

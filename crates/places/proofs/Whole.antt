@@ -1,5 +1,6 @@
--- The window of all places: columns and rows agree in it, and name no index above the other side's count, exactly where the model's `agree` holds. Assumes nothing.
-use Rattle.integers.proofs.Prelude.{_≡_, refl, sym, ap, ap₂, _∙_, Bool, true, false, _&&_, List, [], _∷_, ℕ, zero, suc, _+_, _*_, _≤_, _<_, max, arith, decLt}
+-- The window of all places: the model's `agree` holds exactly where columns and rows agree in it and name no index above the other side's count. Assumes
+-- nothing.
+use Rattle.integers.proofs.Prelude.{_≡_, refl, sym, ap, ap₂, _∙_, Bool, true, false, _&&_, List, [], _∷_, ℕ, zero, suc, _+_, _*_, _≤_, _<_, max, arith}
 use Rattle.integers.proofs.Prelude.{leb-true, leb-false, lt-leb, le-leb, leb, length, getD, take, drop, take-add, drop-drop}
 use Rattle.lists.specs.Entries.{every}
 use Rattle.lists.proofs.Entries.{every-append}

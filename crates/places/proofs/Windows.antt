@@ -5,7 +5,7 @@ use lib.Arith.{digits-lt, digits-div, digits-mod}
 use Rattle.model.specs.Alist.{times}
 use Rattle.places.specs.declared.Window.{Window}
 use Rattle.places.specs.Counters.{listAt, Agrees, Tells, inRows, inColumns, More, Zeros}
-use Rattle.places.proofs.Counters.{named-list}
+use Rattle.places.proofs.Named.{named-list}
 
 -- ---- l are the numbers of the rows from the window's first on, k those of the columns
 module _ (w : Window) (h : 1 ≤ w .width) (rowMost : ℕ) (l : List ℕ) (columnMost : ℕ) (k : List ℕ) where
@@ -17,7 +17,8 @@ module _ (w : Window) (h : 1 ≤ w .width) (rowMost : ℕ) (l : List ℕ) (colum
       → inRows w rowMost 0 (take (w .height * rowMost) l) p ≡ times (suc (w .left + p % w .width)) (listAt rowMost l (p / w .width))
   row-count p i = named-list rowMost (w .height) (p / w .width) (suc (w .left + p % w .width)) l (div-lt-iff-lt-mul {x = p} {y = w .height} h .1 i)
 
-  column-count : (p : ℕ) → inColumns w columnMost 0 (take (w .width * columnMost) k) p ≡ times (suc (w .top + p / w .width)) (listAt columnMost k (p % w .width))
+  column-count : (p : ℕ)
+      → inColumns w columnMost 0 (take (w .width * columnMost) k) p ≡ times (suc (w .top + p / w .width)) (listAt columnMost k (p % w .width))
   column-count p = named-list columnMost (w .width) (p % w .width) (suc (w .top + p / w .width)) k (mod-lt p h)
 
   pub agrees-counted : Agrees w rowMost l columnMost k → Counted
@@ -30,14 +31,16 @@ module _ (w : Window) (h : 1 ≤ w .width) (rowMost : ℕ) (l : List ℕ) (colum
       let d : p / w .width ≡ r = digits-div r j in
       let m : p % w .width ≡ c = digits-mod r j in
       let low : p < w .height * w .width = digits-lt i j in
-      let same : times (suc (w .left + p % w .width)) (listAt rowMost l (p / w .width)) ≡ times (suc (w .top + p / w .width)) (listAt columnMost k (p % w .width))
+      let same : times (suc (w .left + p % w .width)) (listAt rowMost l (p / w .width))
+      ≡ times (suc (w .top + p / w .width)) (listAt columnMost k (p % w .width))
       = sym (row-count p low) ∙ e p low ∙ column-count p in
       rw (d, m) at same
 
   -- the rows were counted up from zeros, and all counters are as high as the columns' counts
   pub window-tells : (t : Bool) (zeros up lent : List ℕ) → Zeros zeros → length zeros ≡ w .height * w .width
       → More (inRows w rowMost 0 (take (w .height * rowMost) l)) zeros up → lent ≡ up
-      → Tells t ((p : ℕ) → p < length lent → getD lent p 0 ≡ inColumns w columnMost 0 (take (w .width * columnMost) k) p) → Tells t (Agrees w rowMost l columnMost k)
+      → Tells t ((p : ℕ) → p < length lent → getD lent p 0 ≡ inColumns w columnMost 0 (take (w .width * columnMost) k) p)
+      → Tells t (Agrees w rowMost l columnMost k)
   window-tells t zeros up lent z e m same tells =
       let n : length lent ≡ w .height * w .width = ap length same ∙ m .long ∙ e in
       let at : (p : ℕ) → p < w .height * w .width → getD lent p 0 ≡ inRows w rowMost 0 (take (w .height * rowMost) l) p
@@ -60,7 +63,8 @@ module _ (rowMost : ℕ) (l : List ℕ) (columnMost : ℕ) (k : List ℕ) where
   at top height left width = record { top = top; height = height; left = left; width = width }
 
   -- side by side: the columns from the first on
-  pub wider : (top height a b : ℕ) → Agrees (at top height 0 a) rowMost l columnMost k → Agrees (at top height a b) rowMost l columnMost (drop (a * columnMost) k)
+  pub wider : (top height a b : ℕ) → Agrees (at top height 0 a) rowMost l columnMost k
+      → Agrees (at top height a b) rowMost l columnMost (drop (a * columnMost) k)
       → Agrees (at top height 0 (a + b)) rowMost l columnMost k
   wider top height a b f g r c i j = by (decLt c a)
     where

@@ -245,8 +245,8 @@ fn window_width(rows: usize, columns: usize) -> usize
 // Whether columns and rows agree in all windows.
 fn windows_agree(text: &[u8], columns: Side, rows: Side, wide: usize) -> bool
     requires { ⌜ Held (now text) columns × Held (now text) rows × (1 ≤ wide) × (wide ≤ mostCounters) ⌝ }
-    ensures { λ r. ⌜ Tells r (Agrees (record { top = 0; height = rows .count; left = 0; width = columns .count }) (rows .most) (from (now (text .entry)) (rows .lists))
-        (columns .most) (from (now (text .entry)) (columns .lists))) ⌝ }
+    ensures { λ r. ⌜ Tells r (Agrees (record { top = 0; height = rows .count; left = 0; width = columns .count })
+        (rows .most) (from (now (text .entry)) (rows .lists)) (columns .most) (from (now (text .entry)) (columns .lists))) ⌝ }
 {
     let mut counters = [0u16; COUNTERS];
     let high = COUNTERS / wide;

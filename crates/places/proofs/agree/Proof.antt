@@ -1,13 +1,13 @@
 -- `places::agree` meets its contract: no index is too large, and columns and rows agree in all windows. Assumes nothing.
-use Rattle.integers.proofs.Prelude.{_≡_, sym, _∙_, false, ℕ, _*_, _^_, _≤_, arith, needs, ltb-true, ltb-false, take}
+use Rattle.integers.proofs.Prelude.{_≡_, sym, ℕ, _*_, _^_, _≤_, arith, needs, ltb-true, ltb-false, take}
 use mathlib.Core.Logic.{⊎-elim}
 use native.Mathlib.Nat.{mul-le-mul}
 use Rattle.model.specs.Limits.{mostNumber}
-use Rattle.model.specs.Alist.{largest, agree}
+use Rattle.model.specs.Alist.{largest}
 use Rattle.numbers.specs.declared.Side.{Side}
 use Rattle.numbers.specs.Walked.{from}
 use Rattle.numbers.proofs.Walk.{scanned-small}
-use Rattle.places.specs.Held.{Held, listsOf}
+use Rattle.places.specs.Held.{Held}
 use Rattle.places.proofs.Whole.{columns-above, rows-above, all-tells}
 use Rattle.places.proofs.agree.Statement.{statement}
 use Rattle.places.proofs.agree.Tie as tie

@@ -1,6 +1,7 @@
 -- `places::band` meets its contract: columns and rows agree in the windows so far, and all counters are 0. Assumes nothing.
-use Rattle.integers.proofs.Prelude.{_≡_, refl, sym, ap, _∙_, List, _++_, ℕ, _+_, _-_, _*_, _≤_, arith, needs, not-true, not-false, length, take, drop}
-use Rattle.integers.proofs.Prelude.{length-append, length-drop, length-take-le, take-at}
+use Rattle.integers.proofs.Prelude.{_≡_, sym, ap, _∙_, List, _++_, ℕ, _+_, _-_, _*_, _≤_, arith, needs, not-true, not-false, length, take, drop}
+use Rattle.integers.proofs.Prelude.{length-take-le, take-at}
+use lib.Seq.{length-front}
 use native.Mathlib.Nat.{mul-le-mul-left, mul-le-mul-right}
 use Rattle.numbers.specs.Walked.{from}
 use Rattle.numbers.proofs.Walk.{small-part}
@@ -92,9 +93,7 @@ module _ (y : tie.After-rows-up Inv-loop μ-loop) where
   back = take-at up (drop (size last) (turn last .loop .counters)) (size last) long
 
   whole : length (up ++ drop (size last) (turn last .loop .counters)) ≡ mostCounters
-  whole =
-      length-append up (drop (size last) (turn last .loop .counters))
-      ∙ omega (arith, long, length-drop (size last) (turn last .loop .counters), small last, turn last .loop .inv .3)
+  whole = length-front (turn last .loop .counters) up (size last) (y .rows-up .ensures .0 .long) ∙ turn last .loop .inv .3
 
 columns-down-requires : tie.Need-columns-down-requires Inv-loop μ-loop
 columns-down-requires c κs =
@@ -104,7 +103,11 @@ columns-down-requires c κs =
     let v = turn x .loop .inv in
     let most = s .args .columns .most in
     let part : turn x .loop .left * most + width x * most ≤ s .args .columns .count * most = omega (arith, mul-le-mul-right most (sized x .2)) in (
-      (v .2, rw (v .1) (small-part (turn x .loop .left * most) (width x * most) (s .args .columns .count * most) (columns x) part (s .pre .0 .3 .numbers)), s .pre .0 .3 .most),
+      (
+        v .2,
+        rw (v .1) (small-part (turn x .loop .left * most) (width x * most) (s .args .columns .count * most) (columns x) part (s .pre .0 .3 .numbers)),
+        s .pre .0 .3 .most,
+      ),
       (inside x _ (ap length (back y) ∙ long y), sym (y .rows-up .ensures .1) ∙ ap sum (sym (back y))),
     )
 
@@ -122,8 +125,9 @@ module _ (z : tie.After-columns-down Inv-loop μ-loop) where
   tells =
       let x = last rows in
       let s = start x in
-      window-tells (window x) (sized x .0) (s .args .most) (from (s .args .text .now) (s .args .at)) (s .args .columns .most) (here x) (z .columns-down .result .fine)
-      (take (size x) (turn x .loop .counters)) (up rows) _ (zeros x) (lent x) (rows .rows-up .ensures .0) (back rows) (rw (← turn x .loop .inv .1) (z .columns-down .ensures .0))
+      window-tells (window x) (sized x .0) (s .args .most) (from (s .args .text .now) (s .args .at)) (s .args .columns .most) (here x)
+      (z .columns-down .result .fine) (take (size x) (turn x .loop .counters)) (up rows) _ (zeros x) (lent x) (rows .rows-up .ensures .0) (back rows)
+      (rw (← turn x .loop .inv .1) (z .columns-down .ensures .0))
 
   -- the counters as they come back
   abbrev after : List ℕ
@@ -131,10 +135,20 @@ module _ (z : tie.After-columns-down Inv-loop μ-loop) where
 
   kept : length after ≡ mostCounters
   kept =
-      let x = last rows in
-      let before = up rows ++ drop (size x) (turn x .loop .counters) in
-      length-append down (drop (size x) before)
-      ∙ omega (arith, z .columns-down .kept .1 .1 .1 .1 .1 .0 ∙ ap length (back rows) ∙ long rows, length-drop (size x) before, whole rows, small x)
+      length-front (up rows ++ drop (size (last rows)) (turn (last rows) .loop .counters)) down (size (last rows)) (z .columns-down .kept .1 .1 .1 .1 .1 .0)
+      ∙ whole rows
+
+  -- where the next column begins
+  abbrev most : ℕ
+  most = start (last rows) .args .columns .most
+
+  abbrev left : ℕ
+  left = turn (last rows) .loop .left
+
+  next : from (start (last rows) .args .text .now) (z .columns-down .result .end)
+      ≡ drop (width (last rows) * most) (from (start (last rows) .args .text .now) (turn (last rows) .loop .columns-at))
+      → from (start (last rows) .args .text .now) (z .columns-down .result .end) ≡ drop ((left + width (last rows)) * most) (columns (last rows))
+  next e = e ∙ ap (drop (width (last rows) * most)) (turn (last rows) .loop .inv .1) ∙ list-past most left (width (last rows)) (columns (last rows))
 
 same-length : tie.Need-same-length Inv-loop μ-loop
 same-length c = let z = c .before .before .before .before in kept z ∙ sym (start (last (rows z)) .pre .1 .1 .0)
@@ -147,7 +161,8 @@ returns c =
       record {
         so = λ e. let z : _≡_ {A = ℕ} 0 1 = cc in absurd (omega arith);
         not-so = λ _ a. tells z .not-so (not-true _ (c .if1 .taken))
-            (wide-part (s .args .most) _ (s .args .columns .most) (columns x) (s .args .top) (s .args .height) (turn x .loop .left) (width x) (s .args .columns .count) (sized x .2) a);
+            (wide-part (s .args .most) _ (s .args .columns .most) (columns x) (s .args .top) (s .args .height) (left z) (width x) (s .args .columns .count)
+            (sized x .2) a);
       },
       λ e. let z : _≡_ {A = ℕ} 0 1 = cc in absurd (omega arith),
     )
@@ -160,8 +175,8 @@ loop-again c =
     let v = turn x .loop .inv in
     let fine = not-false _ (c .if1 .left) in
     let e = z .columns-down .ensures .1 fine in (
-      wider (s .args .most) _ (s .args .columns .most) (columns x) (s .args .top) (s .args .height) (turn x .loop .left) (width x) (v .0) (tells z .so fine),
-      e .1 ∙ ap (drop (width x * s .args .columns .most)) (v .1) ∙ list-past (s .args .columns .most) (turn x .loop .left) (width x) (columns x),
+      wider (s .args .most) _ (s .args .columns .most) (columns x) (s .args .top) (s .args .height) (left z) (width x) (v .0) (tells z .so fine),
+      next z (e .1),
       e .2,
       kept z,
       zeros-back (size x) (turn x .loop .counters) (up (rows z)) (down z) (long (rows z)) (v .4) (e .0),
@@ -179,8 +194,8 @@ pub band-spec : {M : Type 1} → statement M
 band-spec =
     tie.close (tie.spec Inv-loop μ-loop loop-holds (λ c. search needs) (λ c κs. search needs) (λ c. omega (arith, small c))
     (λ c. omega (arith, small c, turn c .loop .inv .3)) (λ c. sym (lent (c .before))) rows-up-requires
-    (λ c. omega (arith, whole (c .before .before), small (last (c .before .before)))) (λ c. let y = c .before .before .before in sym (ap length (back y) ∙ long y))
-    columns-down-requires same-length returns
+    (λ c. omega (arith, whole (c .before .before), small (last (c .before .before))))
+    (λ c. let y = c .before .before .before in sym (ap length (back y) ∙ long y)) columns-down-requires same-length returns
     (λ c. let x = last (rows (c .before .before .before .before)) in omega (arith, sized x, start x .pre .0 .3 .count))
     (λ c. let x = last (rows (c .before .before .before .before)) in omega (arith, sized x)) loop-again
     (λ c. c .before .loop .inv .3 ∙ sym (c .before .before .before .before .pre .1 .1 .0)) returns-2)

@@ -1,12 +1,11 @@
 -- `places::count_down` meets its contract: k numbers of the block are counted. Assumes nothing.
-use Rattle.integers.proofs.Prelude.{_≡_, refl, sym, ap, _∙_, true, false, List, ℕ, _+_, _-_, _*_, _/_, _%_, _≤_, _<_, arith, needs, leb-true, leb-false, length}
-use Rattle.integers.proofs.Prelude.{getD, take, set, take-all}
+use Rattle.integers.proofs.Prelude.{_≡_, refl, sym, ap, _∙_, List, ℕ, _+_, _-_, _*_, _/_, _%_, _≤_, _<_, arith, needs, leb-true, leb-false, length, getD, take}
+use Rattle.integers.proofs.Prelude.{set, take-all}
 use mathlib.Core.Logic.{⊎-elim}
-use native.Mathlib.Nat.{add-zero, mod-lt}
-use Rattle.model.specs.Limits.{mostNumber}
-use Rattle.places.specs.Counters.{inColumns, More, Above, sum}
+use native.Mathlib.Nat.{add-zero}
+use Rattle.places.specs.Counters.{inColumns, More, sum}
 use Rattle.places.proofs.Counters.{sum-set, sum-at, more-none}
-use Rattle.places.proofs.Counting.{list-goes-on, list-ends, column-below, place-below, down-in, down-out, down-none}
+use Rattle.places.proofs.Counting.{in-list, list-goes-on, list-ends, Down, down-turn}
 use Rattle.places.proofs.count_down.Statement.{statement}
 use Rattle.places.proofs.count_down.Tie as tie
 
@@ -21,15 +20,10 @@ abbrev μ-loop : tie.MeasureT-loop
 loop-holds : tie.Need-loop-holds Inv-loop μ-loop
 loop-holds c =
     let a = c .before .before .args in
-    let e : a .first ≡ a .first + 0 = sym (add-zero (a .first)) in (
-      more-none _ _ (λ p h. refl),
-      c .before .before .pre .2,
-      ap (λ (n : ℕ). n / a .most) e,
-      ap (λ (n : ℕ). n % a .most) e,
-      omega arith,
-    )
+    let e : a .first ≡ a .first + 0 = sym (add-zero (a .first)) in
+    (more-none _ _ (λ p h. refl), c .before .before .pre .2, ap (λ (n : ℕ). n / a .most) e, ap (λ (n : ℕ). n % a .most) e, omega arith)
 
--- the number at hand
+-- ---- the number at hand
 module _ (x : tie.After-index Inv-loop μ-loop) where
   abbrev turn : tie.At-loop Inv-loop μ-loop
   turn = x .before .before .before
@@ -37,74 +31,40 @@ module _ (x : tie.After-index Inv-loop μ-loop) where
   abbrev start : tie.Start Inv-loop μ-loop
   start = turn .before .before .before
 
-  abbrev row : ℕ
-  row = x .index .result - start .args .window .top - 1
+  down : Down (start .args .window) (start .args .most) (start .args .first) (start .args .values .now) (start .args .counters .now) (turn .loop .counters)
+      (turn .loop .column) (turn .loop .k) (x .index .result)
+  down =
+      let p = start .pre in
+      let v = turn .loop .inv in
+      down-turn (p .0) (x .before .before .loop-test .taken) (x .index .ensures .0) (p .1) (v .2) (v .0)
 
   abbrev place : ℕ
-  place = row * start .args .window .width + turn .loop .column
-
-  in-list : turn .loop .i < mostNumber
-  in-list = omega (arith, turn .loop .inv .3, mod-lt (start .args .first + turn .loop .k) (start .pre .1 .some), start .pre .1 .small)
-
-  narrow : turn .loop .column < start .args .window .width
-  narrow =
-      let a = start .args in
-      let p = start .pre in
-      column-below (a .window) (a .most) (a .first) (a .values .now) (a .counters .now) (turn .loop .counters) (turn .loop .k) (x .index .result) (p .0)
-      (x .before .before .loop-test .taken) (x .index .ensures .0) (p .1) (turn .loop .column) (turn .loop .inv .2) (turn .loop .inv .0)
-
-  fits : start .args .window .top < x .index .result → x .index .result ≤ start .args .window .top + start .args .window .height
-      → place < length (turn .loop .counters)
-  fits l r =
-      let a = start .args in
-      let p = start .pre in
-      place-below (a .window) (a .most) (a .first) (a .values .now) (a .counters .now) (turn .loop .counters) (turn .loop .k) (x .index .result) (p .0)
-      (x .before .before .loop-test .taken) (x .index .ensures .0) (p .1) (turn .loop .column) (turn .loop .inv .2) (turn .loop .inv .0) l r
+  place = (x .index .result - start .args .window .top - 1) * start .args .window .width + turn .loop .column
 
   abbrev Next : List ℕ → ℕ → Type 0
   Next counters left =
-      More (inColumns (start .args .window) (start .args .most) (start .args .first) (take (turn .loop .k + 1) (start .args .values .now))) counters (start .args .counters .now)
+      More (inColumns (start .args .window) (start .args .most) (start .args .first) (take (turn .loop .k + 1) (start .args .values .now)))
+      counters (start .args .counters .now)
       × (left ≡ sum counters)
 
   counted : start .args .window .top < x .index .result → x .index .result ≤ start .args .window .top + start .args .window .height
       → 0 < getD (turn .loop .counters) place 0
       → Next (set (turn .loop .counters) place (getD (turn .loop .counters) place 0 - 1)) (turn .loop .left - 1)
-  counted l r z =
-      let a = start .args in
-      let p = start .pre in (
-        down-in (a .window) (a .most) (a .first) (a .values .now) (a .counters .now) (turn .loop .counters) (turn .loop .k) (x .index .result) (p .0)
-            (x .before .before .loop-test .taken) (x .index .ensures .0) (p .1) (turn .loop .column) (turn .loop .inv .2) (turn .loop .inv .0) l z,
-        omega (arith, sum-set (turn .loop .counters) place (getD (turn .loop .counters) place 0 - 1) (fits l r), turn .loop .inv .1),
-      )
+  counted l r z = (
+    down .counted l z,
+    omega (arith, sum-set (turn .loop .counters) place (getD (turn .loop .counters) place 0 - 1) (down .place-fits l r), turn .loop .inv .1),
+  )
 
-  passed : (start .args .window .top < x .index .result → x .index .result ≤ start .args .window .top + start .args .window .height → ⊥)
-      → Next (turn .loop .counters) (turn .loop .left)
-  passed n =
-      let a = start .args in
-      let p = start .pre in (
-        down-out (a .window) (a .most) (a .first) (a .values .now) (a .counters .now) (turn .loop .counters) (turn .loop .k) (x .index .result) (p .0)
-            (x .before .before .loop-test .taken) (x .index .ensures .0) (p .1) (turn .loop .column) (turn .loop .inv .2) (turn .loop .inv .0) n,
-        turn .loop .inv .1,
-      )
-
-  none-left : start .args .window .top < x .index .result → x .index .result ≤ start .args .window .top + start .args .window .height
-      → getD (turn .loop .counters) place 0 ≡ 0
-      → Above (inColumns (start .args .window) (start .args .most) (start .args .first) (start .args .values .now)) (start .args .counters .now)
-  none-left l r z =
-      let a = start .args in
-      let p = start .pre in
-      down-none (a .window) (a .most) (a .first) (a .values .now) (a .counters .now) (turn .loop .counters) (turn .loop .k) (x .index .result) (p .0)
-      (x .before .before .loop-test .taken) (x .index .ensures .0) (p .1) (turn .loop .column) (turn .loop .inv .2) (turn .loop .inv .0) l r z
-
--- and its place
-module _ (y : tie.Then2 Inv-loop μ-loop) where
-  inside : place (y .before .before) < length (turn (y .before .before) .loop .counters)
-  inside = fits (y .before .before) (y .before .if1 .taken) (leb-true _ _ (y .if2 .taken))
+-- in the window's rows
+inside : (y : tie.Then2 Inv-loop μ-loop) → place (y .before .before) < length (turn (y .before .before) .loop .counters)
+inside y = down (y .before .before) .place-fits (y .before .if1 .taken) (leb-true _ _ (y .if2 .taken))
 
 returns : tie.Need-returns Inv-loop μ-loop
 returns c =
-    let y = c .before .before in
-    (λ e. let z : _≡_ {A = ℕ} 0 1 = cc in absurd (omega arith), λ e. none-left (y .before .before) (y .before .if1 .taken) (leb-true _ _ (y .if2 .taken)) (c .if3 .taken))
+    let y = c .before .before in (
+      λ e. let z : _≡_ {A = ℕ} 0 1 = cc in absurd (omega arith),
+      λ e. down (y .before .before) .none-left (y .before .if1 .taken) (leb-true _ _ (y .if2 .taken)) (c .if3 .taken),
+    )
 
 sub-left : tie.Need-sub-left Inv-loop μ-loop
 sub-left c =
@@ -115,15 +75,18 @@ loop-again : tie.Need-loop-again Inv-loop μ-loop
 loop-again c =
     let j = c .before in
     let x = j .before in
-    let n : Next x (j .if1 .counters) (j .if1 .left)
-    = ⊎-elim (λ w. rw (w .5, w .6) (counted x (w .0 .taken) (leb-true _ _ (w .1 .taken)) (omega (arith, w .3))))
-    (λ w. rw (w .1, w .2) (passed x (⊎-elim (λ v l r. omega (arith, leb-false, v .1)) (λ v l r. omega (arith, v .left)) (w .0 .came)))) (j .if1 .came) in
     let l = turn x .loop in
     let a = start x .args in
+    let some = start x .pre .1 .some in
+    let n : Next x (j .if1 .counters) (j .if1 .left)
+    = ⊎-elim (λ w. rw (w .5, w .6) (counted x (w .0 .taken) (leb-true _ _ (w .1 .taken)) (omega (arith, w .3))))
+    (λ w.
+    let out = down x .passed (⊎-elim (λ v l r. omega (arith, leb-false, v .1)) (λ v l r. omega (arith, v .left)) (w .0 .came)) in
+    rw (w .1, w .2) (out, l .inv .1)) (j .if1 .came) in
     let f : l .column ≡ (a .first + l .k) / a .most * 1 = l .inv .2 ∙ omega arith in
     let g : (c .if4 .column ≡ (a .first + (l .k + 1)) / a .most * 1) × (c .if4 .i ≡ (a .first + (l .k + 1)) % a .most)
-    = ⊎-elim (λ w. rw (w .1, w .2) (list-ends (a .first) (l .k) 1 (start x .pre .1 .some) f (l .inv .3) (w .0 .taken)))
-    (λ w. rw (w .1, w .2) (list-goes-on (a .first) (l .k) 1 (start x .pre .1 .some) f (l .inv .3) (w .0 .left))) (c .if4 .came) in
+    = ⊎-elim (λ w. rw (w .1, w .2) (list-ends (a .first) (l .k) 1 some f (l .inv .3) (w .0 .taken)))
+    (λ w. rw (w .1, w .2) (list-goes-on (a .first) (l .k) 1 some f (l .inv .3) (w .0 .left))) (c .if4 .came) in
     (n .0, n .1, g .0 ∙ omega arith, g .1, omega arith)
 
 returns-2 : tie.Need-returns-2 Inv-loop μ-loop
@@ -135,9 +98,11 @@ returns-2 c =
 
 pub count-down-spec : {M : Type 1} → statement M
 count-down-spec =
-    tie.close (tie.spec Inv-loop μ-loop (λ c. search needs) (λ c. search needs) loop-holds (λ c. search needs) (λ c. search needs)
-    (λ c κs. search needs) (λ c. search needs) (λ c. search needs) (λ c. search needs) (λ c. omega (arith, inside c)) (λ c. omega (arith, inside c))
-    (λ c. omega (arith, inside c)) (λ c. inside (c .before)) (λ c. sym (c .before .before .before .before .before .before .before .loop .inv .0 .long))
-    returns (λ c. omega (arith, inside (c .before .before))) (λ c. inside (c .before .before .before)) (λ c. omega (arith, c .before .if3))
+    tie.close (tie.spec Inv-loop μ-loop (λ c. search needs) (λ c. search needs) loop-holds (λ c. search needs) (λ c. search needs) (λ c κs. search needs)
+    (λ c. search needs) (λ c. search needs) (λ c. search needs) (λ c. omega (arith, inside c)) (λ c. omega (arith, inside c)) (λ c. omega (arith, inside c))
+    (λ c. inside (c .before)) (λ c. sym (c .before .before .before .before .before .before .before .loop .inv .0 .long)) returns
+    (λ c. omega (arith, inside (c .before .before))) (λ c. inside (c .before .before .before)) (λ c. omega (arith, c .before .if3))
     (λ c. inside (c .before .before .before)) sub-left
-    (λ c. omega (arith, in-list (c .before))) (λ c. omega (arith, narrow (c .before .before))) (λ c. search needs) (λ c. search needs) loop-again (λ c. sym (c .before .loop .inv .0 .long)) returns-2)
+    (λ c. let x = c .before in omega (arith, in-list (start x .pre .1) _ (turn x .loop .i) (turn x .loop .inv .3)))
+    (λ c. omega (arith, down (c .before .before) .column-fits)) (λ c. search needs) (λ c. search needs) loop-again
+    (λ c. sym (c .before .loop .inv .0 .long)) returns-2)

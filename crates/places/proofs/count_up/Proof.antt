@@ -1,11 +1,11 @@
 -- `places::count_up` meets its contract: k numbers of the block are counted. Assumes nothing.
-use Rattle.integers.proofs.Prelude.{_≡_, refl, sym, ap, _∙_, List, ℕ, _+_, _-_, _*_, _/_, _%_, _≤_, _<_, arith, needs, leb-true, leb-false, length, getD, take, set, take-all}
+use Rattle.integers.proofs.Prelude.{_≡_, refl, sym, ap, List, ℕ, _+_, _-_, _*_, _/_, _%_, _≤_, _<_, arith, needs, leb-true, leb-false, length, getD, take, set}
+use Rattle.integers.proofs.Prelude.{take-all}
 use mathlib.Core.Logic.{⊎-elim}
-use native.Mathlib.Nat.{add-zero, mod-lt}
-use Rattle.model.specs.Limits.{mostNumber}
+use native.Mathlib.Nat.{add-zero}
 use Rattle.places.specs.Counters.{inRows, More, sum}
 use Rattle.places.proofs.Counters.{sum-set, more-none}
-use Rattle.places.proofs.Counting.{row-start, list-goes-on, list-ends, row-fits, up-in, up-out, up-fits}
+use Rattle.places.proofs.Counting.{row-start, in-list, list-goes-on, list-ends, Up, up-turn}
 use Rattle.places.proofs.count_up.Statement.{statement}
 use Rattle.places.proofs.count_up.Tie as tie
 
@@ -18,7 +18,10 @@ abbrev μ-loop : tie.MeasureT-loop
 μ-loop values first most counters₀ left width row₀ i₀ open₀ k₀ k-end counters row i «open» k = k-end - k
 
 mul-row : tie.Need-mul-row Inv-loop μ-loop
-mul-row c = let a = c .before .before .args in let p = c .before .before .pre in omega (arith, row-start (a .window) (length (a .counters .now)) (a .most) (a .first) (length (a .values .now)) (p .0) (p .1))
+mul-row c =
+    let a = c .before .before .args in
+    let p = c .before .before .pre in
+    omega (arith, row-start (a .window) (length (a .counters .now)) (a .most) (a .first) (length (a .values .now)) (p .0) (p .1))
 
 loop-holds : tie.Need-loop-holds Inv-loop μ-loop
 loop-holds c =
@@ -32,7 +35,7 @@ loop-holds c =
       omega arith,
     )
 
--- the number at hand
+-- ---- the number at hand
 module _ (x : tie.After-index Inv-loop μ-loop) where
   abbrev turn : tie.At-loop Inv-loop μ-loop
   turn = x .before .before .before
@@ -40,67 +43,45 @@ module _ (x : tie.After-index Inv-loop μ-loop) where
   abbrev start : tie.Start Inv-loop μ-loop
   start = turn .before .before .before
 
+  up : Up (start .args .window) (start .args .most) (start .args .first) (start .args .values .now) (start .args .counters .now) (turn .loop .counters)
+      (turn .loop .row) (turn .loop .k) (x .index .result)
+  up =
+      let p = start .pre in
+      let v = turn .loop .inv in
+      up-turn (p .0) (x .before .before .loop-test .taken) (x .index .ensures .0) (p .1) (p .2) (v .3) (v .0)
+
   abbrev place : ℕ
   place = turn .loop .row + (x .index .result - start .args .window .left - 1)
 
-  in-list : turn .loop .i < mostNumber
-  in-list = omega (arith, turn .loop .inv .4, mod-lt (start .args .first + turn .loop .k) (start .pre .1 .some), start .pre .1 .small)
-
-  -- the counters of its row
-  fits : turn .loop .row + start .args .window .width ≤ length (turn .loop .counters)
-  fits =
-      let a = start .args in
-      let p = start .pre in
-      row-fits (a .window) (a .most) (a .first) (a .values .now) (a .counters .now) (turn .loop .counters) (turn .loop .k) (x .index .result) (p .0)
-      (x .before .before .loop-test .taken) (x .index .ensures .0) (p .1) (turn .loop .row) (turn .loop .inv .3) (turn .loop .inv .0)
-
-  room : start .args .window .left < x .index .result → x .index .result ≤ start .args .window .left + start .args .window .width
-      → getD (turn .loop .counters) place 0 < mostNumber
-  room l r =
-      let a = start .args in
-      let p = start .pre in
-      up-fits (a .window) (a .most) (a .first) (a .values .now) (a .counters .now) (turn .loop .counters) (turn .loop .k) (x .index .result) (p .0)
-      (x .before .before .loop-test .taken) (x .index .ensures .0) (p .1) (turn .loop .row) (turn .loop .inv .3) (turn .loop .inv .0) (p .2) l r
-
   abbrev Next : List ℕ → ℕ → Type 0
   Next counters n =
-      More (inRows (start .args .window) (start .args .most) (start .args .first) (take (turn .loop .k + 1) (start .args .values .now))) (start .args .counters .now) counters
+      More (inRows (start .args .window) (start .args .most) (start .args .first) (take (turn .loop .k + 1) (start .args .values .now)))
+      (start .args .counters .now) counters
       × (sum counters ≡ sum (start .args .counters .now) + n) × (n ≤ turn .loop .k + 1)
 
   counted : start .args .window .left < x .index .result → x .index .result ≤ start .args .window .left + start .args .window .width
       → Next (set (turn .loop .counters) place (getD (turn .loop .counters) place 0 + 1)) (turn .loop .«open» + 1)
-  counted l r =
-      let a = start .args in
-      let p = start .pre in (
-        up-in (a .window) (a .most) (a .first) (a .values .now) (a .counters .now) (turn .loop .counters) (turn .loop .k) (x .index .result) (p .0)
-            (x .before .before .loop-test .taken) (x .index .ensures .0) (p .1) (turn .loop .row) (turn .loop .inv .3) (turn .loop .inv .0) l r,
-        omega (arith, sum-set (turn .loop .counters) place (getD (turn .loop .counters) place 0 + 1) (omega (arith, fits)), turn .loop .inv .1),
-        omega (arith, turn .loop .inv .2),
-      )
-
-  passed : (start .args .window .left < x .index .result → x .index .result ≤ start .args .window .left + start .args .window .width → ⊥)
-      → Next (turn .loop .counters) (turn .loop .«open»)
-  passed n =
-      let a = start .args in
-      let p = start .pre in (
-        up-out (a .window) (a .most) (a .first) (a .values .now) (a .counters .now) (turn .loop .counters) (turn .loop .k) (x .index .result) (p .0)
-            (x .before .before .loop-test .taken) (x .index .ensures .0) (p .1) (turn .loop .row) (turn .loop .inv .3) (turn .loop .inv .0) n,
-        turn .loop .inv .1,
-        omega (arith, turn .loop .inv .2),
-      )
+  counted l r = (
+    up .counted l r,
+    omega (arith, sum-set (turn .loop .counters) place (getD (turn .loop .counters) place 0 + 1) (omega (arith, up .row-fits)), turn .loop .inv .1),
+    omega (arith, turn .loop .inv .2),
+  )
 
 loop-again : tie.Need-loop-again Inv-loop μ-loop
 loop-again c =
     let j = c .before in
     let x = j .before in
-    let n : Next x (j .if1 .counters) (j .if1 .«open»)
-    = ⊎-elim (λ w. rw (w .3, w .4) (counted x (w .0 .taken) (leb-true _ _ (w .1 .taken))))
-    (λ w. rw (w .1, w .2) (passed x (⊎-elim (λ v l r. omega (arith, leb-false, v .1)) (λ v l r. omega (arith, v .left)) (w .0 .came)))) (j .if1 .came) in
     let l = turn x .loop in
     let a = start x .args in
+    let some = start x .pre .1 .some in
+    let n : Next x (j .if1 .counters) (j .if1 .«open»)
+    = ⊎-elim (λ w. rw (w .3, w .4) (counted x (w .0 .taken) (leb-true _ _ (w .1 .taken))))
+    (λ w.
+    let out = up x .passed (⊎-elim (λ v l r. omega (arith, leb-false, v .1)) (λ v l r. omega (arith, v .left)) (w .0 .came)) in
+    rw (w .1, w .2) (out, l .inv .1, omega (arith, l .inv .2))) (j .if1 .came) in
     let g : (c .if3 .row ≡ (a .first + (l .k + 1)) / a .most * a .window .width) × (c .if3 .i ≡ (a .first + (l .k + 1)) % a .most)
-    = ⊎-elim (λ w. rw (w .1, w .2) (list-ends (a .first) (l .k) (a .window .width) (start x .pre .1 .some) (l .inv .3) (l .inv .4) (w .0 .taken)))
-    (λ w. rw (w .1, w .2) (list-goes-on (a .first) (l .k) (a .window .width) (start x .pre .1 .some) (l .inv .3) (l .inv .4) (w .0 .left))) (c .if3 .came) in
+    = ⊎-elim (λ w. rw (w .1, w .2) (list-ends (a .first) (l .k) (a .window .width) some (l .inv .3) (l .inv .4) (w .0 .taken)))
+    (λ w. rw (w .1, w .2) (list-goes-on (a .first) (l .k) (a .window .width) some (l .inv .3) (l .inv .4) (w .0 .left))) (c .if3 .came) in
     (n .0, n .1, n .2, g .0, g .1, omega arith)
 
 returns : tie.Need-returns Inv-loop μ-loop
@@ -113,9 +94,9 @@ returns c =
 pub count-up-spec : {M : Type 1} → statement M
 count-up-spec =
     tie.close (tie.spec Inv-loop μ-loop (λ c. search needs) mul-row (λ c. search needs) loop-holds (λ c. search needs) (λ c. search needs)
-    (λ c κs. search needs) (λ c. search needs) (λ c. search needs) (λ c. search needs) (λ c. omega (arith, leb-true, fits (c .before .before)))
-    (λ c. omega (arith, leb-true, fits (c .before .before))) (λ c. omega (arith, leb-true, fits (c .before .before .before)))
-    (λ c. omega (arith, room (c .before .before .before) (c .before .before .if1 .taken) (leb-true _ _ (c .before .if2 .taken))))
-    (λ c. omega (arith, leb-true, fits (c .before .before .before))) (λ c. search needs)
-    (λ c. omega (arith, in-list (c .before))) (λ c. omega (arith, leb-true, fits (c .before .before))) (λ c. search needs) (λ c. search needs) loop-again
-    (λ c. c .before .loop .inv .0 .long) returns)
+    (λ c κs. search needs) (λ c. search needs) (λ c. search needs) (λ c. search needs) (λ c. omega (arith, leb-true, up (c .before .before) .row-fits))
+    (λ c. omega (arith, leb-true, up (c .before .before) .row-fits)) (λ c. omega (arith, leb-true, up (c .before .before .before) .row-fits))
+    (λ c. omega (arith, up (c .before .before .before) .fits (c .before .before .if1 .taken) (leb-true _ _ (c .before .if2 .taken))))
+    (λ c. omega (arith, leb-true, up (c .before .before .before) .row-fits)) (λ c. search needs)
+    (λ c. let x = c .before in omega (arith, in-list (start x .pre .1) _ (turn x .loop .i) (turn x .loop .inv .4)))
+    (λ c. omega (arith, up (c .before .before) .row-fits)) (λ c. search needs) (λ c. search needs) loop-again (λ c. c .before .loop .inv .0 .long) returns)

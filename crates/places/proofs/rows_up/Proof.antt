@@ -1,12 +1,12 @@
 -- `places::rows_up` meets its contract: the first numbers of the rows are counted, block by block. Assumes nothing.
-use Rattle.integers.proofs.Prelude.{_≡_, refl, sym, ap, _∙_, _++_, List, ℕ, suc, _+_, _-_, _*_, _/_, _%_, _≤_, _<_, arith, needs, length, take, drop}
-use Rattle.integers.proofs.Prelude.{length-append, length-drop, length-take-le, take-at}
+use Rattle.integers.proofs.Prelude.{_≡_, refl, sym, ap, _∙_, List, ℕ, _-_, _*_, _≤_, arith, needs, length, take, drop}
 use native.Mathlib.Nat.{mul-le-mul}
 use Rattle.model.specs.Limits.{mostNumber}
-use Rattle.numbers.specs.Walked.{from, Small}
+use Rattle.numbers.specs.Walked.{from}
 use Rattle.numbers.proofs.Walk.{small-part}
 use Rattle.places.specs.Counters.{inRows, More, sum}
-use Rattle.places.proofs.Counters.{zeros-sum, more-none, some-each, room-rows, block-read, up-block}
+use Rattle.places.proofs.Counters.{zeros-sum, more-none}
+use Rattle.places.proofs.Blocks.{Next, next-block, some-each, Taken, block-taken, room-rows, up-block}
 use Rattle.places.proofs.rows_up.Statement.{statement}
 use Rattle.places.proofs.rows_up.Tie as tie
 
@@ -21,9 +21,6 @@ abbrev μ-loop : tie.MeasureT-loop
 few : (s : tie.Start Inv-loop μ-loop) → s .args .window .height * s .args .most ≤ mostNumber * mostNumber
 few s = let high : s .args .window .height ≤ mostNumber = omega (arith, s .pre .1 .0 .rows) in mul-le-mul high (s .pre .0 .2)
 
-mul-total : tie.Need-mul-total Inv-loop μ-loop
-mul-total c = omega (arith, few (c .before .before .before))
-
 loop-holds : tie.Need-loop-holds Inv-loop μ-loop
 loop-holds c =
     let s = c .before .before .before in
@@ -37,71 +34,48 @@ module _ (x : tie.After-least Inv-loop μ-loop) where
   abbrev start : tie.Start Inv-loop μ-loop
   start = turn .before .before .before .before
 
-  abbrev size : ℕ
-  size = x .least .result
-
   abbrev total : ℕ
   total = start .args .window .height * start .args .most
 
-  sized : (1 ≤ size) × (size ≤ 64) × (turn .loop .done + size ≤ total)
-  sized = omega (arith, x .least .ensures, x .before .loop-test .taken)
-
-  lent : length (take size (turn .loop .values)) ≡ size
-  lent = length-take-le size (turn .loop .values) (omega (arith, sized, turn .loop .inv .6))
+  next : Next total (turn .loop .done) (x .least .result) (turn .loop .values)
+  next =
+      let long = turn .loop .inv .6 in
+      next-block (omega arith) (x .before .loop-test .taken) (omega (arith, x .least .ensures))
 
 read-requires : tie.Need-read-requires Inv-loop μ-loop
 read-requires c κs =
     let x = c .before in
     let v = turn x .loop .inv in
-    (v .4, rw (lent x, v .3) (small-part (turn x .loop .done) (size x) (total x) _ (sized x .2) (start x .pre .0 .1)))
+    (v .4, rw (next x .lent, v .3) (small-part (turn x .loop .done) (x .least .result) (total x) _ (next x .within) (start x .pre .0 .1)))
 
 -- ---- it is read
 module _ (y : tie.After-read Inv-loop μ-loop) where
   abbrev last : tie.After-least Inv-loop μ-loop
   last = y .before .before
 
-  abbrev done : ℕ
-  done = turn last .loop .done
-
   -- the numbers of the rows, and what follows
   abbrev rows : List ℕ
   rows = from (start last .args .text .now) (start last .args .at)
 
-  enough : done + size last ≤ length rows
-  enough = omega (arith, sized last, start last .pre .0 .1 .long)
-
-  abbrev block : List ℕ
-  block = y .read .last .1 .1 .0
-
-  long : length block ≡ size last
-  long = y .read .ensures .1 ∙ lent last
-
-  numbers : (block ≡ take (size last) (drop done rows)) × (from (start last .args .text .now) (y .read .result) ≡ drop (done + size last) rows)
-  numbers = block-read (start last .args .most) done (size last) rows enough (turn last .loop .inv .3) long (y .read .ensures .0)
-
-  back : take (size last) (block ++ drop (size last) (turn last .loop .values)) ≡ block
-  back = take-at block (drop (size last) (turn last .loop .values)) (size last) long
-
-  whole : length (block ++ drop (size last) (turn last .loop .values)) ≡ 64
-  whole = length-append block (drop (size last) (turn last .loop .values)) ∙ omega (arith, long, length-drop (size last) (turn last .loop .values), sized last, turn last .loop .inv .6)
-
-slice-aggregate-count-up : tie.Need-slice-aggregate-count-up Inv-loop μ-loop
-slice-aggregate-count-up c = let y = c .before .before in sym (ap length (back y) ∙ long y)
+  taken : Taken (start last .args .text .now) rows (turn last .loop .done) (last .least .result) (turn last .loop .values) (y .read .last .1 .1 .0)
+      (y .read .result)
+  taken = block-taken (next last) (start last .pre .0 .1) (turn last .loop .inv .3) (y .read .ensures .1) (y .read .ensures .0)
 
 count-up-requires : tie.Need-count-up-requires Inv-loop μ-loop
 count-up-requires c κs =
     let y = c .before .before .before in
     let x = last y in
     let s = start x in
-    let v = turn x .loop .inv in (
+    let v = turn x .loop .inv in
+    let long = ap length (taken y .back) ∙ taken y .long in (
       rw (v .0 .long) (s .pre .1 .0),
       record {
         some = some-each (s .args .window .height) (s .args .most) (x .before .loop-test .taken);
         small = s .pre .0 .2;
-        within = omega (arith, ap length (back y) ∙ long y, sized x);
+        within = omega (arith, next x .within);
       },
-      room-rows (s .args .window) (s .args .most) (done y) (rows y) (s .args .counters .now) (turn x .loop .counters) (s .pre .1 .1)
-          (omega (arith, enough y)) (v .0),
+      room-rows (s .args .window) (s .args .most) (turn x .loop .done) (rows y) (s .args .counters .now) (turn x .loop .counters) (s .pre .1 .1)
+          (omega (arith, taken y .enough)) (v .0),
     )
 
 -- ---- and counted
@@ -109,8 +83,8 @@ module _ (c : tie.After-count-up Inv-loop μ-loop) where
   abbrev read : tie.After-read Inv-loop μ-loop
   read = c .before .before .before .before
 
-  few-more : c .count-up .result ≤ size (last read)
-  few-more = omega (arith, c .count-up .ensures .2, ap length (back read) ∙ long read)
+  few-more : c .count-up .result ≤ last read .least .result
+  few-more = let long = ap length (taken read .back) ∙ taken read .long in omega (arith, c .count-up .ensures .2)
 
 loop-again : tie.Need-loop-again Inv-loop μ-loop
 loop-again c =
@@ -118,15 +92,16 @@ loop-again c =
     let y = read n in
     let x = last y in
     let s = start x in
-    let v = turn x .loop .inv in (
-      up-block (s .args .most) (done y) (size x) (rows y) (enough y) (s .args .window) _ (s .args .counters .now) (turn x .loop .counters)
-          (back y ∙ numbers y .0) _ (v .0) (n .count-up .ensures .0),
+    let v = turn x .loop .inv in
+    let t = taken y in (
+      up-block (s .args .most) (turn x .loop .done) (x .least .result) (rows y) (t .enough) (s .args .window) _ (s .args .counters .now)
+          (turn x .loop .counters) (t .back ∙ t .list) _ (v .0) (n .count-up .ensures .0),
       omega (arith, n .count-up .ensures .1, v .1),
       omega (arith, few-more n, v .2),
-      numbers y .1,
+      t .rest,
       y .read .ensures .0 .within,
-      sized x .2,
-      whole y,
+      next x .within,
+      t .whole ∙ v .6,
     )
 
 returns : tie.Need-returns Inv-loop μ-loop
@@ -138,9 +113,11 @@ returns c =
 
 pub rows-up-spec : {M : Type 1} → statement M
 rows-up-spec =
-    tie.close (tie.spec Inv-loop μ-loop mul-total loop-holds (λ c. search needs) (λ c κs. search needs) (λ c. omega (arith, sized c, turn c .loop .inv .6))
-    (λ c. sym (lent (c .before))) read-requires (λ c. omega (arith, whole (c .before), sized (last (c .before)))) slice-aggregate-count-up count-up-requires
-    (λ c. let x = last (read (c .before .before)) in omega (arith, few-more (c .before .before), turn x .loop .inv .2, sized x, few (start x)))
-    (λ c. let x = last (read (c .before .before)) in omega (arith, sized x, few (start x)))
-    (λ c. let x = last (read (c .before .before)) in omega (arith, sized x)) loop-again
-    (λ c. c .before .loop .inv .0 .long) returns)
+    tie.close (tie.spec Inv-loop μ-loop (λ c. omega (arith, few (c .before .before .before))) loop-holds (λ c. search needs) (λ c κs. search needs)
+    (λ c. next c .room) (λ c. sym (next (c .before) .lent)) read-requires
+    (λ c. let y = c .before in omega (arith, taken y .whole, next (last y) .room))
+    (λ c. let t = taken (c .before .before) in sym (ap length (t .back) ∙ t .long))
+    count-up-requires
+    (λ c. let x = last (read (c .before .before)) in omega (arith, few-more (c .before .before), turn x .loop .inv .2, next x .within, few (start x)))
+    (λ c. let x = last (read (c .before .before)) in omega (arith, next x .within, few (start x)))
+    (λ c. let x = last (read (c .before .before)) in omega (arith, next x .within, next x .some)) loop-again (λ c. c .before .loop .inv .0 .long) returns)

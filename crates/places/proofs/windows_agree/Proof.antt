@@ -1,5 +1,5 @@
 -- `places::windows_agree` meets its contract: columns and rows agree in the bands so far, and all counters are 0. Assumes nothing.
-use Rattle.integers.proofs.Prelude.{_≡_, refl, sym, ap, _∙_, List, ℕ, _+_, _-_, _*_, _/_, _≤_, arith, needs, not-true, not-false, length, take, drop}
+use Rattle.integers.proofs.Prelude.{_≡_, refl, sym, ap, _∙_, List, ℕ, _+_, _-_, _*_, _/_, _≤_, arith, needs, not-true, not-false, length, drop}
 use native.Mathlib.Nat.{mul-le-mul, mul-le-mul-right, div-mul-le-self, le-div-iff-mul-le}
 use Rattle.model.specs.Limits.{mostNumber}
 use Rattle.numbers.specs.Walked.{from, Small}
@@ -88,7 +88,8 @@ returns c =
     record {
       so = λ e. let z : _≡_ {A = ℕ} 0 1 = cc in absurd (omega arith);
       not-so = λ _ a. tells b .not-so (not-true _ (c .if1 .taken))
-          (high-part (s .args .rows .most) (rows x) (s .args .columns .most) _ (turn x .loop .top) (height x) (s .args .rows .count) (s .args .columns .count) (sized x .2) a);
+          (high-part (s .args .rows .most) (rows x) (s .args .columns .most) _ (turn x .loop .top) (height x) (s .args .rows .count)
+          (s .args .columns .count) (sized x .2) a);
     }
 
 loop-again : tie.Need-loop-again Inv-loop μ-loop
@@ -116,7 +117,8 @@ returns-2 c =
 
 pub windows-agree-spec : {M : Type 1} → statement M
 windows-agree-spec =
-    tie.close (tie.spec Inv-loop μ-loop (λ c. search needs) loop-holds (λ c. search needs) (λ c κs. search needs) (λ c. sym (turn (c .before) .loop .inv .3)) band-requires
-    returns (λ c. omega (arith, few (last (c .before .before)))) (λ c κs. turn (last (c .before .before)) .loop .inv .2)
+    tie.close (tie.spec Inv-loop μ-loop (λ c. search needs) loop-holds (λ c. search needs) (λ c κs. search needs)
+    (λ c. sym (turn (c .before) .loop .inv .3)) band-requires returns (λ c. omega (arith, few (last (c .before .before))))
+    (λ c κs. turn (last (c .before .before)) .loop .inv .2)
     (λ c. let x = last (c .before .before .before) in omega (arith, sized x, start x .pre .1 .count))
     (λ c. omega (arith, sized (last (c .before .before .before)))) loop-again returns-2)
