@@ -26,8 +26,8 @@
  *   - A list that a call fills shares no memory with any other list of that call. Lists that are only read may overlap.
  *   - Nothing else writes to any list of a call, or reads a list that it fills, until the call returns.
  *   No call keeps a pointer, allocates memory or has state of its own: calls in different threads do not disturb each other.
- *   A call needs less than 16 kilobytes of stack, but widagbe_import, which needs less than 144, and widagbe_export and
- *   widagbe_export_size, which need less than 64.
+ *   A call needs less than 16 kilobytes of stack, but widagbe_import, which needs less than 272, and widagbe_export and
+ *   widagbe_export_size, which need less than 56.
  */
 #ifndef WIDAGBE_H
 #define WIDAGBE_H
