@@ -1,6 +1,5 @@
 -- The answers of export and of its size, from the judgement and the room; and what is known of an accepted code. Assumes nothing.
-use Rattle.integers.proofs.Prelude.{_≡_, ap₂, _∙_, List, ℕ, zero, suc, _≤_, _<_, arith, lt-ltb, le-ltb, length, drop}
-use Rattle.lists.specs.Tabulated.{written}
+use Rattle.integers.proofs.Prelude.{_≡_, ap, ap₂, _∙_, List, ℕ, zero, suc, _≤_, _<_, arith, lt-ltb, le-ltb, length, drop}
 use Rattle.model.specs.Records.{checkCount, codeOf, judge}
 use Rattle.model.specs.RecordClaims.{Bytes}
 use Rattle.model.specs.Alist.{alistOf, Writing, exporter, Size, exportSize}
@@ -8,7 +7,7 @@ use Rattle.model.specs.AlistPromises.{ExportCall, SizeCall}
 use Rattle.model.proofs.Accepted.{length-checks, bytes-sound, accepted}
 use Rattle.model.proofs.AlistPromises.{export-call, size-call}
 use Rattle.reader.proofs.Answers.{Read}
-use Rattle.exporter.specs.Lines.{codeFrom, Accepted}
+use Rattle.exporter.specs.Lines.{codeFrom, Accepted, Fitted}
 
 -- ---- an accepted code: its records behind the header
 module _ (b : List ℕ) (n m t : ℕ) (r : Read b n m t) where
@@ -20,9 +19,12 @@ module _ (b : List ℕ) (n m t : ℕ) (r : Read b n m t) where
   header-room = bytes-sound b (r .judged) .header .room
 
   module _ (s : List ℕ) (is : s ≡ drop 6 b) where
-    pub code-read : codeFrom n m s ≡ codeOf b
+    code-read : codeFrom n m s ≡ codeOf b
     unfolding codeOf
     code-read = rw (is, r .bits, count)
+
+    pub fitted-read : {old l : List ℕ} {k : ℕ} → Fitted (alistOf (codeFrom n m s)) old l k → Fitted (alistOf (codeOf b)) old l k
+    fitted-read f = rw code-read at f
 
     pub code-accepted : Accepted n m s
     unfolding codeOf
@@ -51,14 +53,17 @@ module _ (b : List ℕ) where
     export-refused zero e h = absurd (omega arith)
     export-refused (suc c) e h = export-call b old (answer (suc c) 0 old) bytes (rw e)
 
-    module _ (judged : judge b ≡ 0) where
-      pub export-short : length old < length (alistOf (codeOf b)) → ExportCall b old (answer 10 0 old)
+    -- the text of an accepted code has n bytes, and l is the list after it was written where it fits
+    module _ (judged : judge b ≡ 0) (l : List ℕ) (n : ℕ) (f : Fitted (alistOf (codeOf b)) old l n) where
+      pub export-short : length old < n → ExportCall b old (answer 10 0 l)
       unfolding exporter
-      export-short h = export-call b old (answer 10 0 old) bytes (rw (judged, lt-ltb (length old) (length (alistOf (codeOf b))) h))
+      export-short h =
+          let short : length old < length (alistOf (codeOf b)) = omega (arith, f .bytes) in
+          export-call b old (answer 10 0 l) bytes (rw (judged, lt-ltb (length old) (length (alistOf (codeOf b))) short) (ap (answer 10 0) (f .none h)))
 
-      pub export-done : (n : ℕ) (l : List ℕ) → n ≡ length (alistOf (codeOf b)) → n ≤ length old → l ≡ written (alistOf (codeOf b)) old
-          → ExportCall b old (answer 0 n l)
+      pub export-done : n ≤ length old → ExportCall b old (answer 0 n l)
       unfolding exporter
-      export-done n l e h w =
-          let room : length (alistOf (codeOf b)) ≤ length old = omega arith in
-          export-call b old (answer 0 n l) bytes (rw (judged, le-ltb (length old) (length (alistOf (codeOf b))) room) (ap₂ (answer 0) e w))
+      export-done h =
+          let room : length (alistOf (codeOf b)) ≤ length old = omega (arith, f .bytes) in
+          export-call b old (answer 0 n l) bytes
+          (rw (judged, le-ltb (length old) (length (alistOf (codeOf b))) room) (ap₂ (answer 0) (f .bytes) (f .whole h)))

@@ -11,7 +11,7 @@ use Rattle.model.specs.Records.{checksIn, judgeChecks}
 use Rattle.model.specs.Alist.{columnFrom, columnsOf, rowsOf, alistOf}
 use Rattle.model.specs.AlistClaims.{joined}
 use Rattle.model.proofs.Accepted.{length-checks}
-use Rattle.exporter.specs.Lines.{Side, codeFrom, Accepted, Lists}
+use Rattle.exporter.specs.Lines.{Side, codeFrom, Accepted, Lists, Fitted}
 use Rattle.exporter.proofs.Lines.{Room, room-start}
 use Rattle.exporter.proofs.Texts.{total-degrees, column-degrees, row-degrees, column-degrees-are, row-degrees-are, columns-joined, rows-joined}
 use Rattle.exporter.proofs.Texts.{columns-total, few, columns-side, rows-side, textFrom, text-is}
@@ -34,6 +34,22 @@ module _ (s columns rows entries : List ℕ) (w : Lists s columns rows entries) 
 
   pub some-check : 1 ≤ length rows
   some-check = omega (arith, w .sound .1 .checks-least, length-checks (length rows) s)
+
+  -- lists of the same lengths, c and e, serve as well: the text is the same
+  module _ (c e : List ℕ) (bits : length c ≡ length columns) (places : length e ≡ length entries) where
+    abbrev by-these : Code
+    by-these = codeFrom (length c) (length rows) s
+
+    pub again : Lists s c rows e
+    again = record { sound = rw bits (w .sound); degrees = w .degrees; places = places ∙ w .places }
+
+    -- where it fits, it is written by them
+    module _ (r : ℕ) (is : r ≡ length (alistOf code)) (old : List ℕ) (fits : r ≤ length old) where
+      pub again-room : length (alistOf by-these) ≤ length old
+      again-room = rw (bits, sym is) fits
+
+      pub again-fitted : (new : List ℕ) → new ≡ written (alistOf by-these) old → Fitted (alistOf code) old new r
+      again-fitted new given = record { bytes = is; whole = λ _. rw bits at given; none = λ h. absurd (omega arith) }
 
   rows-are : rows ≡ row-degrees code
   rows-are = w .degrees ∙ row-degrees-are code
@@ -142,7 +158,7 @@ pub ready : (s : List ℕ) (n m r : ℕ) (p : List ℕ) → Accepted n m s → p
     → r ≡ total length (checksIn (length (take m (zeros mostChecks))) s) → Ready s n m r p
 ready s n m r p sound degrees sum = prepared s n m r _ _ _ p refl refl refl sound degrees sum
 
--- by the parts the code is the same, and so are its size and its text
+-- by the parts the code is the same, and so is its text
 module _ {s : List ℕ} {n m r : ℕ} {x y z p : List ℕ} (q : Prepared s n m r x y z p) where
   abbrev by-parts : Code
   by-parts = codeFrom (length (take n x)) (length (take m (p ++ drop m y))) s
@@ -150,8 +166,5 @@ module _ {s : List ℕ} {n m r : ℕ} {x y z p : List ℕ} (q : Prepared s n m r
   same-code : by-parts ≡ codeFrom n m s
   same-code = ap₂ (λ (n m : ℕ). codeFrom n m s) (q .bits-long) (q .checks-long)
 
-  pub same-size : length (alistOf by-parts) ≡ length (alistOf (codeFrom n m s))
-  same-size = ap (λ (k : Code). length (alistOf k)) same-code
-
-  pub same-written : (old t : List ℕ) → t ≡ written (alistOf by-parts) old → t ≡ written (alistOf (codeFrom n m s)) old
-  same-written old t e = e ∙ ap (λ (k : Code). written (alistOf k) old) same-code
+  pub same-fitted : (old new : List ℕ) (bytes : ℕ) → Fitted (alistOf by-parts) old new bytes → Fitted (alistOf (codeFrom n m s)) old new bytes
+  same-fitted old new bytes f = rw same-code at f

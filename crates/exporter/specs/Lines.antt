@@ -1,8 +1,9 @@
 -- A side of an alist file as its degrees and the indices of all its lists, one behind the other. Definitions only.
 use mathlib.Core.Path.{_≡_}
 use mathlib.Core.List.{List, [], _∷_, _++_, map}
-use Prim.Native.Nat.{ℕ, _≤_}
+use Prim.Native.Nat.{ℕ, _≤_, _<_}
 use lib.ListN.{length, take, drop}
+use Rattle.lists.specs.Tabulated.{written}
 use Rattle.lists.specs.Entries.{total}
 use Rattle.model.specs.Limits.{mostBits, mostPlaces}
 use Rattle.model.specs.Code.{Code}
@@ -57,3 +58,9 @@ pub record Lists (s columns rows entries : List ℕ) : Type 0 where
   pub sound : Accepted (length columns) (length rows) s
   pub degrees : rows ≡ map length (checksIn (length rows) s)
   pub places : length entries ≡ total length (checksIn (length rows) s)
+
+-- a text of r bytes is written to the list old where it fits, and old becomes new
+pub record Fitted (text old new : List ℕ) (r : ℕ) : Type 0 where
+  pub bytes : r ≡ length text
+  pub whole : r ≤ length old → new ≡ written text old
+  pub none : length old < r → new ≡ old

@@ -8,7 +8,7 @@ ghost use Rattle.model.specs.Text.{decimal};
 ghost use Rattle.lists.specs.Tabulated.{written};
 ghost use Rattle.model.specs.Alist.{largest, fill, lineOf, alistOf};
 ghost use Rattle.model.specs.AlistPromises.{ExportCall, SizeCall};
-ghost use Rattle.exporter.specs.Lines.{Side, spaced, headText, listsText, sideText, codeFrom, Accepted, Lists};
+ghost use Rattle.exporter.specs.Lines.{Side, spaced, headText, listsText, sideText, codeFrom, Accepted, Lists, Fitted};
 ghost use Rattle.text.specs.Appended.{Appended};
 use model::MOST_BITS;
 use model::MOST_CHECKS;
@@ -165,23 +165,6 @@ fn measure_in(s: &[u8], columns: &mut [u16], rows: &[u16], entries: &mut [u16]) 
     pairs + first + second
 }
 
-// The bytes of the text of a code whose check records are `s`.
-fn measure(s: &[u8], bits: usize, checks: usize) -> usize
-    requires { ⌜ Accepted bits checks (now s) ⌝ }
-    ensures { λ r. ⌜ r ≡ length (alistOf (codeFrom bits checks (now (s .entry)))) ⌝ }
-{
-    let mut columns = [0u16; MOST_BITS];
-    let mut rows = [0u16; MOST_CHECKS];
-    let mut entries = [0u16; MOST_PLACES];
-    let places = sides::row_degrees(s, bits, &mut rows[..checks]);
-    measure_in(
-        s,
-        &mut columns[..bits],
-        &rows[..checks],
-        &mut entries[..places],
-    )
-}
-
 // The text of a code whose check records are `s`, by lists as `measure_in` takes them.
 fn write_in(s: &[u8], columns: &mut [u16], rows: &[u16], entries: &mut [u16], text: &mut [u8])
     requires { ⌜ Lists (now s) (now columns) (now rows) (now entries) ⌝ }
@@ -199,23 +182,41 @@ fn write_in(s: &[u8], columns: &mut [u16], rows: &[u16], entries: &mut [u16], te
     put_lists(rows, &entries[..], text, second);
 }
 
-// The text of a code whose check records are `s`.
-fn write_text(s: &[u8], bits: usize, checks: usize, text: &mut [u8])
+// The text of a code whose check records are `s`, by lists as `measure_in` takes them, where `text` has room for it; how many bytes it has.
+fn text_in(
+    s: &[u8],
+    columns: &mut [u16],
+    rows: &[u16],
+    entries: &mut [u16],
+    text: &mut [u8],
+) -> usize
+    requires { ⌜ Lists (now s) (now columns) (now rows) (now entries) ⌝ }
+    ensures { λ r. ⌜ Fitted (alistOf (codeFrom (length (now (columns .entry))) (length (now (rows .entry))) (now (s .entry))))
+        (now (text .entry)) (now (text .exit)) r ⌝ }
+{
+    let bytes = measure_in(s, columns, rows, entries);
+    if bytes <= text.len() {
+        write_in(s, columns, rows, entries, text);
+    }
+    bytes
+}
+
+// The text of a code whose check records are `s`, where `text` has room for it; how many bytes it has.
+fn write_text(s: &[u8], bits: usize, checks: usize, text: &mut [u8]) -> usize
     requires { ⌜ Accepted bits checks (now s) ⌝ }
-    requires { ⌜ length (alistOf (codeFrom bits checks (now s))) ≤ length (now text) ⌝ }
-    ensures { λ _. ⌜ now (text .exit) ≡ written (alistOf (codeFrom bits checks (now (s .entry)))) (now (text .entry)) ⌝ }
+    ensures { λ r. ⌜ Fitted (alistOf (codeFrom bits checks (now (s .entry)))) (now (text .entry)) (now (text .exit)) r ⌝ }
 {
     let mut columns = [0u16; MOST_BITS];
     let mut rows = [0u16; MOST_CHECKS];
     let mut entries = [0u16; MOST_PLACES];
     let places = sides::row_degrees(s, bits, &mut rows[..checks]);
-    write_in(
+    text_in(
         s,
         &mut columns[..bits],
         &rows[..checks],
         &mut entries[..places],
         text,
-    );
+    )
 }
 
 // The bytes that an export of these records will write.
@@ -228,10 +229,11 @@ pub fn export_size(code: &[u8]) -> Written
             bits,
             checks,
             triples: _,
-        } => Written {
-            number: 0,
-            bytes: measure(records::after_header(code), bits, checks),
-        },
+        } => {
+            let mut none = [0u8; 0];
+            let bytes = write_text(records::after_header(code), bits, checks, &mut none);
+            Written { number: 0, bytes }
+        }
     }
 }
 
@@ -246,16 +248,15 @@ pub fn export(code: &[u8], text: &mut [u8]) -> Written
             checks,
             triples: _,
         } => {
-            let s = records::after_header(code);
-            let bytes = measure(s, bits, checks);
+            let bytes = write_text(records::after_header(code), bits, checks, text);
             if text.len() < bytes {
-                return Written {
+                Written {
                     number: 10,
                     bytes: 0,
-                };
+                }
+            } else {
+                Written { number: 0, bytes }
             }
-            write_text(s, bits, checks, text);
-            Written { number: 0, bytes }
         }
     }
 }
