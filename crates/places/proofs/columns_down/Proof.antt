@@ -1,5 +1,5 @@
 -- `places::columns_down` meets its contract: the first numbers of the columns are counted down, block by block. Assumes nothing.
-use Rattle.integers.proofs.Prelude.{_≡_, refl, sym, _∙_, List, ℕ, _-_, _*_, _≤_, arith, needs, not-true, not-false, length, take, drop}
+use Rattle.integers.proofs.Prelude.{_≡_, refl, sym, _∙_, ℕ, _-_, _*_, _≤_, arith, needs, not-true, not-false, take}
 use native.Mathlib.Nat.{mul-le-mul}
 use Rattle.model.specs.Limits.{mostNumber}
 use Rattle.numbers.specs.Walked.{from}

@@ -1,5 +1,5 @@
 -- `places::read_block` meets its contract: the first entries are filled with the next numbers. Assumes nothing.
-use Rattle.integers.proofs.Prelude.{_≡_, sym, ap, _∙_, ℕ, _≤_, arith, needs, length, take, drop, length-take-le, take-at}
+use Rattle.integers.proofs.Prelude.{_≡_, sym, _∙_, arith, needs, length, take, drop, length-take-le, take-at}
 use lib.Seq.{length-front}
 use Rattle.numbers.proofs.Walk.{small-part}
 use Rattle.places.proofs.read_block.Statement.{statement}

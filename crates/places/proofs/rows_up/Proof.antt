@@ -1,5 +1,5 @@
 -- `places::rows_up` meets its contract: the first numbers of the rows are counted, block by block. Assumes nothing.
-use Rattle.integers.proofs.Prelude.{_≡_, refl, sym, List, ℕ, _+_, _-_, _*_, _≤_, arith, needs, length, take, drop}
+use Rattle.integers.proofs.Prelude.{_≡_, refl, sym, List, ℕ, _+_, _-_, _*_, _≤_, arith, needs, take}
 use native.Mathlib.Nat.{mul-le-mul}
 use Rattle.model.specs.Limits.{mostNumber}
 use Rattle.numbers.specs.Walked.{from}
