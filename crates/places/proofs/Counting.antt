@@ -2,7 +2,7 @@
 use Rattle.integers.proofs.Prelude.{_≡_, refl, ap, _∙_, _&&_, List, ℕ, suc, _+_, _-_, _*_, _/_, _%_, _≤_, _<_, arith, add-one, eqb, eq-eqb, length, getD, take}
 use Rattle.integers.proofs.Prelude.{set, length-take-le}
 use mathlib.Core.Logic.{_≢_}
-use native.Mathlib.Nat.{mul-le-mul-right, div-add-mod', mod-lt, div-lt-iff-lt-mul}
+use native.Mathlib.Nat.{add-zero, mul-le-mul-right, div-add-mod', mod-lt, div-lt-iff-lt-mul}
 use lib.Arith.{digits-lt, digits-div, digits-mod}
 use Rattle.model.specs.Causes.{_if_}
 use Rattle.model.specs.Limits.{mostNumber}
@@ -12,30 +12,44 @@ use Rattle.places.proofs.Counters.{more-up, more-down, more-none, more-
 use Rattle.places.proofs.Named.{named-next, named-part, row-hit, row-miss, column-hit, column-miss}
 use Rattle.places.proofs.Blocks.{room-next}
 
--- ---- the list of the number q, q / most, and the number's place i there
+-- ---- the number k after the first: its list, (first + k) / most, and its place i there; `row` is `width` for each list before
+pub record Stands (first k most width row i : ℕ) : Type 0 where
+  pub list : row ≡ (first + k) / most * width
+  pub place : i ≡ (first + k) % most
+
+pub stands-first : (first most width : ℕ) {row : ℕ} → row ≡ first / most * width → Stands first 0 most width row (first % most)
+stands-first first most width f = record { list = rw (add-zero first) f; place = rw (add-zero first) }
+
+module _ {first k most width row i : ℕ} (s : Stands first k most width row i) where
+  pub in-list : {size lists : ℕ} → Block most first size lists → i < mostNumber
+  in-list b = omega (arith, s .place, mod-lt (first + k) (b .some), b .small)
+
+  -- at the next number
+  pub list-goes-on : 1 ≤ most → i + 1 ≢ most → Stands first (k + 1) most width row (i + 1)
+  list-goes-on h n =
+      let q = first + k in
+      let low : q % most + 1 < most = omega (arith, s .place, mod-lt q h, n) in
+      let e : first + (k + 1) ≡ q / most * most + (q % most + 1) = omega (arith, div-add-mod' q most) in
+      record {
+        list = rw (e, digits-div (q / most) low) (s .list);
+        place = rw (e, digits-mod (q / most) low) (omega (arith, s .place));
+      }
+
+  pub list-ends : 1 ≤ most → i + 1 ≡ most → Stands first (k + 1) most width (row + width) 0
+  list-ends h n =
+      let q = first + k in
+      let e : first + (k + 1) ≡ (q / most + 1) * most + 0 = omega (arith, s .place, div-add-mod' q most) in
+      record {
+        list = rw (e, digits-div (q / most + 1) h) (omega (arith, s .list));
+        place = rw (e, digits-mod (q / most + 1) h);
+      }
+
+-- the counters of the first number's row begin within
 pub row-start : (w : Window) (n most first size : ℕ) → Inside w n → Block most first size (w .height) → first / most * w .width ≤ n
 row-start w n most first size s b =
     let low : first / most < suc (w .height) = div-lt-iff-lt-mul {x = first} {y = suc (w .height)} (b .some) .1 (omega (arith, b .some, b .within)) in
     let most-rows : first / most ≤ w .height = omega arith in
     omega (arith, mul-le-mul-right (w .width) most-rows, s .counters)
-
-pub in-list : {first size lists most : ℕ} → Block most first size lists → (q i : ℕ) → i ≡ q % most → i < mostNumber
-in-list b q i g = omega (arith, mod-lt q (b .some), b .small)
-
--- at the next number; `row` is `width` for each list
-module _ (first k width : ℕ) {most row i : ℕ} (h : 1 ≤ most) (f : row ≡ (first + k) / most * width) (g : i ≡ (first + k) % most) where
-  pub list-goes-on : i + 1 ≢ most → (row ≡ (first + (k + 1)) / most * width) × (i + 1 ≡ (first + (k + 1)) % most)
-  list-goes-on n =
-      let q = first + k in
-      let low : q % most + 1 < most = omega (arith, mod-lt q h, n) in
-      let e : first + (k + 1) ≡ q / most * most + (q % most + 1) = omega (arith, div-add-mod' q most) in
-      rw (e, digits-div (q / most) low, digits-mod (q / most) low) (f, omega arith)
-
-  pub list-ends : i + 1 ≡ most → (row + width ≡ (first + (k + 1)) / most * width) × (0 ≡ (first + (k + 1)) % most)
-  list-ends n =
-      let q = first + k in
-      let e : first + (k + 1) ≡ (q / most + 1) * most + 0 = omega (arith, div-add-mod' q most) in
-      rw (e, digits-div (q / most + 1) h, digits-mod (q / most + 1) h) (omega arith, refl)
 
 -- ---- the k-th number of a block, v: k were counted from the counters `old`
 -- up: it is one of the row whose counters begin at `row`
@@ -60,10 +74,11 @@ pub record Down (w : Window) (most first : ℕ) (values old counters : List ℕ)
 
 module _ {w : Window} {most first : ℕ} {values old counters : List ℕ} {k v : ℕ} (s : Inside w (length old)) (h : k < length values)
     (e : v ≡ getD values k 0) where
-  pub up-turn : {row : ℕ} → Block most first (length values) (w .height) → Room w most first old → row ≡ (first + k) / most * w .width
+  pub up-turn : {row j : ℕ} → Block most first (length values) (w .height) → Room w most first old → Stands first k most (w .width) row j
       → More (inRows w most first (take k values)) old counters → Up w most first values old counters row k v
-  up-turn {row} b room f m =
+  up-turn {row} b room g m =
       let q = first + k in
+      let f = g .list in
       let i = row + (v - w .left - 1) in
       let before = inRows w most first (take k values) in
       let after = inRows w most first (take (k + 1) values) in
@@ -85,10 +100,11 @@ module _ {w : Window} {most first : ℕ} {values old counters : List ℕ} {k v :
             (λ p j. next p ∙ ap (λ (n : ℕ). before p + n) (row-miss w (q / most) v p (s .wide) n));
       }
 
-  pub down-turn : {column : ℕ} → Block most first (length values) (w .width) → column ≡ (first + k) / most
+  pub down-turn : {column j : ℕ} → Block most first (length values) (w .width) → Stands first k most 1 column j
       → More (inColumns w most first (take k values)) counters old → Down w most first values old counters column k v
-  down-turn {column} b f m =
+  down-turn {column} b g m =
       let q = first + k in
+      let f : column ≡ q / most = omega (arith, g .list) in
       let i = (v - w .top - 1) * w .width + column in
       let before = inColumns w most first (take k values) in
       let after = inColumns w most first (take (k + 1) values) in

@@ -6,7 +6,7 @@ ghost use Prim.Native.Nat.{ℕ, _+_, _*_, _^_, _≤_, _<_, min};
 ghost use lib.ListN.{length, getD, take, drop};
 ghost use Rattle.model.specs.Limits.{mostNumber};
 ghost use Rattle.model.specs.Alist.{agree};
-ghost use Rattle.numbers.specs.Walked.{from, Small};
+ghost use Rattle.numbers.specs.Walked.{from, Small, Filled};
 ghost use Rattle.places.specs.Held.{Held, listsOf};
 ghost use Rattle.places.specs.Counters.{mostCounters, Agrees, Tells, inRows, inColumns, More, Above, sum, Zeros, Room, Inside, Block};
 use numbers::Side;
@@ -25,6 +25,12 @@ struct Window {
     width: usize,
 }
 
+// How many numbers a block has, and where they end.
+struct Piece {
+    size: usize,
+    end: usize,
+}
+
 // Whether no counter would have fallen below 0, and how many indices are counted up and not down again.
 struct Count {
     fine: bool,
@@ -35,6 +41,23 @@ struct Count {
 struct Walk {
     fine: bool,
     end: usize,
+}
+
+fn least(x: usize, y: usize) -> usize
+    ensures { λ r. ⌜ r ≡ min x y ⌝ }
+{
+    if x < y { x } else { y }
+}
+
+// Reads the next block of `left` numbers from `at` on: as many as the list has entries, or as are left.
+fn read_block(text: &[u8], at: usize, left: usize, values: &mut [u16]) -> Piece
+    requires { ⌜ (at ≤ length (now text)) × Small left (from (now text) at) ⌝ }
+    ensures { λ r. ⌜ Filled (now (text .entry)) at (take (r .size) (now (values .exit))) (r .end)
+        × (r .size ≡ min (length (now (values .entry))) left) × (length (now (values .exit)) ≡ length (now (values .entry))) ⌝ }
+{
+    let size = least(values.len(), left);
+    let end = numbers::read(text, at, &mut values[..size]);
+    Piece { size, end }
 }
 
 // Counts up the indices of the rows in the window's columns: `values` are numbers of its rows, from the `first` on. How many there are.
@@ -82,8 +105,9 @@ fn rows_up(text: &[u8], at: usize, most: usize, window: Window, counters: &mut [
     let mut end = at;
     let mut done = 0usize;
     while done < total {
-        let size = least(BLOCK, total - done);
-        end = numbers::read(text, end, &mut values[..size]);
+        let block = read_block(text, end, total - done, &mut values);
+        let size = block.size;
+        end = block.end;
         open += count_up(&values[..size], done, most, window, counters);
         done += size;
     }
@@ -151,8 +175,9 @@ fn columns_down(
     let mut end = at;
     let mut done = 0usize;
     while done < total {
-        let size = least(BLOCK, total - done);
-        end = numbers::read(text, end, &mut values[..size]);
+        let block = read_block(text, end, total - done, &mut values);
+        let size = block.size;
+        end = block.end;
         let counted = count_down(&values[..size], done, most, window, left, counters);
         left = counted.left;
         if !counted.fine {
@@ -164,12 +189,6 @@ fn columns_down(
         fine: left == 0,
         end,
     }
-}
-
-fn least(x: usize, y: usize) -> usize
-    ensures { λ r. ⌜ r ≡ min x y ⌝ }
-{
-    if x < y { x } else { y }
 }
 
 // Whether columns and rows agree in the rows top .. top + height - 1, window by window.

@@ -1,27 +1,22 @@
 -- `places::count_down` meets its contract: k numbers of the block are counted. Assumes nothing.
-use Rattle.integers.proofs.Prelude.{_≡_, refl, sym, ap, _∙_, List, ℕ, _+_, _-_, _*_, _/_, _%_, _≤_, _<_, arith, needs, leb-true, leb-false, length, getD, take}
-use Rattle.integers.proofs.Prelude.{set, take-all}
+use Rattle.integers.proofs.Prelude.{_≡_, refl, sym, List, ℕ, _+_, _-_, _*_, _≤_, _<_, arith, needs, leb-true, leb-false, length, getD, take, set, take-all}
 use mathlib.Core.Logic.{⊎-elim}
-use native.Mathlib.Nat.{add-zero}
 use Rattle.places.specs.Counters.{inColumns, More, sum}
 use Rattle.places.proofs.Counters.{sum-set, sum-at, more-none}
-use Rattle.places.proofs.Counting.{in-list, list-goes-on, list-ends, Down, down-turn}
+use Rattle.places.proofs.Counting.{Stands, stands-first, in-list, list-goes-on, list-ends, Down, down-turn}
 use Rattle.places.proofs.count_down.Statement.{statement}
 use Rattle.places.proofs.count_down.Tie as tie
 
 abbrev Inv-loop : tie.InvT-loop
 Inv-loop values first most count counters₀ top height width column₀ i₀ left₀ k₀ k-end counters column i left k =
     More (inColumns (record { top = top; height = height; left = 0; width = width }) most first (take k values)) counters counters₀ × (left ≡ sum counters)
-    × (column ≡ (first + k) / most) × (i ≡ (first + k) % most) × (k ≤ k-end)
+    × Stands first k most 1 column i × (k ≤ k-end)
 
 abbrev μ-loop : tie.MeasureT-loop
 μ-loop values first most count counters₀ top height width column₀ i₀ left₀ k₀ k-end counters column i left k = k-end - k
 
 loop-holds : tie.Need-loop-holds Inv-loop μ-loop
-loop-holds c =
-    let a = c .before .before .args in
-    let e : a .first ≡ a .first + 0 = sym (add-zero (a .first)) in
-    (more-none _ _ (λ p h. refl), c .before .before .pre .2, ap (λ (n : ℕ). n / a .most) e, ap (λ (n : ℕ). n % a .most) e, omega arith)
+loop-holds c = (more-none _ _ (λ p h. refl), c .before .before .pre .2, stands-first _ _ _ (omega arith), omega arith)
 
 -- ---- the number at hand
 module _ (x : tie.After-index Inv-loop μ-loop) where
@@ -83,11 +78,10 @@ loop-again c =
     (λ w.
     let out = down x .passed (⊎-elim (λ v l r. omega (arith, leb-false, v .1)) (λ v l r. omega (arith, v .left)) (w .0 .came)) in
     rw (w .1, w .2) (out, l .inv .1)) (j .if1 .came) in
-    let f : l .column ≡ (a .first + l .k) / a .most * 1 = l .inv .2 ∙ omega arith in
-    let g : (c .if4 .column ≡ (a .first + (l .k + 1)) / a .most * 1) × (c .if4 .i ≡ (a .first + (l .k + 1)) % a .most)
-    = ⊎-elim (λ w. rw (w .1, w .2) (list-ends (a .first) (l .k) 1 some f (l .inv .3) (w .0 .taken)))
-    (λ w. rw (w .1, w .2) (list-goes-on (a .first) (l .k) 1 some f (l .inv .3) (w .0 .left))) (c .if4 .came) in
-    (n .0, n .1, g .0 ∙ omega arith, g .1, omega arith)
+    let g : Stands (a .first) (l .k + 1) (a .most) 1 (c .if4 .column) (c .if4 .i)
+    = ⊎-elim (λ w. rw (w .1, w .2) (list-ends (l .inv .2) some (w .0 .taken))) (λ w. rw (w .1, w .2) (list-goes-on (l .inv .2) some (w .0 .left)))
+    (c .if4 .came) in
+    (n .0, n .1, g, omega arith)
 
 returns-2 : tie.Need-returns-2 Inv-loop μ-loop
 returns-2 c =
@@ -103,6 +97,6 @@ count-down-spec =
     (λ c. inside (c .before)) (λ c. sym (c .before .before .before .before .before .before .before .loop .inv .0 .long)) returns
     (λ c. omega (arith, inside (c .before .before))) (λ c. inside (c .before .before .before)) (λ c. omega (arith, c .before .if3))
     (λ c. inside (c .before .before .before)) sub-left
-    (λ c. let x = c .before in omega (arith, in-list (start x .pre .1) _ (turn x .loop .i) (turn x .loop .inv .3)))
+    (λ c. let x = c .before in omega (arith, in-list (turn x .loop .inv .2) (start x .pre .1)))
     (λ c. omega (arith, down (c .before .before) .column-fits)) (λ c. search needs) (λ c. search needs) loop-again
     (λ c. sym (c .before .loop .inv .0 .long)) returns-2)

@@ -1,18 +1,16 @@
 -- `places::count_up` meets its contract: k numbers of the block are counted. Assumes nothing.
-use Rattle.integers.proofs.Prelude.{_≡_, refl, sym, ap, List, ℕ, _+_, _-_, _*_, _/_, _%_, _≤_, _<_, arith, needs, leb-true, leb-false, length, getD, take, set}
-use Rattle.integers.proofs.Prelude.{take-all}
+use Rattle.integers.proofs.Prelude.{_≡_, refl, List, ℕ, _+_, _-_, _≤_, _<_, arith, needs, leb-true, leb-false, length, getD, take, set, take-all}
 use mathlib.Core.Logic.{⊎-elim}
-use native.Mathlib.Nat.{add-zero}
 use Rattle.places.specs.Counters.{inRows, More, sum}
 use Rattle.places.proofs.Counters.{sum-set, more-none}
-use Rattle.places.proofs.Counting.{row-start, in-list, list-goes-on, list-ends, Up, up-turn}
+use Rattle.places.proofs.Counting.{Stands, row-start, stands-first, in-list, list-goes-on, list-ends, Up, up-turn}
 use Rattle.places.proofs.count_up.Statement.{statement}
 use Rattle.places.proofs.count_up.Tie as tie
 
 abbrev Inv-loop : tie.InvT-loop
 Inv-loop values first most counters₀ left width row₀ i₀ open₀ k₀ k-end counters row i «open» k =
     More (inRows (record { top = 0; height = 0; left = left; width = width }) most first (take k values)) counters₀ counters
-    × (sum counters ≡ sum counters₀ + «open») × («open» ≤ k) × (row ≡ (first + k) / most * width) × (i ≡ (first + k) % most) × (k ≤ k-end)
+    × (sum counters ≡ sum counters₀ + «open») × («open» ≤ k) × Stands first k most width row i × (k ≤ k-end)
 
 abbrev μ-loop : tie.MeasureT-loop
 μ-loop values first most counters₀ left width row₀ i₀ open₀ k₀ k-end counters row i «open» k = k-end - k
@@ -24,16 +22,7 @@ mul-row c =
     omega (arith, row-start (a .window) (length (a .counters .now)) (a .most) (a .first) (length (a .values .now)) (p .0) (p .1))
 
 loop-holds : tie.Need-loop-holds Inv-loop μ-loop
-loop-holds c =
-    let a = c .before .before .args in
-    let e : a .first ≡ a .first + 0 = sym (add-zero (a .first)) in (
-      more-none _ _ (λ p h. refl),
-      omega arith,
-      omega arith,
-      ap (λ (n : ℕ). n / a .most * a .window .width) e,
-      ap (λ (n : ℕ). n % a .most) e,
-      omega arith,
-    )
+loop-holds c = (more-none _ _ (λ p h. refl), omega arith, omega arith, stands-first _ _ _ refl, omega arith)
 
 -- ---- the number at hand
 module _ (x : tie.After-index Inv-loop μ-loop) where
@@ -79,10 +68,10 @@ loop-again c =
     (λ w.
     let out = up x .passed (⊎-elim (λ v l r. omega (arith, leb-false, v .1)) (λ v l r. omega (arith, v .left)) (w .0 .came)) in
     rw (w .1, w .2) (out, l .inv .1, omega (arith, l .inv .2))) (j .if1 .came) in
-    let g : (c .if3 .row ≡ (a .first + (l .k + 1)) / a .most * a .window .width) × (c .if3 .i ≡ (a .first + (l .k + 1)) % a .most)
-    = ⊎-elim (λ w. rw (w .1, w .2) (list-ends (a .first) (l .k) (a .window .width) some (l .inv .3) (l .inv .4) (w .0 .taken)))
-    (λ w. rw (w .1, w .2) (list-goes-on (a .first) (l .k) (a .window .width) some (l .inv .3) (l .inv .4) (w .0 .left))) (c .if3 .came) in
-    (n .0, n .1, n .2, g .0, g .1, omega arith)
+    let g : Stands (a .first) (l .k + 1) (a .most) (a .window .width) (c .if3 .row) (c .if3 .i)
+    = ⊎-elim (λ w. rw (w .1, w .2) (list-ends (l .inv .3) some (w .0 .taken))) (λ w. rw (w .1, w .2) (list-goes-on (l .inv .3) some (w .0 .left)))
+    (c .if3 .came) in
+    (n .0, n .1, n .2, g, omega arith)
 
 returns : tie.Need-returns Inv-loop μ-loop
 returns c =
@@ -98,5 +87,5 @@ count-up-spec =
     (λ c. omega (arith, leb-true, up (c .before .before) .row-fits)) (λ c. omega (arith, leb-true, up (c .before .before .before) .row-fits))
     (λ c. omega (arith, up (c .before .before .before) .fits (c .before .before .if1 .taken) (leb-true _ _ (c .before .if2 .taken))))
     (λ c. omega (arith, leb-true, up (c .before .before .before) .row-fits)) (λ c. search needs)
-    (λ c. let x = c .before in omega (arith, in-list (start x .pre .1) _ (turn x .loop .i) (turn x .loop .inv .4)))
+    (λ c. let x = c .before in omega (arith, in-list (turn x .loop .inv .3) (start x .pre .1)))
     (λ c. omega (arith, up (c .before .before) .row-fits)) (λ c. search needs) (λ c. search needs) loop-again (λ c. c .before .loop .inv .0 .long) returns)
