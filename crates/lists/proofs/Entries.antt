@@ -161,6 +161,10 @@ module _ {A : Type 0} where
   pub total-part : (f : A → ℕ) (l : List A) (i : ℕ) → total f (take i l) ≤ total f l
   total-part f l i = omega (arith, total-append f (take i l) (drop i l), ap (total f) (take-append-drop i l))
 
+pub total-map : {A B : Type 0} (f : B → ℕ) (g : A → B) (l : List A) → total f (map g l) ≡ total (λ x. f (g x)) l
+total-map f g [] = refl
+total-map f g (x ∷ l) = rw (total-map f g l)
+
 -- ---- what holds below i, and at i
 pub below-next : (P : ℕ → Type 0) (i : ℕ) → ((j : ℕ) → j < i → P j) → P i → (j : ℕ) → j < i + 1 → P j
 below-next P i h e j l = by (ltb j i) refl

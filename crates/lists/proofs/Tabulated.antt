@@ -141,5 +141,9 @@ pub tab-map : {A B : Type 0} (g : A → B) (l : List A) (d : A) → tab (length 
 tab-map g [] d = refl
 tab-map g (x ∷ l) d = ap (_∷_ (g x)) (tab-map g l d)
 
+pub map-tab : {A B : Type 0} (g : A → B) (n : ℕ) (f : ℕ → A) → map g (tab n f) ≡ tab n (λ i. g (f i))
+map-tab g zero f = refl
+map-tab g (suc n) f = ap (_∷_ (g (f 0))) (map-tab g n (λ i. f (suc i)))
+
 pub over-map : {A B : Type 0} (g : A → B) (l : List A) (d : A) (old : List B) → over (length l) (λ i. g (getD l i d)) old ≡ written (map g l) old
 over-map g l d old = rw (length-map l g, tab-map g l d)

@@ -4,10 +4,10 @@ use Rattle.integers.proofs.Prelude.{length-map}
 use Rattle.integers.specs.Sum.{sumℕ}
 use Rattle.integers.proofs.Sums.{sumℕ-same, sumℕ-first, sumℕ-swap}
 use Rattle.lists.specs.Entries.{every, total}
-use Rattle.lists.proofs.Entries.{every-at}
+use Rattle.lists.proofs.Entries.{every-at, total-map}
 use Rattle.model.specs.Records.{recordsOf, recordSize}
 use Rattle.model.specs.Sound.{SoundChecks, Sound}
-use Rattle.model.specs.Alist.{times, upTo, largestOf}
+use Rattle.model.specs.Alist.{largest, times, upTo, largestOf}
 use Rattle.model.specs.AlistClaims.{SamePlaces}
 use Rattle.model.proofs.RecordClaims.{length-code}
 use Rattle.model.proofs.Agreement.{times-length, columns-upTo, rows-upTo}
@@ -36,9 +36,12 @@ same-total cs rs p q h =
     ∙ sym (by-number m cs p (columns-upTo cs rs h))
 
 -- ---- sizes
-largest-total : (u : ℕ) (ls : List (List ℕ)) → largestOf ls ≤ u → total length ls ≤ length ls * u
-largest-total u [] h = omega arith
-largest-total u (l ∷ ls) h = omega (arith, largest-total u ls (omega arith))
+pub total-most : (u : ℕ) (l : List ℕ) → largest l ≤ u → total (λ x. x) l ≤ length l * u
+total-most u [] h = omega arith
+total-most u (x ∷ l) h = omega (arith, total-most u l (omega arith))
+
+largest-total : (ls : List (List ℕ)) → total length ls ≤ length ls * largestOf ls
+largest-total ls = let count = length-map ls length in rw (← total-map (λ x. x) length ls, ← count) (total-most (largestOf ls) (map length ls) (omega arith))
 
 records-total : (f : ℕ → ℕ) (ls : List (List ℕ)) → total recordSize (map (map f) ls) ≡ 3 * length ls + 2 * total length ls
 records-total f [] = refl
@@ -55,6 +58,6 @@ pub records-fit : (cs rs : List (List ℕ)) (f : ℕ → ℕ) → Sound (record 
     ≤ 2 * (4 + (length cs + (length rs + (length cs * largestOf cs + length rs * largestOf rs))))
 records-fit cs rs f s p q h =
     let size = length-code (record { bits = length cs; checks = map (map f) rs }) in
-    let rows = largest-total (largestOf rs) rs (omega arith) in
-    let columns = largest-total (largestOf cs) cs (omega arith) in
+    let rows = largest-total rs in
+    let columns = largest-total cs in
     omega (arith, records-total f rs, checks-total (length cs) f rs (s .checks), same-total cs rs p q h)

@@ -21,6 +21,9 @@ pub numbers-in : (begun b : ℕ) (s : List ℕ) → separator b ≡ false → nu
 unfolding numbersOf
 numbers-in begun b s e = rw e
 
+pub numbers-more : (x b : ℕ) (s : List ℕ) → separator b ≡ false → numbersOf (suc x) (b ∷ s) ≡ numbersOf (suc (further x b)) s
+numbers-more x b s e = let same : suc x - 1 ≡ x = omega arith in rw (numbers-in (suc x) b s e, same)
+
 pub numbers-end : (begun : ℕ) → numbersOf begun [] ≡ ended begun []
 unfolding numbersOf
 numbers-end begun = refl
@@ -33,11 +36,14 @@ module _ (begun : ℕ) (s : List ℕ) (i : ℕ) where
   pub walk-in : i < length s → separator (getD s i 0) ≡ false → numbersOf begun (drop i s) ≡ numbersOf (suc (further (begun - 1) (getD s i 0))) (drop (suc i) s)
   walk-in h e = ap (numbersOf begun) (drop-cons s i 0 h) ∙ numbers-in begun (getD s i 0) (drop (suc i) s) e
 
+  pub walk-more : i < length s → separator (getD s i 0) ≡ false → numbersOf (suc begun) (drop i s) ≡ numbersOf (suc (further begun (getD s i 0))) (drop (suc i) s)
+  walk-more h e = ap (numbersOf (suc begun)) (drop-cons s i 0 h) ∙ numbers-more begun (getD s i 0) (drop (suc i) s) e
+
   pub walk-end : length s ≤ i → numbersOf begun (drop i s) ≡ ended begun []
   walk-end h = ap (numbersOf begun) (drop-of-length-le s h) ∙ numbers-end begun
 
 -- by cases, of any fact on the numbers of a text that goes on with b
-by-byte : (P : List ℕ → Type 0) (begun b : ℕ) (s : List ℕ) → (separator b ≡ true → P (ended begun (numbersOf 0 s)))
+pub by-byte : (P : List ℕ → Type 0) (begun b : ℕ) (s : List ℕ) → (separator b ≡ true → P (ended begun (numbersOf 0 s)))
     → (separator b ≡ false → P (numbersOf (suc (further (begun - 1) b)) s)) → P (numbersOf begun (b ∷ s))
 by-byte P begun b s apart more = by (separator b) refl
   where
@@ -86,10 +92,10 @@ value-grows : (x : ℕ) (d : List ℕ) → x ≤ valueOf x d
 value-grows x [] = omega arith
 value-grows x (b ∷ d) = omega (arith, value-grows (10 * x + (b - 48)) d)
 
-digit-separates : (b : ℕ) → 48 ≤ b → separator b ≡ false
+pub digit-separates : (b : ℕ) → 48 ≤ b → separator b ≡ false
 digit-separates b h = rw (ne-eqb b 32 (λ e. omega arith), ne-eqb b 10 (λ e. omega arith))
 
-digit-further : (x b : ℕ) → 48 ≤ b → b ≤ 57 → 10 * x + (b - 48) ≤ mostNumber → further x b ≡ 10 * x + (b - 48)
+pub digit-further : (x b : ℕ) → 48 ≤ b → b ≤ 57 → 10 * x + (b - 48) ≤ mostNumber → further x b ≡ 10 * x + (b - 48)
 digit-further x b h k l = rw (inside 48 57 b h k) (omega arith)
 
 -- a number that is begun goes on with digits
@@ -97,9 +103,8 @@ digits-read : (x : ℕ) (d s : List ℕ) → Digits d → valueOf x d ≤ mostNu
 digits-read x [] s h l = refl
 digits-read x (b ∷ d) s h l =
     let y = 10 * x + (b - 48) in
-    let same : suc x - 1 ≡ x = omega arith in
-    numbers-in (suc x) b (d ++ s) (digit-separates b (h .0))
-    ∙ ap (λ (n : ℕ). numbersOf (suc n) (d ++ s)) (rw same (digit-further x b (h .0) (h .1) (omega (arith, value-grows y d))))
+    numbers-more x b (d ++ s) (digit-separates b (h .0))
+    ∙ ap (λ (n : ℕ). numbersOf (suc n) (d ++ s)) (digit-further x b (h .0) (h .1) (omega (arith, value-grows y d)))
     ∙ digits-read y d s (h .2) l
 
 -- and begins with them
@@ -168,7 +173,7 @@ spells-after b s (x ∷ l) e h =
     )
 
 -- a byte that is no separator is a digit, where the number that it belongs to is small
-further-digit : (x b : ℕ) → further x b ≤ mostNumber → (48 ≤ b) × (b ≤ 57) × (further x b ≡ 10 * x + (b - 48))
+pub further-digit : (x b : ℕ) → further x b ≤ mostNumber → (48 ≤ b) × (b ≤ 57) × (further x b ≡ 10 * x + (b - 48))
 further-digit x b h = by (outside 48 57 b) refl h
   where
     by : (t : Bool) → outside 48 57 b ≡ t → cond t (suc mostNumber) (min (suc mostNumber) (10 * x + (b - 48))) ≤ mostNumber
