@@ -1,18 +1,10 @@
 -- A walk over lists, number by number and list by list: what is left decides. Assumes nothing.
-use Rattle.integers.proofs.Prelude.{_≡_, refl, sym, ap, _∙_, Bool, true, false, _&&_, List, [], _∷_, ℕ, zero, suc, _+_, _-_, _*_, _≤_, _<_, arith, decLt}
-use Rattle.integers.proofs.Prelude.{lt-ltb, le-ltb, lt-leb, le-leb, ne-eqb, leb, ltb, eqb, getD, drop, drop-drop, getD-drop}
+use Rattle.integers.proofs.Prelude.{_≡_, refl, sym, ap, Bool, true, false, _&&_, List, [], _∷_, ℕ, zero, suc, _+_, _-_, _*_, _≤_, _<_, arith, decLt}
+use Rattle.integers.proofs.Prelude.{lt-ltb, le-ltb, lt-leb, le-leb, ne-eqb, leb, ltb, eqb, getD, drop, drop-drop}
 use mathlib.Core.Bool.{Bool·beq}
-use native.Mathlib.Nat.{add-zero}
 use Rattle.numbers.specs.Walked.{none}
-use Rattle.numbers.proofs.Walk.{small}
+use Rattle.numbers.proofs.Walk.{small, first-behind, next-behind}
 use Rattle.alist.specs.Form.{filledList, filledLists}
-
--- ---- after i of the entries of l
-first-behind : (l : List ℕ) (i : ℕ) → getD (drop i l) 0 none ≡ getD l i none
-first-behind l i = getD-drop i l 0 none ∙ ap (λ (j : ℕ). getD l j none) (add-zero i)
-
-next-behind : (l : List ℕ) (i : ℕ) → drop 1 (drop i l) ≡ drop (suc i) l
-next-behind l i = let e : i + 1 ≡ suc i = omega arith in drop-drop 1 i l ∙ ap (λ (j : ℕ). drop j l) e
 
 -- ---- one list
 -- an index where the degree asks for one, otherwise 0
