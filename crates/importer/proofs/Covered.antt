@@ -5,7 +5,7 @@ use lib.ListN.{List·getD-map}
 use Rattle.lists.specs.Tabulated.{tab}
 use Rattle.lists.specs.Entries.{every, some}
 use Rattle.lists.proofs.Tests.{and-left, and-right}
-use Rattle.lists.proofs.Tabulated.{tab-getD}
+use Rattle.lists.proofs.Tabulated.{tab-getD, map-tab}
 use Rattle.lists.proofs.Entries.{every-at, every-map, every-same, some-at, none-in}
 use Rattle.model.specs.Causes.{_if_}
 use Rattle.model.specs.Records.{covered}
@@ -13,11 +13,6 @@ use Rattle.model.specs.Alist.{times}
 use Rattle.model.specs.AlistClaims.{SamePlaces}
 use Rattle.model.proofs.Agreement.{times-suc, member, no-member, past}
 use Rattle.importer.specs.Rows.{lowered}
-
--- ---- a list that is given by its entries, tested
-every-tab : {A : Type 0} (f : A → Bool) (n : ℕ) (g : ℕ → A) (h : ℕ → ℕ) → every f (tab n (λ i. g (h i))) ≡ every (λ i. f (g i)) (tab n h)
-every-tab f zero g h = refl
-every-tab f (suc n) g h = rw (every-tab f n g (λ i. h (suc i)))
 
 -- ---- the bits of a row are its indices, lowered
 raised : (l : List ℕ) → every (ltb 0) l ≡ true → map suc (lowered l) ≡ l
@@ -67,6 +62,6 @@ module _ (cs rs : List (List ℕ)) (columns : every (every (ltb 0)) cs ≡ true)
   unfolding covered
   covered-named =
       every-same (length cs) (λ b. b) (λ b. some (some (eqb b)) checks) (λ b. ltb 0 (length (getD cs b []))) bit-covered
-      ∙ sym (every-tab (λ c. ltb 0 (length c)) (length cs) (λ b. getD cs b []) (λ b. b))
-      ∙ ap (every (λ c. ltb 0 (length c))) (tab-getD cs [])
+      ∙ sym (every-map (λ c. ltb 0 (length c)) (λ b. getD cs b []) (tab (length cs) (λ b. b)))
+      ∙ ap (every (λ c. ltb 0 (length c))) (map-tab (λ b. getD cs b []) (length cs) (λ b. b) ∙ tab-getD cs [])
       ∙ sym (every-map (ltb 0) length cs)
