@@ -1,6 +1,6 @@
 -- The numbers of a text: how a loop over its bytes finds them, their sizes, and the texts that write given numbers. Assumes nothing.
 use Rattle.integers.proofs.Prelude.{_≡_, refl, sym, ap, _∙_, Bool, true, false, cond, List, [], _∷_, _++_, append-nil, ℕ, zero, suc, _+_, _-_, _*_}
-use Rattle.integers.proofs.Prelude.{_≤_, _<_, min, arith, ltb-true, lt-ltb, le-leb, ne-eqb, ltb, leb, length, getD, drop, drop-of-length-le, drop-cons}
+use Rattle.integers.proofs.Prelude.{_≤_, _<_, min, arith, ltb-true, lt-ltb, ne-eqb, ltb, length, getD, drop, drop-of-length-le, drop-cons}
 use mathlib.Core.Logic.{_↔_}
 use Rattle.lists.specs.Entries.{every}
 use Rattle.lists.proofs.Tests.{and-left, and-right}
@@ -59,18 +59,6 @@ further-most x b = by (outside 48 57 b)
     by : (t : Bool) → cond t (suc mostNumber) (min (suc mostNumber) (10 * x + (b - 48))) ≤ suc mostNumber
     by true = omega arith
     by false = omega arith
-
-pub numbers-most : (begun : ℕ) (s : List ℕ) → begun ≤ suc (suc mostNumber) → every (λ x. leb x (suc mostNumber)) (numbersOf begun s) ≡ true
-numbers-most zero [] h = rw (numbers-end 0)
-numbers-most (suc x) [] h = rw (numbers-end (suc x), le-leb x (suc mostNumber) (omega arith))
-numbers-most begun (b ∷ s) h =
-    by-byte (λ l. every (λ x. leb x (suc mostNumber)) l ≡ true) begun b s (λ _. by begun h (numbers-most 0 s (omega arith)))
-    (λ _. numbers-most (suc (further (begun - 1) b)) s (omega (arith, further-most (begun - 1) b)))
-  where
-    by : (begun : ℕ) → begun ≤ suc (suc mostNumber) → every (λ x. leb x (suc mostNumber)) (numbersOf 0 s) ≡ true
-        → every (λ x. leb x (suc mostNumber)) (ended begun (numbersOf 0 s)) ≡ true
-    by zero h ih = ih
-    by (suc x) h ih = rw (le-leb x (suc mostNumber) (omega arith)) ih
 
 -- numbers want bytes: one each, and one between two
 pub numbers-fit : (begun : ℕ) (s : List ℕ) → 2 * length (numbersOf begun s) ≤ 1 + min begun 1 + length s

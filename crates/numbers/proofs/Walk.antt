@@ -1,6 +1,6 @@
 -- The numbers of a text from a place on, and numbers of at most 65,535. Assumes nothing.
-use Rattle.integers.proofs.Prelude.{_≡_, refl, sym, ap, _∙_, Bool, true, false, _&&_, List, [], _∷_, ℕ, zero, suc, _+_, _≤_, _<_, max, arith, decLt}
-use Rattle.integers.proofs.Prelude.{leb-true, le-leb, leb, length, getD, take, drop, List·getD-eq-default, length-take-le, drop-drop}
+use Rattle.integers.proofs.Prelude.{_≡_, refl, sym, ap, _∙_, true, false, _&&_, List, [], _∷_, ℕ, zero, suc, _+_, _≤_, _<_, max, arith, decLt}
+use Rattle.integers.proofs.Prelude.{leb-true, le-leb, length, getD, take, drop, List·getD-eq-default, length-take-le, drop-drop}
 use Rattle.integers.proofs.Prelude.{getD-take, getD-drop, length-drop, take-append-drop, take-add, take-suc}
 use native.Mathlib.Nat.{add-zero}
 use Rattle.lists.specs.Entries.{every}
@@ -9,6 +9,7 @@ use Rattle.lists.proofs.Tests.{and-left, and-right}
 use Rattle.model.specs.Limits.{mostNumber}
 use Rattle.model.specs.Alist.{separator, numbersOf, largest}
 use Rattle.model.proofs.Spelling.{walk-apart, walk-in}
+use Rattle.model.proofs.AlistLines.{small}
 use Rattle.numbers.specs.Walked.{from, none, Next, Small, Scanned}
 
 -- ---- at the place i of the text s
@@ -47,9 +48,6 @@ same-at (x ∷ l) zero d e h = refl
 same-at (x ∷ l) (suc j) d e h = same-at l j d e (omega arith)
 
 -- ---- numbers of at most 65,535
-abbrev pub small : ℕ → Bool
-small x = leb x mostNumber
-
 pub small-none : (l : List ℕ) → Small 0 l
 small-none l = record { long = omega arith; small = refl }
 
