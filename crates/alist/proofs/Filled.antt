@@ -1,18 +1,12 @@
 -- A walk over lists, number by number and list by list: what is left decides. Assumes nothing.
-use Rattle.integers.proofs.Prelude.{_≡_, refl, sym, ap, _∙_, Bool, true, false, _&&_, List, [], _∷_, ℕ, zero, suc, _+_, _-_, _*_, _≤_, _<_, arith, decLt}
-use Rattle.integers.proofs.Prelude.{lt-ltb, le-ltb, lt-leb, le-leb, ne-eqb, leb, ltb, eqb, getD, drop, drop-drop, getD-drop}
+use Rattle.integers.proofs.Prelude.{_≡_, refl, sym, ap, Bool, true, false, _&&_, List, [], _∷_, ℕ, zero, suc, _+_, _-_, _*_, _≤_, _<_, arith}
+use Rattle.integers.proofs.Prelude.{ltb-true, lt-ltb, lt-leb, le-leb, ne-eqb, leb, ltb, eqb, getD, drop, drop-drop}
 use mathlib.Core.Bool.{Bool·beq}
-use native.Mathlib.Nat.{add-zero}
+use Rattle.lists.proofs.Tests.{same-test}
+use Rattle.model.proofs.AlistLines.{small}
 use Rattle.numbers.specs.Walked.{none}
-use Rattle.numbers.proofs.Walk.{small}
+use Rattle.numbers.proofs.Walk.{first-behind, next-behind}
 use Rattle.alist.specs.Form.{filledList, filledLists}
-
--- ---- after i of the entries of l
-first-behind : (l : List ℕ) (i : ℕ) → getD (drop i l) 0 none ≡ getD l i none
-first-behind l i = getD-drop i l 0 none ∙ ap (λ (j : ℕ). getD l j none) (add-zero i)
-
-next-behind : (l : List ℕ) (i : ℕ) → drop 1 (drop i l) ≡ drop (suc i) l
-next-behind l i = let e : i + 1 ≡ suc i = omega arith in drop-drop 1 i l ∙ ap (λ (j : ℕ). drop j l) e
 
 -- ---- one list
 -- an index where the degree asks for one, otherwise 0
@@ -38,11 +32,9 @@ list-head (suc degree) most (x ∷ l) =
 
 -- whether a further index is due
 due : (i degree : ℕ) → ltb 0 (degree - i) ≡ ltb i degree
-due i degree = by (decLt i degree)
-  where
-    by : Dec (i < degree) → ltb 0 (degree - i) ≡ ltb i degree
-    by (yes h) = rw (lt-ltb i degree h, lt-ltb 0 (degree - i) (omega arith))
-    by (no h) = rw (le-ltb i degree (omega arith), le-ltb 0 (degree - i) (omega arith))
+due i degree =
+    same-test (ltb 0 (degree - i)) (ltb i degree) (λ e. lt-ltb i degree (omega (arith, ltb-true 0 (degree - i) e)))
+    (λ e. lt-ltb 0 (degree - i) (omega (arith, ltb-true i degree e)))
 
 pub list-next : (degree most i : ℕ) (l : List ℕ) → i < most
     → filledList (degree - i) (most - i) (drop i l) ≡ (fits i degree (getD l i none) && filledList (degree - suc i) (most - suc i) (drop (suc i) l))

@@ -1,12 +1,14 @@
 -- Numbers are well formed exactly when their parts are as a walk finds them, one after the other. Assumes nothing.
-use Rattle.integers.proofs.Prelude.{_≡_, refl, sym, ap, subst, Bool, true, false, _&&_, List, [], _∷_, ℕ, zero, suc, _+_, _*_, _≤_, arith}
+use Rattle.integers.proofs.Prelude.{_≡_, refl, sym, ap, subst, true, false, _&&_, List, [], _∷_, ℕ, zero, suc, _+_, _*_, _≤_, arith}
 use Rattle.integers.proofs.Prelude.{eqb-true, eq-eqb, T, ltb, eqb, length, getD, take, drop, length-drop, drop-of-length-le}
 use Rattle.lists.specs.Entries.{every}
-use Rattle.lists.proofs.Tests.{and-left, and-right, and-both}
-use Rattle.model.specs.Alist.{pieces, columnDegrees, rowDegrees, columnLists, rowLists, columns, rows, numberCount, largest, filled, allFilled, soundSide}
+use Rattle.lists.proofs.Tests.{and-left, and-right, and-both, fails}
+use Rattle.model.specs.Alist.{pieces, columnDegrees, rowDegrees, columnLists, rowLists, numberCount, largest, filled, allFilled}
 use Rattle.model.specs.Alist.{wellFormed}
+use Rattle.model.proofs.AlistLines.{small}
+use Rattle.model.proofs.AlistParts.{form-parts}
 use Rattle.numbers.specs.Walked.{Small}
-use Rattle.numbers.proofs.Walk.{small, small-none, small-cons, small-join, small-front, small-behind, small-all}
+use Rattle.numbers.proofs.Walk.{small-none, small-cons, small-join, small-front, small-behind, small-all}
 use Rattle.alist.specs.Form.{filledList, filledLists}
 
 -- ---- one list
@@ -92,14 +94,10 @@ module _ (l : List ℕ) where
   r = getD l 3 0
 
   pub parts-of : wellFormed l ≡ true → Parts l
-  unfolding wellFormed
   parts-of h =
-      let s0 = and-left (every small l) _ h in
-      let h1 = and-right (every small l) _ h in
-      let long = eqb-true (length l) (numberCount l) (and-left (eqb (length l) (numberCount l)) _ h1) in
-      let h2 = and-right (eqb (length l) (numberCount l)) (soundSide (columns l) && soundSide (rows l)) h1 in
-      let cs = and-left (soundSide (columns l)) (soundSide (rows l)) h2 in
-      let rs = and-right (soundSide (columns l)) (soundSide (rows l)) h2 in
+      let f = form-parts l h in
+      let s0 = f .0 in
+      let long = f .1 in
       let c-most = eqb c (largest (take n (columnDegrees l))) in
       let c-lists = allFilled (take n (columnDegrees l)) (pieces n c (columnLists l)) in
       let r-most = eqb r (largest (take m (rowDegrees l))) in
@@ -115,11 +113,11 @@ module _ (l : List ℕ) where
       record {
         sizes = small-front 4 l s0 (omega arith);
         column-degrees = small-front n (columnDegrees l) s1 (omega arith);
-        column-most = eqb-true c _ (and-left c-most c-lists cs);
+        column-most = eqb-true c _ (and-left c-most c-lists (f .2));
         row-degrees = small-front m (rowDegrees l) s2 (omega arith);
-        row-most = eqb-true r _ (and-left r-most r-lists rs);
-        column-lists = say-lists n c (columnDegrees l) (columnLists l) (omega arith) s3 (omega arith) (and-right c-most c-lists cs);
-        row-lists = say-lists m r (rowDegrees l) (rowLists l) (omega arith) s4 (omega arith) (and-right r-most r-lists rs);
+        row-most = eqb-true r _ (and-left r-most r-lists (f .3));
+        column-lists = say-lists n c (columnDegrees l) (columnLists l) (omega arith) s3 (omega arith) (and-right c-most c-lists (f .2));
+        row-lists = say-lists m r (rowDegrees l) (rowLists l) (omega arith) s4 (omega arith) (and-right r-most r-lists (f .3));
         none-left = drop-of-length-le (rowLists l) {i = m * r} (omega arith);
       }
 
@@ -138,8 +136,4 @@ well-formed l p =
 
 -- where a part is not so, the numbers are not well formed
 pub not-formed : (l : List ℕ) → (Parts l → ⊥) → wellFormed l ≡ false
-not-formed l h = by (wellFormed l) refl
-  where
-    by : (t : Bool) → wellFormed l ≡ t → t ≡ false
-    by true e = absurd (h (parts-of l e))
-    by false e = refl
+not-formed l h = fails (wellFormed l) (λ e. h (parts-of l e))

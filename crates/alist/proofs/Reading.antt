@@ -1,6 +1,7 @@
 -- The form of a text, read step by step: what each test of `read_form` says of the numbers. Assumes nothing.
-use Rattle.integers.proofs.Prelude.{_≡_, refl, sym, ap, subst, _∙_, Bool, true, false, List, ℕ, _*_, _≤_, _<_, arith, decLt, eqb-true, eqb-false, eqb, T}
+use Rattle.integers.proofs.Prelude.{_≡_, sym, ap, subst, _∙_, Bool, true, false, List, ℕ, _*_, _≤_, _<_, arith, decLt, eqb-true, eq-eqb, eqb, T}
 use Rattle.integers.proofs.Prelude.{getD, take, drop}
+use Rattle.lists.proofs.Tests.{same-test}
 use Rattle.model.specs.Limits.{mostNumber}
 use Rattle.model.specs.Alist.{numbersOf, largest, columnDegrees, rowDegrees, columnLists, rowLists, wellFormed}
 use Rattle.numbers.specs.Walked.{from, none, Next, Small, Scanned}
@@ -9,7 +10,7 @@ use Rattle.numbers.specs.declared.Side.{Side}
 use Rattle.alist.specs.declared.Form.{Form}
 use Rattle.alist.specs.declared.Sizes.{Sizes}
 use Rattle.alist.specs.Form.{filledLists, WalksSide, Stands, Formed, Sized}
-use Rattle.alist.proofs.Parts.{Parts, well-formed, not-formed}
+use Rattle.alist.proofs.Parts.{Parts, parts-of, well-formed, not-formed}
 
 -- ---- an unsound form
 pub refused : (s : List ℕ) (f : Form) → f .sound ≡ false → (Parts (numbersOf 0 s) → ⊥) → Formed s f
@@ -135,9 +136,8 @@ module _ {s : List ℕ} {z : Sizes} (sized : Sized s z) where
                 ends : Parts l → x ≡ none
                 ends parts = after .first ∙ ap (λ (k : List ℕ). getD k 0 none) (row-lists .1 ∙ parts .none-left)
 
-                told : (t : Bool) → eqb x none ≡ t → t ≡ wellFormed l
-                told true h = sym (well-formed l (parts (eqb-true x none h)))
-                told false h = sym (not-formed l (λ p. eqb-false x none h (ends p)))
+                told : eqb x none ≡ wellFormed l
+                told = same-test (eqb x none) (wellFormed l) (λ h. well-formed l (parts (eqb-true x none h))) (λ h. eq-eqb x none (ends (parts-of l h)))
 
                 pub read : Formed s (record { sound = eqb x none; columns = columns; rows = rows })
-                read = record { sound = told (eqb x none) refl; columns = λ h. columns-stand; rows = λ h. rows-stand }
+                read = record { sound = told; columns = λ h. columns-stand; rows = λ h. rows-stand }

@@ -2,7 +2,6 @@
 use Rattle.integers.proofs.Prelude.{_≡_, refl, sym, ap, _∙_, List, [], _∷_, _++_, append-assoc, append-nil, ℕ, zero, suc, _+_, _-_, _*_, _/_, _≤_, _<_, arith}
 use Rattle.integers.proofs.Prelude.{add-one, length, getD, take, drop, length-append, length-take-le, take-at, take-append-drop, take-suc, drop-at}
 use lib.ListN.{replicate, length-replicate, replicate-append-replicate}
-use Rattle.lists.specs.Tabulated.{written}
 use Rattle.lists.specs.Entries.{total}
 use Rattle.lists.proofs.Entries.{total-append}
 use Rattle.model.specs.Text.{decimal}
@@ -143,10 +142,6 @@ room-here t rest r = omega (arith, r .fits, length-append t rest)
 
 pub room-next : {at next : ℕ} {t a b : List ℕ} (rest : List ℕ) → Room at (t ++ rest) a → Appended at t a b next → Room next rest b
 room-next {t = t} rest r p = record { fits = omega (arith, r .fits, length-append t rest, p .ends, long p) }
-
--- all of it
-pub whole-text : {t a b : List ℕ} {next : ℕ} → Appended 0 t a b next → b ≡ written t a
-whole-text {t} {a} p = let z : 0 + length t ≡ length t = omega arith in p .list ∙ ap (λ (n : ℕ). t ++ drop n a) z
 
 -- a list that is filled to its own length
 pub fill-none : (l : List ℕ) → fill (length l) l ≡ l

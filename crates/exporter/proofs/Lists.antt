@@ -5,6 +5,7 @@ use Rattle.integers.proofs.Prelude.{drop-cons, drop-drop}
 use Rattle.lists.specs.Entries.{total}
 use Rattle.lists.proofs.Entries.{total-append, total-next, total-part}
 use Rattle.model.specs.Alist.{largest, fill, lineOf, textOf}
+use Rattle.model.proofs.AlistSizes.{total-most}
 use Rattle.exporter.specs.Lines.{Side, filledText, listsText, sideText}
 use Rattle.exporter.proofs.Lines.{field, length-line, length-filled}
 
@@ -20,10 +21,6 @@ largest-at (d ∷ l) (suc i) h = omega (arith, largest-at l i (omega arith))
 some-degree : (l : List ℕ) → 1 ≤ largest l → 1 ≤ length l
 some-degree [] h = absurd (omega arith)
 some-degree (d ∷ l) h = omega arith
-
-pub total-most : (most : ℕ) (l : List ℕ) → largest l ≤ most → total (λ d. d) l ≤ length l * most
-total-most most [] h = omega arith
-total-most most (d ∷ l) h = omega (arith, total-most most l (omega arith))
 
 -- ---- the lists, one behind the other
 module _ (most : ℕ) where

@@ -5,6 +5,7 @@ use lib.ListN.{replicate}
 use Rattle.lists.specs.Tabulated.{tab, written}
 use Rattle.lists.specs.Entries.{total}
 use Rattle.lists.proofs.Tabulated.{length-tab}
+use Rattle.lists.proofs.Entries.{total-map}
 use Rattle.model.specs.Limits.{mostBits, mostChecks, mostPlaces}
 use Rattle.model.specs.Code.{Code}
 use Rattle.model.specs.Records.{checksIn, judgeChecks}
@@ -13,7 +14,7 @@ use Rattle.model.specs.AlistClaims.{joined}
 use Rattle.model.proofs.Accepted.{length-checks}
 use Rattle.exporter.specs.Lines.{Side, codeFrom, Accepted, Lists, Fitted}
 use Rattle.exporter.proofs.Lines.{Room, room-start}
-use Rattle.exporter.proofs.Texts.{total-degrees, column-degrees, row-degrees, column-degrees-are, row-degrees-are, columns-joined, rows-joined}
+use Rattle.exporter.proofs.Texts.{column-degrees, row-degrees, column-degrees-are, row-degrees-are, columns-joined, rows-joined}
 use Rattle.exporter.proofs.Texts.{columns-total, few, columns-side, rows-side, textFrom, text-is}
 
 same-text : {d d′ r r′ e e′ f f′ : List ℕ} → d ≡ d′ → r ≡ r′ → e ≡ e′ → f ≡ f′ → textFrom d r e f ≡ textFrom d′ r′ e′ f′
@@ -66,7 +67,7 @@ module _ (s columns rows entries : List ℕ) (w : Lists s columns rows entries) 
     columns-are = degrees ∙ column-degrees-are code
 
     total-is : total (λ d. d) d ≡ total length checks
-    total-is = ap (total (λ d. d)) columns-are ∙ total-degrees (columnsOf code) ∙ columns-total code (w .sound .1)
+    total-is = ap (total (λ d. d)) columns-are ∙ total-map (λ d. d) length (columnsOf code) ∙ columns-total code (w .sound .1)
 
     -- what the entries of the columns are asked for
     pub entries-asked : ((judgeChecks (length d) (length rows) s ≡ 0) × (length d ≤ mostBits) × (length rows ≤ mostChecks))

@@ -1,23 +1,18 @@
 -- Where columns and rows name the same places, a bit lies in some check exactly when its column names a row. Assumes nothing.
-use Rattle.integers.proofs.Prelude.{_≡_, refl, sym, ap, ap₂, subst, _∙_, Bool, true, false, List, [], _∷_, map, ℕ, zero, suc, _≤_, _<_, arith, decLt}
+use Rattle.integers.proofs.Prelude.{_≡_, refl, sym, ap, ap₂, subst, _∙_, true, List, [], _∷_, map, ℕ, zero, suc, _≤_, _<_, arith, decLt}
 use Rattle.integers.proofs.Prelude.{ltb-true, lt-ltb, eq-eqb, T, eqb, ltb, length, getD, List·getD-eq-default}
 use lib.ListN.{List·getD-map}
 use Rattle.lists.specs.Tabulated.{tab}
 use Rattle.lists.specs.Entries.{every, some}
 use Rattle.lists.proofs.Tests.{and-left, and-right}
-use Rattle.lists.proofs.Tabulated.{tab-getD}
-use Rattle.lists.proofs.Entries.{every-at, every-map, every-same, some-at, none-in}
+use Rattle.lists.proofs.Tabulated.{tab-getD, map-tab}
+use Rattle.lists.proofs.Entries.{every-at, every-map, every-same, some-of, none-in}
 use Rattle.model.specs.Causes.{_if_}
 use Rattle.model.specs.Records.{covered}
 use Rattle.model.specs.Alist.{times}
 use Rattle.model.specs.AlistClaims.{SamePlaces}
 use Rattle.model.proofs.Agreement.{times-suc, member, no-member, past}
 use Rattle.importer.specs.Rows.{lowered}
-
--- ---- a list that is given by its entries, tested
-every-tab : {A : Type 0} (f : A → Bool) (n : ℕ) (g : ℕ → A) (h : ℕ → ℕ) → every f (tab n (λ i. g (h i))) ≡ every (λ i. f (g i)) (tab n h)
-every-tab f zero g h = refl
-every-tab f (suc n) g h = rw (every-tab f n g (λ i. h (suc i)))
 
 -- ---- the bits of a row are its indices, lowered
 raised : (l : List ℕ) → every (ltb 0) l ≡ true → map suc (lowered l) ≡ l
@@ -43,15 +38,14 @@ module _ (cs rs : List (List ℕ)) (columns : every (every (ltb 0)) cs ≡ true)
 
   -- column b names row r, so bit b lies in check r
   in-check : (r b : ℕ) → 1 ≤ times (suc r) (getD cs b []) → some (some (eqb b)) checks ≡ true
-  in-check r b h = by (some (some (eqb b)) checks) refl (decLt r (length checks))
+  in-check r b h = by (decLt r (length checks))
     where
       has : 1 ≤ times b (getD checks r [])
       has = omega (arith, row-times r b)
 
-      by : (t : Bool) → some (some (eqb b)) checks ≡ t → Dec (r < length checks) → t ≡ true
-      by true e d = refl
-      by false e (yes k) = absurd (subst T (sym (member b (getD checks r []) .1 has) ∙ some-at (some (eqb b)) checks r [] e k) tt)
-      by false e (no k) = absurd (omega (arith, has, past checks b r (omega arith)))
+      by : Dec (r < length checks) → some (some (eqb b)) checks ≡ true
+      by (yes k) = some-of (some (eqb b)) checks r [] k (member b (getD checks r []) .1 has)
+      by (no k) = absurd (omega (arith, has, past checks b r (omega arith)))
 
   bit-covered : (b : ℕ) → b < length cs → some (some (eqb b)) checks ≡ ltb 0 (length (getD cs b []))
   bit-covered b h = by (getD cs b []) refl
@@ -67,6 +61,6 @@ module _ (cs rs : List (List ℕ)) (columns : every (every (ltb 0)) cs ≡ true)
   unfolding covered
   covered-named =
       every-same (length cs) (λ b. b) (λ b. some (some (eqb b)) checks) (λ b. ltb 0 (length (getD cs b []))) bit-covered
-      ∙ sym (every-tab (λ c. ltb 0 (length c)) (length cs) (λ b. getD cs b []) (λ b. b))
-      ∙ ap (every (λ c. ltb 0 (length c))) (tab-getD cs [])
+      ∙ sym (every-map (λ c. ltb 0 (length c)) (λ b. getD cs b []) (tab (length cs) (λ b. b)))
+      ∙ ap (every (λ c. ltb 0 (length c))) (map-tab (λ b. getD cs b []) (length cs) (λ b. b) ∙ tab-getD cs [])
       ∙ sym (every-map (ltb 0) length cs)

@@ -40,11 +40,6 @@ check-sizes n c told z =
     let s = check-clear n c .0 (sym (told .first) ∙ z) in
     (omega (arith, told .counted z, s .most), omega (arith, told .sized z, s .most))
 
--- so many bytes a check has at most, for its triples
-pub few-bytes : (cs : List (List ℕ)) → total recordSize cs ≤ 2 * total tripleCount cs + 7 * length cs
-few-bytes [] = omega arith
-few-bytes (c ∷ cs) = omega (arith, few-bytes cs)
-
 -- ---- several: j of the checks cs passed, with so many triples and bytes, and what is left decides
 pub record Passed (n : ℕ) (cs : List (List ℕ)) (j triples bytes : ℕ) : Type 0 where
   pub cause : checksCause n cs ≡ checksCause n (drop j cs)

@@ -1,10 +1,11 @@
 -- What the form of a text says of its sides, and of the code that its rows are. Assumes nothing.
-use Rattle.integers.proofs.Prelude.{_≡_, refl, sym, ap₂, subst, _∙_, Bool, true, false, List, map, ℕ, _*_, _≤_, arith, ltb, T, length, getD, take}
+use Rattle.integers.proofs.Prelude.{_≡_, sym, ap₂, _∙_, true, List, map, ℕ, _*_, _≤_, arith, ltb, length, getD, take}
 use Rattle.lists.specs.Entries.{every}
+use Rattle.lists.proofs.Tests.{same-test}
 use Rattle.model.specs.Limits.{mostNumber}
 use Rattle.model.specs.Alist.{numbersOf, pieces, columnDegrees, rowDegrees, columnLists, rowLists, columns, rows, allFilled, wellFormed, listed, named, agree}
 use Rattle.model.specs.Alist.{codeIn, codeOfText}
-use Rattle.model.proofs.Agreement.{times-listed, agreement, agree-not}
+use Rattle.model.proofs.Agreement.{times-listed, agreement}
 use Rattle.model.proofs.AlistParts as parts
 use Rattle.numbers.specs.declared.Side.{Side}
 use Rattle.numbers.specs.Walked.{Small}
@@ -18,15 +19,10 @@ use Rattle.importer.specs.Rows.{namedIn, Sided, lowered, codeOfRows}
 -- ---- lists agree with what fills them as they do without it
 module _ (ds es : List ℕ) (cs rs : List (List ℕ)) (p : allFilled ds cs ≡ true) (q : allFilled es rs ≡ true) where
   agree-listed : agree cs rs ≡ agree (listed ds cs) (listed es rs)
-  agree-listed = by (agree cs rs) refl
-    where
-      by : (t : Bool) → agree cs rs ≡ t → t ≡ agree (listed ds cs) (listed es rs)
-      by true e =
-          sym (agreement (listed ds cs) (listed es rs) .1 (λ r c.
-          times-listed c es rs q r ∙ agreement cs rs .0 e r c ∙ sym (times-listed r ds cs p c)))
-      by false e =
-          sym (agree-not (listed ds cs) (listed es rs) (λ h.
-          subst T (sym (agreement cs rs .1 (λ r c. sym (times-listed c es rs q r) ∙ h r c ∙ times-listed r ds cs p c)) ∙ e) tt))
+  agree-listed =
+      same-test (agree cs rs) (agree (listed ds cs) (listed es rs))
+      (λ e. agreement (listed ds cs) (listed es rs) .1 (λ r c. times-listed c es rs q r ∙ agreement cs rs .0 e r c ∙ sym (times-listed r ds cs p c)))
+      (λ e. agreement cs rs .1 (λ r c. sym (times-listed c es rs q r) ∙ agreement (listed ds cs) (listed es rs) .0 e r c ∙ times-listed r ds cs p c))
 
 -- ---- one side: count degrees in ds, as many lists of `most` numbers in l
 record Listed (count most : ℕ) (ds l : List ℕ) : Type 0 where

@@ -6,14 +6,10 @@ use Rattle.lists.specs.Tabulated.{written}
 use Rattle.lists.proofs.Entries.{total-append}
 use Rattle.model.specs.Code.{Code}
 use Rattle.model.specs.Records.{recordOf, checkRecords, headerOf, recordsOf, recordSize}
-use Rattle.model.proofs.RecordClaims.{length-code}
+use Rattle.model.proofs.RecordClaims.{length-records}
 use Rattle.records.proofs.Written.{checks-next}
 use Rattle.text.specs.Appended.{Appended}
-use Rattle.text.proofs.Appended.{then}
-
-length-records : (cs : List (List ℕ)) → length (checkRecords cs) ≡ total recordSize cs
-unfolding recordsOf
-length-records cs = omega (arith, length-code (record { bits = 0; checks = cs }))
+use Rattle.text.proofs.Appended.{then, front}
 
 -- of the checks cs the first j are written, and c is next
 module _ (cs : List (List ℕ)) (j : ℕ) {c : List ℕ} (h : j < length cs) (at : getD cs j [] ≡ c) where
@@ -34,5 +30,4 @@ unfolding recordsOf
 records-all k m j {old} count done header checks =
     let all : take j (k .checks) ≡ k .checks = take-all j (k .checks) (omega arith) in
     let text : headerOf (k .bits) m ++ checkRecords (take j (k .checks)) ≡ recordsOf k = rw (all, count) in
-    let z : 0 + length (recordsOf k) ≡ length (recordsOf k) = omega arith in
-    then header checks .list ∙ ap (λ (t : List ℕ). t ++ drop (0 + length t) old) text ∙ ap (λ (n : ℕ). recordsOf k ++ drop n old) z
+    front (then header checks) ∙ ap (λ (t : List ℕ). written t old) text

@@ -1,6 +1,6 @@
 -- Tests and sums of a list's entries, and the first index that passes. Assumes nothing.
 use Rattle.integers.proofs.Prelude.{_≡_, refl, sym, ap, subst, _∙_, Bool, true, false, not, cond, _&&_, _||_, List, [], _∷_, _++_, map, ℕ, zero, suc, _+_}
-use Rattle.integers.proofs.Prelude.{_≤_, _<_, arith, add-one, ltb-true, ltb-false, T, ltb, length, getD, take, drop}
+use Rattle.integers.proofs.Prelude.{_≤_, _<_, arith, add-one, ltb-true, ltb-false, T, ltb, length, getD, take, drop, length-map}
 use Rattle.integers.proofs.Prelude.{take-append-drop, drop-of-length-le, take-suc, drop-cons}
 use mathlib.Core.Bool.{or-assoc, or-false, and-assoc}
 use lib.ListN.{replicate}
@@ -160,6 +160,13 @@ module _ {A : Type 0} where
 
   pub total-part : (f : A → ℕ) (l : List A) (i : ℕ) → total f (take i l) ≤ total f l
   total-part f l i = omega (arith, total-append f (take i l) (drop i l), ap (total f) (take-append-drop i l))
+
+pub total-map : {A B : Type 0} (f : B → ℕ) (g : A → B) (l : List A) → total f (map g l) ≡ total (λ x. f (g x)) l
+total-map f g [] = refl
+total-map f g (x ∷ l) = rw (total-map f g l)
+
+pub total-lengths : {A B : Type 0} (f : A → B) (ls : List (List A)) → total length (map (map f) ls) ≡ total length ls
+total-lengths f ls = total-map length (map f) ls ∙ total-same (λ l. length (map f l)) length (λ l. length-map l f) ls
 
 -- ---- what holds below i, and at i
 pub below-next : (P : ℕ → Type 0) (i : ℕ) → ((j : ℕ) → j < i → P j) → P i → (j : ℕ) → j < i + 1 → P j

@@ -97,12 +97,6 @@ module _ {ℓ} {A : Type ℓ} where
   pub over-over : (n : ℕ) (f g : ℕ → A) (old : List A) → over n f (over n g old) ≡ over n f old
   over-over n f g old = ap (λ (l : List A). tab n f ++ l) (drop-at (tab n g) (drop n old) n (length-tab n g))
 
-  pub over-under : (m n : ℕ) (f g : ℕ → A) (old : List A) → m ≤ n → m ≤ length old → over n f (over m g old) ≡ over n f old
-  over-under zero n f g old h l = refl
-  over-under (suc m) zero f g old h l = absurd (omega arith)
-  over-under (suc m) (suc n) f g [] h l = absurd (omega arith)
-  over-under (suc m) (suc n) f g (x ∷ old) h l = ap (_∷_ (f 0)) (over-under m n (λ k. f (suc k)) (λ k. g (suc k)) old (omega arith) (omega arith))
-
   -- all of it
   pub over-self : (n : ℕ) (l : List A) (d : A) → n ≤ length l → over n (λ i. getD l i d) l ≡ l
   over-self zero l d h = refl
@@ -113,12 +107,6 @@ module _ {ℓ} {A : Type ℓ} where
   over-whole n f old h = rw (drop-of-length-le old h) (append-nil (tab n f))
 
   -- ---- written
-  pub tab-over : (n N : ℕ) (f g h : ℕ → A) → n ≤ N → ((i : ℕ) → i < n → f i ≡ h i) → ((i : ℕ) → n ≤ i → g i ≡ h i) → over n f (tab N g) ≡ tab N h
-  tab-over zero N f g h l p q = tab-same N g h (λ i k. q i (omega arith))
-  tab-over (suc n) zero f g h l p q = absurd (omega arith)
-  tab-over (suc n) (suc N) f g h l p q =
-      ap₂ _∷_ (p 0 (omega arith)) (tab-over n N (λ i. f (suc i)) (λ i. g (suc i)) (λ i. h (suc i)) (omega arith) (λ i k. p (suc i) (omega arith)) (λ i k. q (suc i) (omega arith)))
-
   pub over-tab : (n : ℕ) (f : ℕ → A) (old : List A) → over n f old ≡ written (tab n f) old
   over-tab n f old = rw (length-tab n f)
 
@@ -140,6 +128,10 @@ over-stored w n f old r h k e = rw (add-one n) (over-next n f old (toZ w (ofZ w 
 pub tab-map : {A B : Type 0} (g : A → B) (l : List A) (d : A) → tab (length l) (λ i. g (getD l i d)) ≡ map g l
 tab-map g [] d = refl
 tab-map g (x ∷ l) d = ap (_∷_ (g x)) (tab-map g l d)
+
+pub map-tab : {A B : Type 0} (g : A → B) (n : ℕ) (f : ℕ → A) → map g (tab n f) ≡ tab n (λ i. g (f i))
+map-tab g zero f = refl
+map-tab g (suc n) f = ap (_∷_ (g (f 0))) (map-tab g n (λ i. f (suc i)))
 
 pub over-map : {A B : Type 0} (g : A → B) (l : List A) (d : A) (old : List B) → over (length l) (λ i. g (getD l i d)) old ≡ written (map g l) old
 over-map g l d old = rw (length-map l g, tab-map g l d)

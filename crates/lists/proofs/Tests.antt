@@ -1,5 +1,5 @@
--- Two tests together, and a test of two numbers. Assumes nothing.
-use Rattle.integers.proofs.Prelude.{_≡_, refl, sym, _∙_, Bool, true, false, _&&_, ℕ, eqb, eqb-true, eqb-false, eq-eqb, ne-eqb}
+-- Two tests together, a test that cannot pass, and a test of two numbers. Assumes nothing.
+use Rattle.integers.proofs.Prelude.{_≡_, refl, sym, subst, _∙_, Bool, true, false, _&&_, ℕ, T, eqb, eqb-true, eq-eqb}
 
 pub and-left : (s t : Bool) → (s && t) ≡ true → s ≡ true
 and-left true t h = refl
@@ -16,9 +16,14 @@ pub and-false : (s t : Bool) → (s && t) ≡ false → t ≡ true → s ≡ fal
 and-false true t h e = sym e ∙ h
 and-false false t h e = refl
 
+pub fails : (t : Bool) → (t ≡ true → ⊥) → t ≡ false
+fails true h = absurd (h refl)
+fails false h = refl
+
+-- two tests that pass together
+pub same-test : (s t : Bool) → (s ≡ true → t ≡ true) → (t ≡ true → s ≡ true) → s ≡ t
+same-test true t h k = sym (h refl)
+same-test false t h k = sym (fails t (λ e. subst T (sym (k e)) tt))
+
 pub eqb-sym : (a b : ℕ) → eqb a b ≡ eqb b a
-eqb-sym a b = by (eqb b a) refl
-  where
-    by : (t : Bool) → eqb b a ≡ t → eqb a b ≡ t
-    by true e = eq-eqb a b (sym (eqb-true b a e))
-    by false e = ne-eqb a b (λ p. eqb-false b a e (sym p))
+eqb-sym a b = same-test (eqb a b) (eqb b a) (λ e. eq-eqb b a (sym (eqb-true a b e))) (λ e. eq-eqb a b (sym (eqb-true b a e)))

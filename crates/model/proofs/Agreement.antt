@@ -1,20 +1,19 @@
 -- How often a list names a number, and what it means that columns and rows agree. Assumes nothing.
-use Rattle.integers.proofs.Prelude.{_≡_, refl, sym, ap, _∙_, Bool, true, false, _||_, List, [], _∷_, _++_, map, ℕ, zero, suc, _+_, _-_, _≤_, _<_, arith}
-use Rattle.integers.proofs.Prelude.{decLt, leb-true, leb-false, le-leb, ltb-true, eqb-true, eq-eqb, ne-eqb, eqb, ltb, leb, length, getD, take}
+use Rattle.integers.proofs.Prelude.{_≡_, refl, sym, ap, _∙_, Bool, true, false, _||_, List, [], _∷_, _++_, map, ℕ, zero, suc, _+_, _≤_, _<_, arith}
+use Rattle.integers.proofs.Prelude.{decLt, leb-true, leb-false, ltb-true, eqb-true, eq-eqb, ne-eqb, eqb, ltb, leb, length, getD, take}
 use Rattle.integers.proofs.Prelude.{List·getD-eq-default}
 use mathlib.Core.Logic.{_↔_, _⊎_, inl, inr}
 use lib.Dec.{eqb·suc-suc}
-use lib.ListN.{replicate}
 use Rattle.integers.specs.Sum.{sumℕ}
 use Rattle.integers.proofs.Sums.{sumℕ-same, sumℕ-zero, sumℕ-add}
 use Rattle.lists.specs.Tabulated.{tab}
 use Rattle.lists.specs.Entries.{every, some}
-use Rattle.lists.proofs.Tests.{and-left, and-right, and-both, eqb-sym}
+use Rattle.lists.proofs.Tests.{and-left, and-right, and-both, fails, eqb-sym}
 use Rattle.lists.proofs.Tabulated.{length-tab, getD-tab}
 use Rattle.lists.proofs.Entries.{every-at, every-in, every-in-tab, total-append, total-same}
 use Rattle.model.specs.Causes.{_if_}
 use Rattle.model.specs.Sound.{Rising}
-use Rattle.model.specs.Alist.{filled, allFilled, listed, times, upTo, agree, fill}
+use Rattle.model.specs.Alist.{filled, allFilled, listed, times, upTo, agree}
 use Rattle.model.specs.AlistClaims.{SamePlaces}
 use Rattle.model.proofs.TripleRule.{is, is-range, is-rising}
 
@@ -25,14 +24,6 @@ times-append x l k = total-append (λ y. 1 if eqb x y) l k
 pub times-suc : (x : ℕ) (l : List ℕ) → times (suc x) (map suc l) ≡ times x l
 times-suc x [] = refl
 times-suc x (y ∷ l) = rw (eqb·suc-suc x y, times-suc x l)
-
--- what fills a list is no index
-pub times-zeros : (x n : ℕ) → times (suc x) (replicate n 0) ≡ 0
-times-zeros x zero = refl
-times-zeros x (suc n) = rw (ne-eqb (suc x) 0 (λ e. omega arith), times-zeros x n)
-
-pub times-fill : (x size : ℕ) (l : List ℕ) → times (suc x) (fill size l) ≡ times (suc x) l
-times-fill x size l = times-append (suc x) l (replicate (size - length l) 0) ∙ omega (arith, times-zeros x (size - length l))
 
 pub times-filled : (x d : ℕ) (l : List ℕ) → filled d l ≡ true → times (suc x) (take d l) ≡ times (suc x) l
 times-filled x zero [] h = refl
@@ -103,19 +94,6 @@ times-length n (y ∷ l) h k =
     sumℕ-add n (λ c. 1 if eqb (suc c) y) (λ c. times (suc c) l) ∙ omega arith
 
 -- ---- the lists of a side with what fills them, for a loop that walks over the zeros too
-every-filled : (u d : ℕ) (l : List ℕ) → filled d l ≡ true → every (λ i. leb i u) (take d l) ≡ every (λ i. leb i u) l
-every-filled u zero [] h = refl
-every-filled u zero (y ∷ l) h =
-    let low : leb y u ≡ true = le-leb y u (omega (arith, eqb-true y 0 (and-left (eqb y 0) (filled 0 l) h))) in
-    rw low (every-filled u zero l (and-right (eqb y 0) (filled 0 l) h))
-every-filled u (suc d) [] h = refl
-every-filled u (suc d) (y ∷ l) h = rw (every-filled u d l (and-right (ltb 0 y) (filled d l) h))
-
-pub length-listed : (ds : List ℕ) (ls : List (List ℕ)) → allFilled ds ls ≡ true → length (listed ds ls) ≡ length ds
-length-listed [] ls h = refl
-length-listed (d ∷ ds) [] h = let z : _≡_ {A = ℕ} 0 1 = cc in absurd (omega arith)
-length-listed (d ∷ ds) (l ∷ ls) h = ap suc (length-listed ds ls (and-right (filled d l) (allFilled ds ls) h))
-
 pub times-listed : (x : ℕ) (ds : List ℕ) (ls : List (List ℕ)) → allFilled ds ls ≡ true → (i : ℕ)
     → times (suc x) (getD (listed ds ls) i []) ≡ times (suc x) (getD ls i [])
 times-listed x [] [] h i = refl
@@ -123,13 +101,6 @@ times-listed x [] (l ∷ ls) h i = cc
 times-listed x (d ∷ ds) [] h i = refl
 times-listed x (d ∷ ds) (l ∷ ls) h zero = times-filled x d l (and-left (filled d l) (allFilled ds ls) h)
 times-listed x (d ∷ ds) (l ∷ ls) h (suc i) = times-listed x ds ls (and-right (filled d l) (allFilled ds ls) h) i
-
-pub upTo-listed : (u : ℕ) (ds : List ℕ) (ls : List (List ℕ)) → allFilled ds ls ≡ true → upTo u (listed ds ls) ≡ upTo u ls
-upTo-listed u [] [] h = refl
-upTo-listed u [] (l ∷ ls) h = cc
-upTo-listed u (d ∷ ds) [] h = refl
-upTo-listed u (d ∷ ds) (l ∷ ls) h =
-    rw (every-filled u d l (and-left (filled d l) (allFilled ds ls) h), upTo-listed u ds ls (and-right (filled d l) (allFilled ds ls) h))
 
 -- ---- columns cs and rows rs that agree
 -- past its end a side names nothing
@@ -195,8 +166,4 @@ module _ (cs rs : List (List ℕ)) where
 
   -- what is enough for 19
   pub agree-not : (SamePlaces cs rs → ⊥) → agree cs rs ≡ false
-  agree-not h = by (agree cs rs) refl
-    where
-      by : (t : Bool) → agree cs rs ≡ t → t ≡ false
-      by true e = absurd (h (agree-same e))
-      by false e = refl
+  agree-not h = fails (agree cs rs) (λ e. h (agree-same e))

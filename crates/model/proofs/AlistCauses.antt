@@ -1,7 +1,8 @@
 -- The causes of a code whose indices are below its bits: 5 is none of them. Assumes nothing.
-use Rattle.integers.proofs.Prelude.{_≡_, refl, true, not, List, [], _∷_, map, ℕ, suc, _-_, arith, ltb-true, lt-ltb, leb-true, lt-leb, ltb, leb, length}
+use Rattle.integers.proofs.Prelude.{_≡_, refl, _∙_, true, not, List, [], _∷_, map, ℕ, suc, _-_, arith, ltb-true, lt-ltb, leb-true, lt-leb, ltb, leb, length, getD}
 use Rattle.lists.specs.Entries.{every}
-use Rattle.lists.proofs.Tests.{and-left, and-right, and-both}
+use Rattle.lists.proofs.Tests.{and-left, and-right}
+use Rattle.lists.proofs.Entries.{every-at, every-in, every-map}
 use Rattle.model.specs.Limits.{mostBits, mostChecks, mostTriples}
 use Rattle.model.specs.Causes.{_if_, firstOf, outside}
 use Rattle.model.specs.Code.{Code, triples}
@@ -12,20 +13,20 @@ use Rattle.model.proofs.Order.{Listed, listed, both, first-of-listed}
 
 -- rows of indices in 1..n have checks of indices below n
 indices-below : (n : ℕ) (l : List ℕ) → every (ltb 0) l ≡ true → every (λ i. leb i n) l ≡ true → every (λ i. ltb i n) (map (λ i. i - 1) l) ≡ true
-indices-below n [] h k = refl
-indices-below n (i ∷ l) h k =
-    let low = ltb-true 0 i (and-left (ltb 0 i) (every (ltb 0) l) h) in
-    let high = leb-true i n (and-left (leb i n) (every (λ i. leb i n) l) k) in
-    and-both (ltb (i - 1) n) (every (λ i. ltb i n) (map (λ i. i - 1) l)) (lt-ltb (i - 1) n (omega arith))
-    (indices-below n l (and-right (ltb 0 i) (every (ltb 0) l) h) (and-right (leb i n) (every (λ i. leb i n) l) k))
+indices-below n l h k =
+    every-map (λ i. ltb i n) (λ i. i - 1) l
+    ∙ every-in (λ i. ltb (i - 1) n) l 0
+    (λ j m.
+    let low = ltb-true 0 (getD l j 0) (every-at (ltb 0) l j 0 h m) in
+    let high = leb-true (getD l j 0) n (every-at (λ i. leb i n) l j 0 k m) in
+    lt-ltb (getD l j 0 - 1) n (omega arith))
 
 pub rows-below : (n : ℕ) (ls : List (List ℕ)) → every (every (ltb 0)) ls ≡ true → upTo n ls ≡ true
     → every (every (λ i. ltb i n)) (map (map (λ i. i - 1)) ls) ≡ true
-rows-below n [] h k = refl
-rows-below n (l ∷ ls) h k =
-    and-both (every (λ i. ltb i n) (map (λ i. i - 1) l)) (every (every (λ i. ltb i n)) (map (map (λ i. i - 1)) ls))
-    (indices-below n l (and-left (every (ltb 0) l) (every (every (ltb 0)) ls) h) (and-left (every (λ i. leb i n) l) (upTo n ls) k))
-    (rows-below n ls (and-right (every (ltb 0) l) (every (every (ltb 0)) ls) h) (and-right (every (λ i. leb i n) l) (upTo n ls) k))
+rows-below n ls h k =
+    every-map (every (λ i. ltb i n)) (map (λ i. i - 1)) ls
+    ∙ every-in (λ l. every (λ i. ltb i n) (map (λ i. i - 1) l)) ls []
+    (λ j m. indices-below n (getD ls j []) (every-at (every (ltb 0)) ls j [] h m) (every-at (every (λ i. leb i n)) ls j [] k m))
 
 -- in every table that begins with 3, 4, 6, 7, 8
 module _ (more : List ℕ) (n : ℕ) where

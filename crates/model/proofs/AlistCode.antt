@@ -6,7 +6,7 @@ use lib.ListN.{replicate, List·getD-map}
 use Rattle.lists.specs.Entries.{every, some}
 use Rattle.lists.proofs.Tests.{and-left, and-right, and-both}
 use Rattle.lists.proofs.Tabulated.{length-tab, getD-tab}
-use Rattle.lists.proofs.Entries.{every-append, every-weaker, every-replicate, every-map, every-in-tab}
+use Rattle.lists.proofs.Entries.{every-in, every-append, every-weaker, every-replicate, every-map, every-in-tab}
 use Rattle.model.specs.Causes.{_if_}
 use Rattle.model.specs.Limits.{mostNumber, mostDegree}
 use Rattle.model.specs.Code.{Code}
@@ -126,12 +126,10 @@ rows-short n u [] h s = refl
 rows-short n u (c ∷ cs) h s = rw (length-map c suc, le-leb (length c) u (omega (arith, s .0 .most))) (rows-short n u cs h (s .1))
 
 from-one : (cs : List (List ℕ)) → every (every (ltb 0)) (map (map suc) cs) ≡ true
-from-one [] = refl
-from-one (c ∷ cs) = and-both (every (ltb 0) (map suc c)) (every (every (ltb 0)) (map (map suc) cs)) (row c) (from-one cs)
-  where
-    row : (c : List ℕ) → every (ltb 0) (map suc c) ≡ true
-    row [] = refl
-    row (x ∷ c) = rw (lt-ltb 0 (suc x) (omega arith)) (row c)
+from-one cs =
+    every-map (every (ltb 0)) (map suc) cs
+    ∙ every-in (λ c. every (ltb 0) (map suc c)) cs []
+    (λ j _. every-map (ltb 0) suc (getD cs j []) ∙ every-in (λ x. ltb 0 (suc x)) (getD cs j []) 0 (λ i _. lt-ltb 0 (suc (getD (getD cs j []) i 0)) (omega arith)))
 
 -- less 1 again
 pub rows-back : (cs : List (List ℕ)) → map (map (λ i. i - 1)) (map (map suc) cs) ≡ cs

@@ -3,12 +3,16 @@ use Rattle.integers.proofs.Prelude.{_≡_, refl, sym, ap, ap₂, _∙_, true, L
 use Rattle.integers.proofs.Prelude.{_≤_, arith, eq-eqb, eqb, ltb, leb, length, take, drop, length-append, length-map, take-at, drop-at, drop-drop}
 use Rattle.integers.proofs.Prelude.{take-append-seam}
 use lib.ListN.{replicate, length-replicate}
-use Rattle.lists.specs.Entries.{every}
+use Rattle.lists.specs.Entries.{every, total}
 use Rattle.lists.proofs.Tests.{and-left, and-right}
 use Rattle.model.specs.Limits.{mostNumber}
 use Rattle.model.specs.Alist.{pieces, filled, allFilled, soundSide, wellFormed, listed, named, columns, rows, numberCount, fill, largestOf, linesOf}
 use Rattle.model.specs.Alist.{codeIn}
 use Rattle.model.specs.AlistClaims.{joined}
+
+pub length-joined : (ls : List (List ℕ)) → length (joined ls) ≡ total length ls
+length-joined [] = refl
+length-joined (l ∷ ls) = length-append l (joined ls) ∙ omega (arith, length-joined ls)
 
 pub joined-append : (a b : List (List ℕ)) → joined (a ++ b) ≡ joined a ++ joined b
 joined-append [] b = refl

@@ -150,13 +150,20 @@ numbers-back (n ∷ m ∷ []) h c p q = absurd (omega arith)
 numbers-back (n ∷ m ∷ C ∷ []) h c p q = absurd (omega arith)
 numbers-back (n ∷ m ∷ C ∷ R ∷ t) h c p q = formed n m C R t (omega arith) h p q
 
-pub form-back : (l : List ℕ) → wellFormed l ≡ true → Formed l
+pub form-parts : (l : List ℕ) → wellFormed l ≡ true
+    → (every (λ x. leb x mostNumber) l ≡ true) × (length l ≡ numberCount l) × (soundSide (columns l) ≡ true) × (soundSide (rows l) ≡ true)
 unfolding wellFormed
-form-back l h =
+form-parts l h =
     let small = every (λ x. leb x mostNumber) l in
     let sides = soundSide (columns l) && soundSide (rows l) in
     let count = eqb (length l) (numberCount l) in
     let k : (count && sides) ≡ true = and-right small (count && sides) h in
-    let s : sides ≡ true = and-right count sides k in
-    numbers-back l (and-left small (count && sides) h) (eqb-true (length l) (numberCount l) (and-left count sides k))
-    (and-left (soundSide (columns l)) (soundSide (rows l)) s) (and-right (soundSide (columns l)) (soundSide (rows l)) s)
+    let s : sides ≡ true = and-right count sides k in (
+      and-left small (count && sides) h,
+      eqb-true (length l) (numberCount l) (and-left count sides k),
+      and-left (soundSide (columns l)) (soundSide (rows l)) s,
+      and-right (soundSide (columns l)) (soundSide (rows l)) s,
+    )
+
+pub form-back : (l : List ℕ) → wellFormed l ≡ true → Formed l
+form-back l h = let p = form-parts l h in numbers-back l (p .0) (p .1) (p .2) (p .3)

@@ -4,10 +4,11 @@ use Rattle.integers.proofs.Prelude.{length-map}
 use Rattle.integers.specs.Sum.{sumℕ}
 use Rattle.integers.proofs.Sums.{sumℕ-same, sumℕ-first, sumℕ-swap}
 use Rattle.lists.specs.Entries.{every, total}
-use Rattle.lists.proofs.Entries.{every-at}
+use Rattle.lists.proofs.Entries.{every-at, total-map, total-lengths}
+use Rattle.model.specs.Code.{tripleCount}
 use Rattle.model.specs.Records.{recordsOf, recordSize}
 use Rattle.model.specs.Sound.{SoundChecks, Sound}
-use Rattle.model.specs.Alist.{times, upTo, largestOf}
+use Rattle.model.specs.Alist.{largest, times, upTo, largestOf}
 use Rattle.model.specs.AlistClaims.{SamePlaces}
 use Rattle.model.proofs.RecordClaims.{length-code}
 use Rattle.model.proofs.Agreement.{times-length, columns-upTo, rows-upTo}
@@ -36,17 +37,24 @@ same-total cs rs p q h =
     ∙ sym (by-number m cs p (columns-upTo cs rs h))
 
 -- ---- sizes
-largest-total : (u : ℕ) (ls : List (List ℕ)) → largestOf ls ≤ u → total length ls ≤ length ls * u
-largest-total u [] h = omega arith
-largest-total u (l ∷ ls) h = omega (arith, largest-total u ls (omega arith))
+pub total-most : (u : ℕ) (l : List ℕ) → largest l ≤ u → total (λ x. x) l ≤ length l * u
+total-most u [] h = omega arith
+total-most u (x ∷ l) h = omega (arith, total-most u l (omega arith))
 
-records-total : (f : ℕ → ℕ) (ls : List (List ℕ)) → total recordSize (map (map f) ls) ≡ 3 * length ls + 2 * total length ls
-records-total f [] = refl
-records-total f (l ∷ ls) = omega (arith, records-total f ls, length-map l f)
+largest-total : (ls : List (List ℕ)) → total length ls ≤ length ls * largestOf ls
+largest-total ls = let count = length-map ls length in rw (← total-map (λ x. x) length ls, ← count) (total-most (largestOf ls) (map length ls) (omega arith))
 
-checks-total : (n : ℕ) (f : ℕ → ℕ) (ls : List (List ℕ)) → SoundChecks n (map (map f) ls) → length ls ≤ total length ls
-checks-total n f [] h = omega arith
-checks-total n f (l ∷ ls) h = omega (arith, checks-total n f ls (h .1), h .0 .least, length-map l f)
+pub records-total : (cs : List (List ℕ)) → total recordSize cs ≡ 3 * length cs + 2 * total length cs
+records-total [] = refl
+records-total (c ∷ cs) = omega (arith, records-total cs)
+
+pub places-least : (n : ℕ) (cs : List (List ℕ)) → SoundChecks n cs → length cs ≤ total length cs
+places-least n [] h = omega arith
+places-least n (c ∷ cs) h = omega (arith, places-least n cs (h .1), h .0 .least)
+
+pub places-most : (cs : List (List ℕ)) → total length cs ≤ total tripleCount cs + 2 * length cs
+places-most [] = omega arith
+places-most (c ∷ cs) = omega (arith, places-most cs)
 
 -- the file with these columns and rows has so many numbers, and a text has a byte for each, and one between two
 pub records-fit : (cs rs : List (List ℕ)) (f : ℕ → ℕ) → Sound (record { bits = length cs; checks = map (map f) rs })
@@ -55,6 +63,14 @@ pub records-fit : (cs rs : List (List ℕ)) (f : ℕ → ℕ) → Sound (record 
     ≤ 2 * (4 + (length cs + (length rs + (length cs * largestOf cs + length rs * largestOf rs))))
 records-fit cs rs f s p q h =
     let size = length-code (record { bits = length cs; checks = map (map f) rs }) in
-    let rows = largest-total (largestOf rs) rs (omega arith) in
-    let columns = largest-total (largestOf cs) cs (omega arith) in
-    omega (arith, records-total f rs, checks-total (length cs) f rs (s .checks), same-total cs rs p q h)
+    let rows = largest-total rs in
+    let columns = largest-total cs in
+    let ks = map (map f) rs in
+    omega (
+      arith,
+      records-total ks,
+      places-least (length cs) ks (s .checks),
+      total-lengths f rs,
+      length-map rs (map f),
+      same-total cs rs p q h,
+    )

@@ -3,6 +3,7 @@ pub mod Accepted
 pub mod Order
 pub mod RecordClaims
 pub mod AlistForm
+pub mod Spelling
 pub mod AlistLines
 pub mod Sound
 pub mod Rows
@@ -31,7 +32,6 @@ pub mod DecoderCalls
 pub mod Courses
 pub mod ReflectedCalls
 pub mod Promises
-pub mod Spelling
 pub mod AlistParts
 pub mod AlistSizes
 pub mod AlistCauses

@@ -26,7 +26,7 @@ pub length-record : (c : List ℕ) → length (recordOf c) ≡ recordSize c
 unfolding recordOf
 length-record c = omega (arith, length-bytes c)
 
-length-records : (cs : List (List ℕ)) → length (checkRecords cs) ≡ total recordSize cs
+pub length-records : (cs : List (List ℕ)) → length (checkRecords cs) ≡ total recordSize cs
 unfolding checkRecords
 length-records [] = refl
 length-records (c ∷ cs) = length-append (recordOf c) (checkRecords cs) ∙ omega (arith, length-record c, length-records cs)
@@ -223,7 +223,7 @@ checks-forth n (suc m) s h j =
     ∙ ap (λ (r : List ℕ). recordOf (indices s) ++ r) (checks-forth n m (afterCheck s) (bytes-after s h) (x .1 .0))
     ∙ record-forth n s h (x .0)
 
-none-left : (s : List ℕ) → length s ≡ 0 → s ≡ []
+pub none-left : (s : List ℕ) → length s ≡ 0 → s ≡ []
 none-left [] e = refl
 none-left (x ∷ s) e = absurd (omega arith)
 

@@ -1,6 +1,6 @@
 -- The numbers of a text: how a loop over its bytes finds them, their sizes, and the texts that write given numbers. Assumes nothing.
 use Rattle.integers.proofs.Prelude.{_≡_, refl, sym, ap, _∙_, Bool, true, false, cond, List, [], _∷_, _++_, append-nil, ℕ, zero, suc, _+_, _-_, _*_}
-use Rattle.integers.proofs.Prelude.{_≤_, _<_, min, arith, ltb-true, lt-ltb, le-leb, ne-eqb, ltb, leb, length, getD, drop, drop-of-length-le, drop-cons}
+use Rattle.integers.proofs.Prelude.{_≤_, _<_, min, arith, ltb-true, lt-ltb, ne-eqb, ltb, length, getD, drop, drop-of-length-le, drop-cons}
 use mathlib.Core.Logic.{_↔_}
 use Rattle.lists.specs.Entries.{every}
 use Rattle.lists.proofs.Tests.{and-left, and-right}
@@ -21,6 +21,9 @@ pub numbers-in : (begun b : ℕ) (s : List ℕ) → separator b ≡ false → nu
 unfolding numbersOf
 numbers-in begun b s e = rw e
 
+pub numbers-more : (x b : ℕ) (s : List ℕ) → separator b ≡ false → numbersOf (suc x) (b ∷ s) ≡ numbersOf (suc (further x b)) s
+numbers-more x b s e = let same : suc x - 1 ≡ x = omega arith in rw (numbers-in (suc x) b s e, same)
+
 pub numbers-end : (begun : ℕ) → numbersOf begun [] ≡ ended begun []
 unfolding numbersOf
 numbers-end begun = refl
@@ -33,11 +36,14 @@ module _ (begun : ℕ) (s : List ℕ) (i : ℕ) where
   pub walk-in : i < length s → separator (getD s i 0) ≡ false → numbersOf begun (drop i s) ≡ numbersOf (suc (further (begun - 1) (getD s i 0))) (drop (suc i) s)
   walk-in h e = ap (numbersOf begun) (drop-cons s i 0 h) ∙ numbers-in begun (getD s i 0) (drop (suc i) s) e
 
+  pub walk-more : i < length s → separator (getD s i 0) ≡ false → numbersOf (suc begun) (drop i s) ≡ numbersOf (suc (further begun (getD s i 0))) (drop (suc i) s)
+  walk-more h e = ap (numbersOf (suc begun)) (drop-cons s i 0 h) ∙ numbers-more begun (getD s i 0) (drop (suc i) s) e
+
   pub walk-end : length s ≤ i → numbersOf begun (drop i s) ≡ ended begun []
   walk-end h = ap (numbersOf begun) (drop-of-length-le s h) ∙ numbers-end begun
 
 -- by cases, of any fact on the numbers of a text that goes on with b
-by-byte : (P : List ℕ → Type 0) (begun b : ℕ) (s : List ℕ) → (separator b ≡ true → P (ended begun (numbersOf 0 s)))
+pub by-byte : (P : List ℕ → Type 0) (begun b : ℕ) (s : List ℕ) → (separator b ≡ true → P (ended begun (numbersOf 0 s)))
     → (separator b ≡ false → P (numbersOf (suc (further (begun - 1) b)) s)) → P (numbersOf begun (b ∷ s))
 by-byte P begun b s apart more = by (separator b) refl
   where
@@ -53,18 +59,6 @@ further-most x b = by (outside 48 57 b)
     by : (t : Bool) → cond t (suc mostNumber) (min (suc mostNumber) (10 * x + (b - 48))) ≤ suc mostNumber
     by true = omega arith
     by false = omega arith
-
-pub numbers-most : (begun : ℕ) (s : List ℕ) → begun ≤ suc (suc mostNumber) → every (λ x. leb x (suc mostNumber)) (numbersOf begun s) ≡ true
-numbers-most zero [] h = rw (numbers-end 0)
-numbers-most (suc x) [] h = rw (numbers-end (suc x), le-leb x (suc mostNumber) (omega arith))
-numbers-most begun (b ∷ s) h =
-    by-byte (λ l. every (λ x. leb x (suc mostNumber)) l ≡ true) begun b s (λ _. by begun h (numbers-most 0 s (omega arith)))
-    (λ _. numbers-most (suc (further (begun - 1) b)) s (omega (arith, further-most (begun - 1) b)))
-  where
-    by : (begun : ℕ) → begun ≤ suc (suc mostNumber) → every (λ x. leb x (suc mostNumber)) (numbersOf 0 s) ≡ true
-        → every (λ x. leb x (suc mostNumber)) (ended begun (numbersOf 0 s)) ≡ true
-    by zero h ih = ih
-    by (suc x) h ih = rw (le-leb x (suc mostNumber) (omega arith)) ih
 
 -- numbers want bytes: one each, and one between two
 pub numbers-fit : (begun : ℕ) (s : List ℕ) → 2 * length (numbersOf begun s) ≤ 1 + min begun 1 + length s
@@ -86,10 +80,10 @@ value-grows : (x : ℕ) (d : List ℕ) → x ≤ valueOf x d
 value-grows x [] = omega arith
 value-grows x (b ∷ d) = omega (arith, value-grows (10 * x + (b - 48)) d)
 
-digit-separates : (b : ℕ) → 48 ≤ b → separator b ≡ false
+pub digit-separates : (b : ℕ) → 48 ≤ b → separator b ≡ false
 digit-separates b h = rw (ne-eqb b 32 (λ e. omega arith), ne-eqb b 10 (λ e. omega arith))
 
-digit-further : (x b : ℕ) → 48 ≤ b → b ≤ 57 → 10 * x + (b - 48) ≤ mostNumber → further x b ≡ 10 * x + (b - 48)
+pub digit-further : (x b : ℕ) → 48 ≤ b → b ≤ 57 → 10 * x + (b - 48) ≤ mostNumber → further x b ≡ 10 * x + (b - 48)
 digit-further x b h k l = rw (inside 48 57 b h k) (omega arith)
 
 -- a number that is begun goes on with digits
@@ -97,9 +91,8 @@ digits-read : (x : ℕ) (d s : List ℕ) → Digits d → valueOf x d ≤ mostNu
 digits-read x [] s h l = refl
 digits-read x (b ∷ d) s h l =
     let y = 10 * x + (b - 48) in
-    let same : suc x - 1 ≡ x = omega arith in
-    numbers-in (suc x) b (d ++ s) (digit-separates b (h .0))
-    ∙ ap (λ (n : ℕ). numbersOf (suc n) (d ++ s)) (rw same (digit-further x b (h .0) (h .1) (omega (arith, value-grows y d))))
+    numbers-more x b (d ++ s) (digit-separates b (h .0))
+    ∙ ap (λ (n : ℕ). numbersOf (suc n) (d ++ s)) (digit-further x b (h .0) (h .1) (omega (arith, value-grows y d)))
     ∙ digits-read y d s (h .2) l
 
 -- and begins with them
@@ -168,7 +161,7 @@ spells-after b s (x ∷ l) e h =
     )
 
 -- a byte that is no separator is a digit, where the number that it belongs to is small
-further-digit : (x b : ℕ) → further x b ≤ mostNumber → (48 ≤ b) × (b ≤ 57) × (further x b ≡ 10 * x + (b - 48))
+pub further-digit : (x b : ℕ) → further x b ≤ mostNumber → (48 ≤ b) × (b ≤ 57) × (further x b ≡ 10 * x + (b - 48))
 further-digit x b h = by (outside 48 57 b) refl h
   where
     by : (t : Bool) → outside 48 57 b ≡ t → cond t (suc mostNumber) (min (suc mostNumber) (10 * x + (b - 48))) ≤ mostNumber

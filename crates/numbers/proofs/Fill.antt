@@ -1,51 +1,31 @@
 -- Numbers that are read into a list: a byte is a separator or, where the number that it belongs to is at most 65,535, a digit. Assumes nothing.
 use Rattle.integers.proofs.Prelude.{_≡_, refl, sym, ap, ap₂, subst, _∙_, Bool, true, false, cond, _||_, List, [], _∷_, _++_, ℕ, zero, suc, _+_, _-_, _*_}
-use Rattle.integers.proofs.Prelude.{_/_, _%_, _≤_, _<_, min, arith, add-one, decLt, T, eqb, ltb, eqb-true, ltb-false, length, getD, take, drop, set}
-use Rattle.integers.proofs.Prelude.{length-set, length-drop, take-all, take-suc, drop-cons, getD-drop}
-use native.Mathlib.Nat.{add-zero}
+use Rattle.integers.proofs.Prelude.{_/_, _%_, _≤_, _<_, min, arith, add-one, decLt, T, eqb, eqb-true, length, getD, take, drop, set}
+use Rattle.integers.proofs.Prelude.{length-set, length-drop, take-all, take-suc, drop-cons}
 use lib.Seq.{take-set-le, take-suc-set}
 use Rattle.model.specs.Limits.{mostNumber}
 use Rattle.model.specs.Causes.{outside}
 use Rattle.model.specs.Alist.{separator, further, numbersOf}
+use Rattle.model.proofs.Spelling.{numbers-end, walk-apart, walk-more, walk-end, by-byte, further-most, further-digit}
 use Rattle.numbers.specs.Walked.{from, none, Small, Filled}
-use Rattle.numbers.proofs.Walk.{walk-between, walk-in, walk-begin, walk-out, walk-end, small-at}
+use Rattle.numbers.proofs.Walk.{walk-begin, walk-out, first-behind, small-at}
 
 -- ---- bytes
--- with one byte more a number is not smaller, and 65,536 at most
-further-grows : (x b : ℕ) → x ≤ suc mostNumber → (x ≤ further x b) × (further x b ≤ suc mostNumber)
+-- with one byte more a number is not smaller
+further-grows : (x b : ℕ) → x ≤ suc mostNumber → x ≤ further x b
 further-grows x b h = by (outside 48 57 b)
   where
-    next : Bool → ℕ
-    next t = cond t (suc mostNumber) (min (suc mostNumber) (10 * x + (b - 48)))
-
-    by : (t : Bool) → (x ≤ next t) × (next t ≤ suc mostNumber)
-    by true = (omega arith, omega arith)
-    by false = (omega arith, omega arith)
+    by : (t : Bool) → x ≤ cond t (suc mostNumber) (min (suc mostNumber) (10 * x + (b - 48)))
+    by true = omega arith
+    by false = omega arith
 
 -- so it ends at least at what it is so far
 begun-least : (x : ℕ) (t : List ℕ) → x ≤ suc mostNumber → x ≤ getD (numbersOf (suc x) t) 0 none
-unfolding numbersOf
-begun-least x [] h = omega arith
+begun-least x [] h = rw (numbers-end (suc x)) (omega arith)
 begun-least x (b ∷ t) h =
-    let g = further-grows x b h in
-    by (separator b) (omega (arith, g .0, begun-least (further x b) t (g .1)))
-  where
-    by : (q : Bool) → x ≤ getD (numbersOf (suc (further x b)) t) 0 none
-        → x ≤ getD (cond q (x ∷ numbersOf 0 t) (numbersOf (suc (further (suc x - 1) b)) t)) 0 none
-    by true l = omega arith
-    by false l = let p : suc x - 1 ≡ x = omega arith in rw p l
-
--- what a byte adds that leaves a number at 65,535 or below
-further-digit : (x b : ℕ) → further x b ≤ mostNumber → (48 ≤ b) × (b ≤ 57) × (further x b ≡ 10 * x + (b - 48))
-further-digit x b h = by (ltb b 48) refl (ltb 57 b) refl h
-  where
-    next : Bool → ℕ
-    next t = cond t (suc mostNumber) (min (suc mostNumber) (10 * x + (b - 48)))
-
-    by : (p : Bool) → ltb b 48 ≡ p → (q : Bool) → ltb 57 b ≡ q → next (p || q) ≤ mostNumber → (48 ≤ b) × (b ≤ 57) × (next (p || q) ≡ 10 * x + (b - 48))
-    by true e q f h = absurd (omega arith)
-    by false e true f h = absurd (omega arith)
-    by false e false f h = (ltb-false b 48 e, ltb-false 57 b f, omega arith)
+    let p : suc x - 1 ≡ x = omega arith in
+    by-byte (λ l. x ≤ getD l 0 none) (suc x) b t (λ _. omega arith)
+    (λ _. rw p (omega (arith, further-grows x b h, begun-least (further x b) t (further-most x b))))
 
 -- the fifth bit of a separator
 separator-bit : (b : ℕ) → separator b ≡ true → b / 16 % 2 ≡ 0
@@ -92,7 +72,7 @@ module _ (s l : List ℕ) (n : ℕ) (values : List ℕ) (value inside k i : ℕ)
     -- a separator behind a number, and one between numbers
     ends : inside ≡ 1 → separator (getD s i 0) ≡ true → Reading s l n (set values k value) 0 0 (suc k) (suc i)
     ends o e =
-        let g = stored (from s (suc i)) j (ap (_∷_ value) (sym (walk-between s i p e)) ∙ sym (walk-out s i value p e) ∙ begun o) in
+        let g = stored (from s (suc i)) j (ap (_∷_ value) (sym (walk-apart 0 s i p e)) ∙ sym (walk-out s i value p e) ∙ begun o) in
         record { long = kept; done = g .0; rest = g .1; small = omega arith; whole = omega arith; bit = omega arith; within = (j, p) }
 
     stays : take k (set values k value) ≡ take k l
@@ -102,7 +82,7 @@ module _ (s l : List ℕ) (n : ℕ) (values : List ℕ) (value inside k i : ℕ)
     passes o e = record {
       long = kept;
       done = stays;
-      rest = sym (walk-between s i p e) ∙ between o;
+      rest = sym (walk-apart 0 s i p e) ∙ between o;
       small = omega arith;
       whole = omega arith;
       bit = omega arith;
@@ -111,7 +91,7 @@ module _ (s l : List ℕ) (n : ℕ) (values : List ℕ) (value inside k i : ℕ)
 
     -- any other byte is a digit
     in-number : separator (getD s i 0) ≡ false → numbersOf (suc (further value (getD s i 0))) (drop (suc i) s) ≡ drop k l
-    in-number e = sym (walk-in s i value p e) ∙ by inside refl
+    in-number e = sym (walk-more value s i p e) ∙ by inside refl
       where
         by : (x : ℕ) → inside ≡ x → numbersOf (suc value) (drop i s) ≡ drop k l
         by zero o =
@@ -123,11 +103,9 @@ module _ (s l : List ℕ) (n : ℕ) (values : List ℕ) (value inside k i : ℕ)
         → (48 ≤ getD s i 0) × (getD s i 0 ≤ 57) × Reading s l n (set values k value) (10 * value + (getD s i 0 - 48)) 1 k (suc i)
     digit e =
         let b = getD s i 0 in
-        let f = further-grows value b (omega (arith, r .small, r .bit)) in
-        let head : getD (drop k l) 0 none ≡ getD l k none = getD-drop k l 0 none ∙ ap (λ (x : ℕ). getD l x none) (add-zero k) in
         let low : further value b ≤ getD l k none
-        = subst (λ (x : ℕ). further value b ≤ x) (ap (λ (x : List ℕ). getD x 0 none) (in-number e) ∙ head)
-        (begun-least (further value b) (drop (suc i) s) (f .1)) in
+        = subst (λ (x : ℕ). further value b ≤ x) (ap (λ (x : List ℕ). getD x 0 none) (in-number e) ∙ first-behind l k)
+        (begun-least (further value b) (drop (suc i) s) (further-most value b)) in
         let small : further value b ≤ mostNumber = omega (arith, low, small-at n l k none h j) in
         let d = further-digit value b small in (
           d .0,
@@ -183,8 +161,8 @@ module _ (s l : List ℕ) (n : ℕ) (values : List ℕ) (value inside k i : ℕ)
       where
         by : (x : ℕ) → inside ≡ x → Filled s at (set values k value) i
         by zero z =
-            absurd (omega (arith, ap length (sym (walk-end s i 0 o) ∙ between z), length-drop k l, h .long))
+            absurd (omega (arith, ap length (sym (walk-end 0 s i o) ∙ between z), length-drop k l, h .long))
         by (suc x) z =
-            let g = stored [] j (sym (walk-end s i (suc value) o) ∙ begun (omega (arith, r .bit))) in
+            let g = stored [] j (sym (walk-end (suc value) s i o) ∙ begun (omega (arith, r .bit))) in
             full (set values k value) (suc k) (length-set values k value ∙ r .long) (omega (arith, ap length (g .1), length-drop (suc k) l, h .long)) (g .0)
-            (walk-end s i 0 o ∙ g .1)
+            (walk-end 0 s i o ∙ g .1)

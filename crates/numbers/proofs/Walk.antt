@@ -1,59 +1,37 @@
 -- The numbers of a text from a place on, and numbers of at most 65,535. Assumes nothing.
-use Rattle.integers.proofs.Prelude.{_≡_, refl, sym, ap, _∙_, Bool, true, false, cond, _&&_, List, [], _∷_, ℕ, zero, suc, _+_, _-_, _≤_, _<_, max, arith, decLt}
-use Rattle.integers.proofs.Prelude.{leb-true, le-leb, leb, length, getD, take, drop, drop-of-length-le, List·getD-eq-default, length-take-le, drop-drop}
-use Rattle.integers.proofs.Prelude.{drop-cons, getD-take, getD-drop, length-drop, take-append-drop, take-add}
+use Rattle.integers.proofs.Prelude.{_≡_, refl, sym, ap, _∙_, true, false, _&&_, List, [], _∷_, ℕ, zero, suc, _+_, _≤_, _<_, max, arith, decLt}
+use Rattle.integers.proofs.Prelude.{leb-true, le-leb, length, getD, take, drop, List·getD-eq-default, length-take-le, drop-drop}
+use Rattle.integers.proofs.Prelude.{getD-take, getD-drop, length-drop, take-append-drop, take-add, take-suc}
 use native.Mathlib.Nat.{add-zero}
 use Rattle.lists.specs.Entries.{every}
 use Rattle.lists.proofs.Entries.{every-at, every-in, every-append}
 use Rattle.lists.proofs.Tests.{and-left, and-right}
 use Rattle.model.specs.Limits.{mostNumber}
-use Rattle.model.specs.Alist.{separator, further, ended, numbersOf, largest}
+use Rattle.model.specs.Alist.{separator, numbersOf, largest}
+use Rattle.model.proofs.Spelling.{walk-apart, walk-in}
+use Rattle.model.proofs.AlistLines.{small}
 use Rattle.numbers.specs.Walked.{from, none, Next, Small, Scanned}
 
 -- ---- at the place i of the text s
 module _ (s : List ℕ) (i : ℕ) where
-  -- a separator between numbers
-  pub walk-between : i < length s → separator (getD s i 0) ≡ true → from s i ≡ from s (suc i)
-  unfolding numbersOf
-  walk-between h e = rw (drop-cons s i 0 h, e)
-
-  -- a byte of a number, begun or not
-  byte-in : (begun : ℕ) → i < length s → separator (getD s i 0) ≡ false
-      → numbersOf begun (drop i s) ≡ numbersOf (suc (further (begun - 1) (getD s i 0))) (drop (suc i) s)
-  unfolding numbersOf
-  byte-in begun h e =
-      ap (numbersOf begun) (drop-cons s i 0 h)
-      ∙ ap (λ (t : Bool). cond t (ended begun (from s (suc i))) (numbersOf (suc (further (begun - 1) (getD s i 0))) (drop (suc i) s))) e
-
   -- a number begins here, and is 0 so far
   pub walk-begin : i < length s → separator (getD s i 0) ≡ false → from s i ≡ numbersOf 1 (drop i s)
-  walk-begin h e = byte-in 0 h e ∙ sym (byte-in 1 h e)
-
-  -- a byte of a number that is x so far
-  pub walk-in : (x : ℕ) → i < length s → separator (getD s i 0) ≡ false
-      → numbersOf (suc x) (drop i s) ≡ numbersOf (suc (further x (getD s i 0))) (drop (suc i) s)
-  walk-in x h e =
-      let p : suc x - 1 ≡ x = omega arith in
-      byte-in (suc x) h e ∙ ap (λ (n : ℕ). numbersOf (suc (further n (getD s i 0))) (drop (suc i) s)) p
+  walk-begin h e = walk-in 0 s i h e ∙ sym (walk-in 1 s i h e)
 
   -- a separator behind a number
   pub walk-out : (x : ℕ) → i < length s → separator (getD s i 0) ≡ true → numbersOf (suc x) (drop i s) ≡ x ∷ from s i
-  unfolding numbersOf
-  walk-out x h e = rw (drop-cons s i 0 h, e)
-
-  -- the end of the text
-  pub walk-end : (begun : ℕ) → length s ≤ i → numbersOf begun (drop i s) ≡ ended begun []
-  unfolding numbersOf
-  walk-end begun h = rw (drop-of-length-le s h)
+  walk-out x h e = walk-apart (suc x) s i h e ∙ ap (_∷_ x) (sym (walk-apart 0 s i h e))
 
 -- ---- after j of the numbers l
+pub first-behind : (l : List ℕ) (j : ℕ) → getD (drop j l) 0 none ≡ getD l j none
+first-behind l j = getD-drop j l 0 none ∙ ap (λ (i : ℕ). getD l i none) (add-zero j)
+
+pub next-behind : (l : List ℕ) (j : ℕ) → drop 1 (drop j l) ≡ drop (suc j) l
+next-behind l j = let e : j + 1 ≡ suc j = omega arith in drop-drop 1 j l ∙ ap (λ (i : ℕ). drop i l) e
+
 pub next-at : (l : List ℕ) (j : ℕ) {s : List ℕ} {at value end : ℕ} → from s at ≡ drop j l → Next s at value end
     → (value ≡ getD l j none) × (from s end ≡ drop (suc j) l)
-next-at l j {s} {at} h n =
-    let e : j + 1 ≡ suc j = omega arith in (
-      n .first ∙ ap (λ (k : List ℕ). getD k 0 none) h ∙ getD-drop j l 0 none ∙ ap (λ (i : ℕ). getD l i none) (add-zero j),
-      n .rest ∙ ap (drop 1) h ∙ drop-drop 1 j l ∙ ap (λ (i : ℕ). drop i l) e,
-    )
+next-at l j h n = (n .first ∙ ap (λ (k : List ℕ). getD k 0 none) h ∙ first-behind l j, n .rest ∙ ap (drop 1) h ∙ next-behind l j)
 
 -- a number that is not above all is there
 pub there : (l : List ℕ) (j : ℕ) → getD l j none < none → j < length l
@@ -70,9 +48,6 @@ same-at (x ∷ l) zero d e h = refl
 same-at (x ∷ l) (suc j) d e h = same-at l j d e (omega arith)
 
 -- ---- numbers of at most 65,535
-abbrev pub small : ℕ → Bool
-small x = leb x mostNumber
-
 pub small-none : (l : List ℕ) → Small 0 l
 small-none l = record { long = omega arith; small = refl }
 
@@ -81,18 +56,13 @@ small-at n l i d h k =
     leb-true (getD l i d) mostNumber
     (ap small (sym (getD-take n l i d k)) ∙ every-at small (take n l) i d (h .small) (omega (arith, h .long, length-take-le n l (h .long))))
 
--- the first i pass, and one more
-every-more : {A : Type 0} (f : A → Bool) (l : List A) (i : ℕ) (d : A) → i < length l → every f (take i l) ≡ true → f (getD l i d) ≡ true
-    → every f (take (suc i) l) ≡ true
-every-more f [] i d h e p = absurd (omega arith)
-every-more f (x ∷ l) zero d h e p = rw p
-every-more f (x ∷ l) (suc i) d h e p =
-    rw (and-left (f x) (every f (take i l)) e) (every-more f l i d (omega arith) (and-right (f x) (every f (take i l)) e) p)
-
 pub small-next : (n : ℕ) (l : List ℕ) → Small n l → getD l n none ≤ mostNumber → Small (suc n) l
 small-next n l h k =
     let i : n < length l = there l n (omega arith) in
-    record { long = omega arith; small = every-more small l n none i (h .small) (le-leb (getD l n none) mostNumber k) }
+    record {
+      long = omega arith;
+      small = rw (take-suc l n none i, every-append small (take n l) (getD l n none ∷ []), h .small, le-leb (getD l n none) mostNumber k);
+    }
 
 pub small-cons : (n x : ℕ) (l : List ℕ) → small x ≡ true → Small n l → Small (suc n) (x ∷ l)
 small-cons n x l e h = record { long = omega (arith, h .long); small = rw e (h .small) }

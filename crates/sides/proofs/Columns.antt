@@ -8,19 +8,12 @@ use Rattle.lists.proofs.Entries.{some-of, total-append}
 use Rattle.model.specs.Records.{indices, checksIn}
 use Rattle.model.specs.Alist.{columnFrom}
 use Rattle.model.proofs.Accepted.{length-checks}
+use Rattle.model.proofs.AlistCode.{length-column}
 use Rattle.records.proofs.Walk.{Walk, total-within, walk-checks, walk-total}
 use Rattle.sides.specs.Columns.{has, counted, startOf}
 use Rattle.sides.proofs.Sorting.{start-of, Sorted, Open, grown}
 
 -- ---- how long they are
-pub total-has : (b : ℕ) (cs : List (List ℕ)) → total (has b) cs ≤ length cs
-total-has b [] = omega arith
-total-has b (c ∷ cs) = by (some (eqb b) c) (total-has b cs)
-  where
-    by : (t : Bool) → total (has b) cs ≤ length cs → cond t 1 0 + total (has b) cs ≤ suc (length cs)
-    by true h = omega arith
-    by false h = omega arith
-
 pub column-length : (j b : ℕ) (cs : List (List ℕ)) → length (columnFrom j b cs) ≡ total (has b) cs
 unfolding columnFrom
 column-length j b [] = refl
@@ -39,7 +32,7 @@ pub degrees-are : (n : ℕ) (cs : List (List ℕ)) → degreesOf n cs ≡ tab n 
 degrees-are n cs = tab-same n (λ b. total (has b) cs) (λ b. length (columnFrom 0 b cs)) (λ b h. sym (column-length 0 b cs))
 
 pub degrees-few : (n : ℕ) (cs : List (List ℕ)) (b : ℕ) → b < n → getD (degreesOf n cs) b 0 ≤ length cs
-degrees-few n cs b h = omega (arith, getD-tab n (λ b. total (has b) cs) b 0 h, total-has b cs)
+degrees-few n cs b h = omega (arith, getD-tab n (λ b. total (has b) cs) b 0 h, column-length 0 b cs, length-column 0 b cs)
 
 pub degrees-next : (n : ℕ) (cs : List (List ℕ)) (c : List ℕ) → counted c (degreesOf n cs) ≡ degreesOf n (cs ++ (c ∷ []))
 degrees-next n cs c =

@@ -7,6 +7,7 @@ use Rattle.lists.specs.Tabulated.{tab}
 use Rattle.lists.specs.Entries.{some, total}
 use Rattle.model.specs.Sound.{Rising}
 use Rattle.model.specs.AlistClaims.{joined}
+use Rattle.model.proofs.RecordClaims.{none-left}
 use Rattle.sides.specs.Columns.{has, counted, startOf, placed}
 use Rattle.sides.proofs.Counting.{counted-at}
 
@@ -136,10 +137,6 @@ module _ {n : ℕ} {whole column : ℕ → List ℕ} {next entries : List ℕ} (
       }
 
 -- all of them
-none-left : (l : List ℕ) → length l ≡ 0 → l ≡ []
-none-left [] h = refl
-none-left (x ∷ l) h = absurd (omega arith)
-
 pub sorted-all : (n : ℕ) (column : ℕ → List ℕ) (entries : List ℕ)
     → ((b : ℕ) → b < n → take (length (column b)) (drop (start column b) entries) ≡ column b) → length entries ≡ start column n
     → entries ≡ joined (tab n column)

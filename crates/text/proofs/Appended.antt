@@ -31,7 +31,11 @@ module _ {at : ℕ} {t a b : List ℕ} {i : ℕ} (p : Appended at t a b i) where
         fits = omega (arith, q .fits, long);
       }
 
--- of text from the front: a loan of it
+-- of text from the front: what is beyond it stays
+pub front : {t a b : List ℕ} {i : ℕ} → Appended 0 t a b i → b ≡ t ++ drop (length t) a
+front {t} {a} p = let z : 0 + length t ≡ length t = omega arith in p .list ∙ ap (λ (n : ℕ). t ++ drop n a) z
+
+-- a loan of it
 pub counted : {t a b : List ℕ} {i : ℕ} → Appended 0 t a b i → (i ≤ length b) × (i ≡ length (take i b))
 counted {b = b} {i = i} p = let h : i ≤ length b = omega (arith, p .fits, long p) in (h, sym (length-take-le i b h))
 

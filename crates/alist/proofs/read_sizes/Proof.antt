@@ -5,7 +5,8 @@ use Rattle.lists.proofs.Entries.{every-at}
 use Rattle.model.specs.Limits.{mostNumber}
 use Rattle.model.specs.Alist.{numbersOf}
 use Rattle.numbers.specs.Walked.{from, none, Next, Small}
-use Rattle.numbers.proofs.Walk.{small, next-at, same-at, small-none, small-next, small-at}
+use Rattle.model.proofs.AlistLines.{small}
+use Rattle.numbers.proofs.Walk.{next-at, same-at, small-none, small-next, small-at}
 use Rattle.alist.specs.declared.Sizes.{Sizes}
 use Rattle.alist.specs.Form.{Sized}
 use Rattle.alist.proofs.read_sizes.Statement.{statement}

@@ -2,7 +2,8 @@
 use Rattle.integers.proofs.Prelude.{_≡_, ap, ℕ, _*_, _≤_, arith, needs, length}
 use native.Mathlib.Nat.{mul-le-mul}
 use Rattle.model.specs.Alist.{largest}
-use Rattle.exporter.proofs.Lists.{total-most, length-side}
+use Rattle.model.proofs.AlistSizes.{total-most}
+use Rattle.exporter.proofs.Lists.{length-side}
 use Rattle.exporter.proofs.side_size.Statement.{statement}
 use Rattle.exporter.proofs.side_size.Tie as tie
 

@@ -4,9 +4,9 @@ use Rattle.lists.specs.Tabulated.{tab, written}
 use Rattle.model.specs.Records.{checksIn}
 use Rattle.model.specs.Alist.{columnFrom}
 use Rattle.model.specs.AlistClaims.{joined}
-use Rattle.text.proofs.Appended.{then}
+use Rattle.text.proofs.Appended.{then, front}
 use Rattle.exporter.specs.Lines.{Side, headText, listsText}
-use Rattle.exporter.proofs.Lines.{Room, room-here, room-next, whole-text}
+use Rattle.exporter.proofs.Lines.{Room, room-here, room-next}
 use Rattle.exporter.proofs.Work.{bits-most, checks-most, some-bit, some-check, entries-asked, side-columns, side-rows, text, room}
 use Rattle.exporter.proofs.write_in.Statement.{statement}
 use Rattle.exporter.proofs.write_in.Tie as tie
@@ -105,7 +105,7 @@ returns c =
     let last = c .before .before in
     let r = last .before .before .before .before .before in
     let o = n r in
-    whole-text (then (h o .put-head .ensures) (then (lists r .put-lists .ensures) (last .put-lists2 .ensures)))
+    front (then (h o .put-head .ensures) (then (lists r .put-lists .ensures) (last .put-lists2 .ensures)))
     ∙ ap (λ (t : List ℕ). written t (s (k o) .args .text .now))
     (sym (text _ _ _ _ (s (k o) .pre .0) _ (k o .column-degrees .ensures) _ (o .column-entries .ensures) _ (r .row-entries .ensures)))
 

@@ -7,10 +7,11 @@ use Rattle.model.specs.Code.{Code}
 use Rattle.model.specs.Records.{covered}
 use Rattle.model.proofs.Causes.{within}
 use Rattle.model.proofs.Agreement.{agreement}
+use Rattle.model.proofs.AlistSizes.{records-total, places-most}
 use Rattle.importer.specs.Rows.{namedIn, codeOfRows}
 use Rattle.importer.proofs.Rows.{length-named, length-checks}
 use Rattle.importer.proofs.Covered.{covered-named}
-use Rattle.importer.proofs.Judging.{few-bytes, bits-refused, count-refused, checks-refused, triples-refused, bare-refused, code-passes}
+use Rattle.importer.proofs.Judging.{bits-refused, count-refused, checks-refused, triples-refused, bare-refused, code-passes}
 use Rattle.importer.proofs.judge.Statement.{statement}
 use Rattle.importer.proofs.judge.Tie as tie
 
@@ -99,7 +100,7 @@ add-t11 c =
     let checks = code (start a) .checks in
     let told = r .judge-rows .ensures in
     let z = fine a .if3 .left in
-    omega (arith, told .sized z, told .counted z, few a .if4 .left, few-bytes checks, within 1 mostChecks (length checks) (checks-fine (r .before)))
+    omega (arith, told .sized z, told .counted z, few a .if4 .left, records-total checks, places-most checks, within 1 mostChecks (length checks) (checks-fine (r .before)))
 
 returns-6 : tie.Need-returns-6
 returns-6 c =

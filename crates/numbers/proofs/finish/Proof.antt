@@ -2,8 +2,9 @@
 use Rattle.integers.proofs.Prelude.{_≡_, sym, ap, _∙_, false, _∷_, suc, _-_, _≤_, _<_, arith, add-one, needs, length, getD, drop}
 use Rattle.model.specs.Limits.{mostNumber}
 use Rattle.model.specs.Alist.{separator, numbersOf}
+use Rattle.model.proofs.Spelling.{walk-more, walk-end}
 use Rattle.numbers.specs.Walked.{from}
-use Rattle.numbers.proofs.Walk.{walk-in, walk-begin, walk-out, walk-end}
+use Rattle.numbers.proofs.Walk.{walk-begin, walk-out}
 use Rattle.numbers.proofs.finish.Statement.{statement}
 use Rattle.numbers.proofs.finish.Tie as tie
 
@@ -35,7 +36,7 @@ loop-again c =
     let p = e .before in
     let t = p .before .before in
     let l = t .before .loop in (
-      λ h k. l .inv .0 h k ∙ walk-in _ (l .i) (l .value) (t .loop-test .taken) (sym (p .separates .ensures) ∙ e .if1 .left)
+      λ h k. l .inv .0 h k ∙ walk-more (l .value) _ (l .i) (t .loop-test .taken) (sym (p .separates .ensures) ∙ e .if1 .left)
           ∙ rw (add-one (l .i), c .with-byte .ensures .0),
       c .with-byte .ensures .1,
       omega arith,
@@ -46,7 +47,7 @@ returns-2 c =
     let l = c .before .loop in
     let h = c .loop-test .left in
     record {
-      list = λ a e. l .inv .0 a e ∙ walk-end _ (l .i) (suc (l .value)) h ∙ ap (_∷_ (l .value)) (sym (walk-end _ (l .i) 0 h));
+      list = λ a e. l .inv .0 a e ∙ walk-end (suc (l .value)) _ (l .i) h ∙ ap (_∷_ (l .value)) (sym (walk-end 0 _ (l .i) h));
       most = l .inv .1;
       within = l .inv .2;
     }
