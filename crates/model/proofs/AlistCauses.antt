@@ -1,5 +1,6 @@
 -- The causes of a code whose indices are below its bits: 5 is none of them. Assumes nothing.
-use Rattle.integers.proofs.Prelude.{_≡_, refl, _∙_, true, not, List, [], _∷_, map, ℕ, suc, _-_, arith, ltb-true, lt-ltb, leb-true, lt-leb, ltb, leb, length, getD}
+use Rattle.integers.proofs.Prelude.{_≡_, refl, _∙_, true, not, List, [], _∷_, map, ℕ, suc, _-_, arith, ltb-true, lt-ltb, leb-true, lt-leb, ltb, leb}
+use Rattle.integers.proofs.Prelude.{length, getD}
 use Rattle.lists.specs.Entries.{every}
 use Rattle.lists.proofs.Tests.{and-left, and-right}
 use Rattle.lists.proofs.Entries.{every-at, every-in, every-map}

@@ -129,7 +129,9 @@ from-one : (cs : List (List ℕ)) → every (every (ltb 0)) (map (map suc) cs) �
 from-one cs =
     every-map (every (ltb 0)) (map suc) cs
     ∙ every-in (λ c. every (ltb 0) (map suc c)) cs []
-    (λ j _. every-map (ltb 0) suc (getD cs j []) ∙ every-in (λ x. ltb 0 (suc x)) (getD cs j []) 0 (λ i _. lt-ltb 0 (suc (getD (getD cs j []) i 0)) (omega arith)))
+    (λ j _.
+    let c = getD cs j [] in
+    every-map (ltb 0) suc c ∙ every-in (λ x. ltb 0 (suc x)) c 0 (λ i _. lt-ltb 0 (suc (getD c i 0)) (omega arith)))
 
 -- less 1 again
 pub rows-back : (cs : List (List ℕ)) → map (map (λ i. i - 1)) (map (map suc) cs) ≡ cs

@@ -40,7 +40,8 @@ pub line-read : (l s : List ℕ) → every small l ≡ true → numbersOf 0 (lin
 unfolding lineOf
 line-read [] s h = numbers-apart 0 10 s refl
 line-read (x ∷ []) s h =
-    ap (numbersOf 0) (append-assoc (decimal x) (10 ∷ []) s) ∙ decimal-read x (10 ∷ s) (leb-true x mostNumber (and-left (small x) true h)) ∙ numbers-apart (suc x) 10 s refl
+    ap (numbersOf 0) (append-assoc (decimal x) (10 ∷ []) s)
+    ∙ decimal-read x (10 ∷ s) (leb-true x mostNumber (and-left (small x) true h)) ∙ numbers-apart (suc x) 10 s refl
 line-read (x ∷ y ∷ l) s h =
     ap (numbersOf 0) (append-assoc (decimal x) (32 ∷ lineOf (y ∷ l)) s)
     ∙ decimal-read x (32 ∷ (lineOf (y ∷ l) ++ s)) (leb-true x mostNumber (and-left (small x) (every small (y ∷ l)) h))

@@ -36,7 +36,8 @@ module _ (begun : ℕ) (s : List ℕ) (i : ℕ) where
   pub walk-in : i < length s → separator (getD s i 0) ≡ false → numbersOf begun (drop i s) ≡ numbersOf (suc (further (begun - 1) (getD s i 0))) (drop (suc i) s)
   walk-in h e = ap (numbersOf begun) (drop-cons s i 0 h) ∙ numbers-in begun (getD s i 0) (drop (suc i) s) e
 
-  pub walk-more : i < length s → separator (getD s i 0) ≡ false → numbersOf (suc begun) (drop i s) ≡ numbersOf (suc (further begun (getD s i 0))) (drop (suc i) s)
+  pub walk-more : i < length s → separator (getD s i 0) ≡ false
+      → numbersOf (suc begun) (drop i s) ≡ numbersOf (suc (further begun (getD s i 0))) (drop (suc i) s)
   walk-more h e = ap (numbersOf (suc begun)) (drop-cons s i 0 h) ∙ numbers-more begun (getD s i 0) (drop (suc i) s) e
 
   pub walk-end : length s ≤ i → numbersOf begun (drop i s) ≡ ended begun []

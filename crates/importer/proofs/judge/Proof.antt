@@ -100,7 +100,15 @@ add-t11 c =
     let checks = code (start a) .checks in
     let told = r .judge-rows .ensures in
     let z = fine a .if3 .left in
-    omega (arith, told .sized z, told .counted z, few a .if4 .left, records-total checks, places-most checks, within 1 mostChecks (length checks) (checks-fine (r .before)))
+    omega (
+      arith,
+      told .sized z,
+      told .counted z,
+      few a .if4 .left,
+      records-total checks,
+      places-most checks,
+      within 1 mostChecks (length checks) (checks-fine (r .before)),
+    )
 
 returns-6 : tie.Need-returns-6
 returns-6 c =
