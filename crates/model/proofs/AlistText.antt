@@ -1,7 +1,6 @@
 -- What 18 and 19 mean, of every text, and which texts are accepted. Assumes nothing.
 use Rattle.integers.proofs.Prelude.{_≡_, refl, sym, ap, subst, _∙_, Bool, true, false, List, [], _∷_, map, ℕ, suc, _-_, _≤_, arith, T, eqb, ltb, leb, length}
 use mathlib.Core.Logic.{_↔_}
-use lib.Dec.{leb·suc-suc}
 use Rattle.lists.specs.Entries.{every, some}
 use Rattle.model.specs.Limits.{mostNumber}
 use Rattle.model.specs.Causes.{firstOf}
@@ -20,10 +19,6 @@ use Rattle.model.proofs.Agreement.{rows-upTo, agreement}
 use Rattle.model.proofs.AlistTrips.{text-sound}
 use Rattle.model.proofs.AlistSizes.{records-fit}
 use Rattle.model.proofs.AlistCauses.{rows-below, code-listed}
-
-at-most : (u : ℕ) (l : List ℕ) → every (λ x. ltb x (suc u)) l ≡ every (λ x. leb x u) l
-at-most u [] = refl
-at-most u (x ∷ l) = rw (leb·suc-suc x u, at-most u l)
 
 -- the code of the rows rs, with a bit for each of the columns cs
 abbrev pub codeFor : List (List ℕ) → List (List ℕ) → Code
@@ -46,13 +41,13 @@ module _ (s : List ℕ) where
   text-form : (cs rs : List (List ℕ)) → AlistText s cs rs → wellFormed l ≡ true
   text-form cs rs t =
       let x = spelled s (joined (linesOf cs rs)) .0 (t .numbers) in
-      ap wellFormed (x .0) ∙ well-formed cs rs (sym (at-most mostNumber (joined (linesOf cs rs))) ∙ x .1) (t .column-indices) (t .row-indices)
+      ap wellFormed (x .0) ∙ well-formed cs rs (x .1) (t .column-indices) (t .row-indices)
 
   form-text : wellFormed l ≡ true → AlistText s cs rs
   form-text h =
       let f = form-back l h in
       record {
-        numbers = spelled s (joined (linesOf cs rs)) .1 (f .lines, ap (every (λ x. ltb x (suc mostNumber))) (sym (f .lines)) ∙ at-most mostNumber l ∙ f .small);
+        numbers = spelled s (joined (linesOf cs rs)) .1 (f .lines, ap (every (λ x. leb x mostNumber)) (sym (f .lines)) ∙ f .small);
         column-indices = f .column-indices;
         row-indices = f .row-indices;
       }

@@ -1,6 +1,6 @@
 -- The numbers of a text: how a loop over its bytes finds them, their sizes, and the texts that write given numbers. Assumes nothing.
 use Rattle.integers.proofs.Prelude.{_≡_, refl, sym, ap, _∙_, Bool, true, false, cond, List, [], _∷_, _++_, append-nil, ℕ, zero, suc, _+_, _-_, _*_}
-use Rattle.integers.proofs.Prelude.{_≤_, _<_, min, arith, ltb-true, lt-ltb, ne-eqb, ltb, length, getD, drop, drop-of-length-le, drop-cons}
+use Rattle.integers.proofs.Prelude.{_≤_, _<_, min, arith, leb-true, le-leb, ne-eqb, leb, length, getD, drop, drop-of-length-le, drop-cons}
 use mathlib.Core.Logic.{_↔_}
 use Rattle.lists.specs.Entries.{every}
 use Rattle.lists.proofs.Tests.{and-left, and-right}
@@ -113,7 +113,7 @@ apart-read x (b ∷ s) h = numbers-apart (suc x) b s h ∙ ap (_∷_ x) (sym (nu
 
 -- ---- a text that writes numbers has them
 abbrev Small : List ℕ → Type 0
-Small l = every (λ x. ltb x (suc mostNumber)) l ≡ true
+Small l = every (λ x. leb x mostNumber) l ≡ true
 
 has : (s l : List ℕ) → Spells s l → (numbersOf 0 s ≡ l) × Small l
 has s [] h = (ap (numbersOf 0) (sym (append-nil s)) ∙ separators-read s [] h ∙ numbers-end 0, refl)
@@ -124,7 +124,7 @@ has s (x ∷ l) h =
     let most : valueOf 0 (b .digits) ≤ mostNumber = omega (arith, b .value, b .small) in (
       ap (numbersOf 0) (b .text) ∙ separators-read (b .before) (b .digits ++ rest) (b .separators) ∙ number-read (b .digits) rest (b .decimal) (b .some) most
           ∙ apart-read (valueOf 0 (b .digits)) rest (b .apart) ∙ rw (b .value, ih .0),
-      rw (lt-ltb x (suc mostNumber) (omega (arith, b .small))) (ih .1),
+      rw (le-leb x mostNumber (b .small)) (ih .1),
     )
 
 -- ---- and the numbers of a text are what it writes
@@ -224,7 +224,7 @@ writes-none = (
     text = refl;
     decimal = tt;
     value = refl;
-    small = let k = rw (numbers-end (suc x)) at h in omega (arith, ltb-true x (suc mostNumber) (and-left _ true k));
+    small = let k = rw (numbers-end (suc x)) at h in omega (arith, leb-true x mostNumber (and-left _ true k));
     apart = tt;
     spells = refl;
   },
@@ -245,9 +245,9 @@ writes-next b s ih = (
         text = refl;
         decimal = tt;
         value = refl;
-        small = omega (arith, ltb-true x (suc mostNumber) (and-left (ltb x (suc mostNumber)) (every (λ x. ltb x (suc mostNumber)) (numbersOf 0 s)) h));
+        small = omega (arith, leb-true x mostNumber (and-left (leb x mostNumber) (every (λ x. leb x mostNumber) (numbersOf 0 s)) h));
         apart = e;
-        spells = spells-after b s (numbersOf 0 s) e (ih .0 (and-right (ltb x (suc mostNumber)) _ h));
+        spells = spells-after b s (numbersOf 0 s) e (ih .0 (and-right (leb x mostNumber) _ h));
       })
       (λ e. rw same (λ h. continues-with x b s _ (ih .1 (further x b) h))),
 )
@@ -256,5 +256,5 @@ writes : (s : List ℕ) → Written s
 writes [] = writes-none
 writes (b ∷ s) = writes-next b s (writes s)
 
-pub spelled : (s l : List ℕ) → Spells s l ↔ ((numbersOf 0 s ≡ l) × (every (λ x. ltb x (suc mostNumber)) l ≡ true))
+pub spelled : (s l : List ℕ) → Spells s l ↔ ((numbersOf 0 s ≡ l) × (every (λ x. leb x mostNumber) l ≡ true))
 spelled s l = (has s l, λ h. rw (← h .0) (writes s .0 (rw (h .0) (h .1))))

@@ -5,7 +5,7 @@ use mathlib.Core.Bool.{true}
 use mathlib.Core.List.{List, [], _∷_, _++_, map}
 use mathlib.Core.Logic.{_↔_, _⊎_}
 use Prim.Native.Nat.{ℕ, suc, _+_, _-_, _*_, _≤_, _<_}
-use lib.Dec.{ltb}
+use lib.Dec.{leb, ltb}
 use lib.ListN.{length, getD, take}
 use Rattle.lists.specs.Tabulated.{written}
 use Rattle.lists.specs.Entries.{every}
@@ -72,7 +72,7 @@ SamePlaces cs rs = (r c : ℕ) → times (suc c) (getD rs r []) ≡ times (suc r
 
 pub record TextClaims (s : List ℕ) : Type 0 where
   -- the numbers of a text, where each is at most 65,535
-  pub spelled : (l : List ℕ) → Spells s l ↔ ((numbersOf 0 s ≡ l) × (every (λ x. ltb x (suc mostNumber)) l ≡ true))
+  pub spelled : (l : List ℕ) → Spells s l ↔ ((numbersOf 0 s ≡ l) × (every (λ x. leb x mostNumber) l ≡ true))
   -- 18 is for what is no alist text, of which there is one reading
   pub form : (wellFormed (numbersOf 0 s) ≡ true) ↔ ((cs : List (List ℕ)) × (rs : List (List ℕ)) × AlistText s cs rs)
   pub only : (cs rs : List (List ℕ)) → AlistText s cs rs
