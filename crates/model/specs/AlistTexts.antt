@@ -1,7 +1,7 @@
--- Document 02, L1: texts by hand with their numbers, their code or their cause, exports byte by byte, and calls. Statements only; the proofs are in
--- proofs/AlistTexts.antt. Each group stands under the sentence that it shows. Two spaces stand between the parts of most texts, which is as good as one.
+-- Document 02, L1: texts by hand with their numbers or their cause, in tables, each under the sentence that it shows; an export byte by byte, and calls.
+-- Statements only; the proofs, which compute, are in proofs/AlistTexts.antt. Two spaces stand between the parts of most texts, which is as good as one.
 use mathlib.Core.Path.{_≡_}
-use mathlib.Core.List.{List, [], _∷_, _++_}
+use mathlib.Core.List.{List, [], _∷_, _++_, map}
 use Prim.Native.Nat.{ℕ, suc}
 use Prim.Native.Char.{code}
 use Prim.Native.String.{String}
@@ -16,135 +16,181 @@ abbrev pub ascii : String → List ℕ
 ascii string.[] = []
 ascii (string._∷_ c s) = code c ∷ ascii s
 
-abbrev pub numbersIn : String → List ℕ
-numbersIn s = numbersOf 0 (ascii s)
+-- ---- tables: a line is a text with its numbers, or a text with its cause, 0 where it is accepted
+pub record Reading : Type 0 where
+  pub text : String
+  pub numbers : List ℕ
 
-abbrev pub causeOf : String → ℕ
-causeOf s = judgeText (ascii s)
+infix 80 _reads_
+abbrev pub _reads_ : String → List ℕ → Reading
+s reads l = record { text = s; numbers = l }
 
 -- what is no number of at most 65,535
 abbrev pub noNumber : List ℕ
 noNumber = 65536 ∷ []
 
+pub record Judgement : Type 0 where
+  pub text : String
+  pub cause : ℕ
+
+infix 80 _gets_
+abbrev pub _gets_ : String → ℕ → Judgement
+s gets c = record { text = s; cause = c }
+
+-- each line is right
+abbrev pub Read : List Reading → Type 0
+Read table = map (λ r. numbersOf 0 (ascii (r .text))) table ≡ map (λ r. r .numbers) table
+
+abbrev pub Judged : List Judgement → Type 0
+Judged table = map (λ j. judgeText (ascii (j .text))) table ≡ map (λ j. j .cause) table
+
 -- ---- "n and m, the largest column and row degree, column degrees, row degrees, then the columns' lists and the rows' lists, indices from 1, short lists
 -- filled with 0"
-pub record Form : Type 0 where
-  -- three bits and one check of all of them
-  pub one : causeOf "3 1\n1 3\n1 1 1\n3\n1\n1\n1\n1 2 3\n" ≡ 0
-  -- five bits and two checks, which share the third
-  pub two : causeOf "5 2\n2 3\n1 1 2 1 1\n3 3\n1 0\n1 0\n1 2\n2 0\n2 0\n1 2 3\n3 4 5\n" ≡ 0
-  pub two-code : codeOfText (ascii "5 2\n2 3\n1 1 2 1 1\n3 3\n1 0\n1 0\n1 2\n2 0\n2 0\n1 2 3\n3 4 5\n")
-      ≡ record { bits = 5; checks = (0 ∷ 1 ∷ 2 ∷ []) ∷ (2 ∷ 3 ∷ 4 ∷ []) ∷ [] }
-  -- rows of unequal degrees
-  pub short-row : causeOf "4 2  2 4  2 2 2 1  4 3  1 2  1 2  1 2  1 0  1 2 3 4  1 2 3 0" ≡ 0
+abbrev pub forms : List Judgement
+forms =
+    -- three bits and one check of all of them
+    "3 1\n1 3\n1 1 1\n3\n1\n1\n1\n1 2 3\n" gets 0
+    -- five bits and two checks, which share the third
+    ∷ "5 2\n2 3\n1 1 2 1 1\n3 3\n1 0\n1 0\n1 2\n2 0\n2 0\n1 2 3\n3 4 5\n" gets 0
+    -- rows of unequal degrees
+    ∷ "4 2  2 4  2 2 2 1  4 3  1 2  1 2  1 2  1 0  1 2 3 4  1 2 3 0" gets 0
+    ∷ []
 
 -- ---- "Numbers are decimal digits, at most 65,535 in value", and 18 for "text that is not such numbers"
-pub record Decimals : Type 0 where
-  pub largest : numbersIn "65535" ≡ 65535 ∷ []
-  pub above : numbersIn "65536" ≡ noNumber
-  pub far-above : numbersIn "100000000000000000000" ≡ noNumber
-  pub zeros-in-front : numbersIn "000000000000000000065535 00 007" ≡ 65535 ∷ 0 ∷ 7 ∷ []
-  pub plus : numbersIn "+3" ≡ noNumber
-  pub minus : numbersIn "-3" ≡ noNumber
-  pub point : numbersIn "3.0" ≡ noNumber
-  pub letter : numbersIn "3a" ≡ noNumber
-  pub hexadecimal : numbersIn "0x3" ≡ noNumber
-  pub slash-and-colon : numbersIn "/ :" ≡ 65536 ∷ 65536 ∷ []
-  -- in a whole text
-  pub zeros-accepted : causeOf "003 1  0001 03  1 01 1  3  1 1 1  1 2 00000000000003" ≡ 0
-  pub sign-refused : causeOf "3 1  1 3  1 1 1  3  1 1 1  1 2 +3" ≡ 18
-  pub large-refused : causeOf "3 1  1 3  1 1 1  3  1 1 1  1 2 65536" ≡ 18
+abbrev pub decimals : List Reading
+decimals =
+    "65535" reads (65535 ∷ [])
+    ∷ "65536" reads noNumber
+    ∷ "100000000000000000000" reads noNumber
+    -- any count of zeros in front
+    ∷ "000000000000000000065535 00 007" reads (65535 ∷ 0 ∷ 7 ∷ [])
+    ∷ "+3" reads noNumber
+    ∷ "-3" reads noNumber
+    ∷ "3.0" reads noNumber
+    ∷ "3a" reads noNumber
+    ∷ "0x3" reads noNumber
+    -- the bytes before 0 and behind 9
+    ∷ "/ :" reads (65536 ∷ 65536 ∷ [])
+    ∷ []
+
+abbrev pub decimalTexts : List Judgement
+decimalTexts =
+    "003 1  0001 03  1 01 1  3  1 1 1  1 2 00000000000003" gets 0
+    ∷ "3 1  1 3  1 1 1  3  1 1 1  1 2 +3" gets 18
+    ∷ "3 1  1 3  1 1 1  3  1 1 1  1 2 65536" gets 18
+    ∷ []
 
 -- ---- "between spaces or line feeds, any count of them, also first and last"
-pub record Separated : Type 0 where
-  pub first-and-last : numbersIn "\n  12 \n\n 3\n " ≡ 12 ∷ 3 ∷ []
-  pub neither : numbersIn "12 3" ≡ 12 ∷ 3 ∷ []
-  pub tab : numbersIn "12\t3" ≡ noNumber
-  pub carriage-return : numbersIn "12\r\n3" ≡ 65536 ∷ 3 ∷ []
-  pub comma : numbersIn "12, 3" ≡ 65536 ∷ 3 ∷ []
-  pub nothing : numbersIn "" ≡ []
-  pub only : numbersIn "\n \n" ≡ []
-  -- in a whole text
-  pub all-in-one-line : causeOf "3 1 1 3 1 1 1 3 1 1 1 1 2 3" ≡ 0
-  pub each-in-its-line : causeOf "\n3\n1\n\n1\n3\n1\n1\n1\n3\n1\n1\n1\n1\n2\n3\n\n" ≡ 0
-  pub tab-refused : causeOf "3\t1  1 3  1 1 1  3  1 1 1  1 2 3" ≡ 18
-  pub carriage-return-refused : causeOf "3 1\r\n1 3\r\n1 1 1\r\n3\r\n1\r\n1\r\n1\r\n1 2 3\r\n" ≡ 18
-  pub empty : causeOf "" ≡ 18
-  pub blank : causeOf " \n " ≡ 18
+abbrev pub separations : List Reading
+separations =
+    "\n  12 \n\n 3\n " reads (12 ∷ 3 ∷ [])
+    ∷ "12 3" reads (12 ∷ 3 ∷ [])
+    -- a tab, a carriage return, a comma
+    ∷ "12\t3" reads noNumber
+    ∷ "12\r\n3" reads (65536 ∷ 3 ∷ [])
+    ∷ "12, 3" reads (65536 ∷ 3 ∷ [])
+    ∷ "" reads []
+    ∷ "\n \n" reads []
+    ∷ []
+
+abbrev pub separatedTexts : List Judgement
+separatedTexts =
+    "3 1 1 3 1 1 1 3 1 1 1 1 2 3" gets 0
+    ∷ "\n3\n1\n\n1\n3\n1\n1\n1\n3\n1\n1\n1\n1\n2\n3\n\n" gets 0
+    ∷ "3\t1  1 3  1 1 1  3  1 1 1  1 2 3" gets 18
+    ∷ "3 1\r\n1 3\r\n1 1 1\r\n3\r\n1\r\n1\r\n1\r\n1 2 3\r\n" gets 18
+    ∷ "" gets 18
+    ∷ " \n " gets 18
+    ∷ []
 
 -- ---- 18 for "too few or too many of them"
-pub record Counted : Type 0 where
-  pub one-less : causeOf "3 1  1 3  1 1 1  3  1 1 1  1 2" ≡ 18
-  pub one-more : causeOf "3 1  1 3  1 1 1  3  1 1 1  1 2 3  0" ≡ 18
-  pub three : causeOf "0 0 0" ≡ 18
-  pub five : causeOf "0 0 0 0 0" ≡ 18
+abbrev pub counts : List Judgement
+counts =
+    "3 1  1 3  1 1 1  3  1 1 1  1 2" gets 18
+    ∷ "3 1  1 3  1 1 1  3  1 1 1  1 2 3  0" gets 18
+    ∷ "0 0 0" gets 18
+    ∷ "0 0 0 0 0" gets 18
+    ∷ []
 
 -- ---- 18 for "a list that is not first its degree's count of indices and then zeros"; "each column or row list is filled to its maximum"
-pub record Filled : Type 0 where
-  pub zero-in-row : causeOf "3 1  1 3  1 1 1  3  1 1 1  1 0 3" ≡ 18
-  pub zero-first : causeOf "3 2  2 3  1 2 2  2 3  0 2  1 2  1 2  2 3 0  1 2 3" ≡ 18
-  pub index-in-column-fill : causeOf "4 1  1 3  1 1 1 0  3  1 1 1 1  1 2 3" ≡ 18
-  pub index-in-row-fill : causeOf "4 2  2 4  2 2 2 1  4 3  1 2  1 2  1 2  1 0  1 2 3 4  1 2 3 4" ≡ 18
-  pub not-filled : causeOf "4 2  2 4  2 2 2 1  4 3  1 2  1 2  1 2  1  1 2 3 4  1 2 3" ≡ 18
+abbrev pub fills : List Judgement
+fills =
+    -- a zero in a row, and in front of a column's index
+    "3 1  1 3  1 1 1  3  1 1 1  1 0 3" gets 18
+    ∷ "3 2  2 3  1 2 2  2 3  0 2  1 2  1 2  2 3 0  1 2 3" gets 18
+    -- an index where a column is filled, and where a row is
+    ∷ "4 1  1 3  1 1 1 0  3  1 1 1 1  1 2 3" gets 18
+    ∷ "4 2  2 4  2 2 2 1  4 3  1 2  1 2  1 2  1 0  1 2 3 4  1 2 3 4" gets 18
+    -- lists that are not filled
+    ∷ "4 2  2 4  2 2 2 1  4 3  1 2  1 2  1 2  1  1 2 3 4  1 2 3" gets 18
+    ∷ []
 
 -- ---- 18 for "a maximum that is not its largest degree (0 where there is none)"
-pub record Maxima : Type 0 where
-  pub column-above : causeOf "3 1  2 3  1 1 1  3  1 0 1 0 1 0  1 2 3" ≡ 18
-  pub column-below : causeOf "3 2  1 3  2 2 2  3 3  1 1 1  1 2 3  1 2 3" ≡ 18
-  pub row-above : causeOf "3 1  1 4  1 1 1  3  1 1 1  1 2 3 0" ≡ 18
-  pub row-below : causeOf "3 1  1 2  1 1 1  3  1 1 1  1 2" ≡ 18
-  -- 0 where there is none; then 3 for no bits and no checks, 3 for no checks, and 4 for an empty check
-  pub none-at-all : causeOf "0 0 0 0" ≡ 3
-  pub no-columns : causeOf "0 0 1 0" ≡ 18
-  pub no-rows : causeOf "0 0 0 1" ≡ 18
-  pub bits-alone : causeOf "3 0  0 0  0 0 0" ≡ 3
-  pub empty-lists : causeOf "3 1  0 0  0 0 0  0" ≡ 4
+abbrev pub maxima : List Judgement
+maxima =
+    -- of the columns above it, and below; of the rows above it, and below
+    "3 1  2 3  1 1 1  3  1 0 1 0 1 0  1 2 3" gets 18
+    ∷ "3 2  1 3  2 2 2  3 3  1 1 1  1 2 3  1 2 3" gets 18
+    ∷ "3 1  1 4  1 1 1  3  1 1 1  1 2 3 0" gets 18
+    ∷ "3 1  1 2  1 1 1  3  1 1 1  1 2" gets 18
+    -- neither columns nor rows: 3, for no bits
+    ∷ "0 0 0 0" gets 3
+    ∷ "0 0 1 0" gets 18
+    ∷ "0 0 0 1" gets 18
+    -- no rows: 3, for no checks; an empty row: 4, for its degree
+    ∷ "3 0  0 0  0 0 0" gets 3
+    ∷ "3 1  0 0  0 0 0  0" gets 4
+    ∷ []
 
 -- ---- 19 "when columns and rows do not name the same places, each equally often"
-pub record Places : Type 0 where
-  -- row 1 names column 4 of 3, or column 65,535; column 3 names row 2 of 1
-  pub above-n : causeOf "3 1  1 3  1 1 1  3  1 1 1  1 2 4" ≡ 19
-  pub far-above-n : causeOf "3 1  1 3  1 1 1  3  1 1 1  1 2 65535" ≡ 19
-  pub above-m : causeOf "3 1  1 3  1 1 1  3  1 1 2  1 2 3" ≡ 19
-  pub far-above-m : causeOf "3 1  1 3  1 1 1  3  1 1 65535  1 2 3" ≡ 19
-  -- row 1 lacks a place that column 4 names, and column 4 one that row 1 names
-  pub row-lacks : causeOf "4 1  1 3  1 1 1 1  3  1 1 1 1  1 2 3" ≡ 19
-  pub column-lacks : causeOf "4 1  1 4  1 1 1 0  4  1 1 1 0  1 2 3 4" ≡ 19
-  -- as many names in each list, at other places
-  pub exchanged : causeOf "6 2  1 3  1 1 1 1 1 1  3 3  1 1 2 1 2 2  1 2 3  4 5 6" ≡ 19
-  -- the same places, one of them twice in its row, or twice in its column; the same places, one of them twice in its row and another twice in its column
-  pub twice-in-a-row : causeOf "3 1  1 4  1 1 1  4  1 1 1  1 1 2 3" ≡ 19
-  pub twice-in-a-column : causeOf "3 1  2 3  2 1 1  3  1 1 1 0 1 0  1 2 3" ≡ 19
-  pub twice-elsewhere : causeOf "3 2  3 4  3 2 2  4 3  1 2 2  1 2 0  1 2 0  1 1 2 3  1 2 3 0" ≡ 19
-  -- twice on both sides is no 19; then the row does not rise
-  pub twice-in-both : causeOf "3 1  2 4  2 1 1  4  1 1  1 0  1 0  1 1 2 3" ≡ 6
+abbrev pub places : List Judgement
+places =
+    -- row 1 names column 4 of 3, or column 65,535; column 3 names row 2 of 1, or row 65,535
+    "3 1  1 3  1 1 1  3  1 1 1  1 2 4" gets 19
+    ∷ "3 1  1 3  1 1 1  3  1 1 1  1 2 65535" gets 19
+    ∷ "3 1  1 3  1 1 1  3  1 1 2  1 2 3" gets 19
+    ∷ "3 1  1 3  1 1 1  3  1 1 65535  1 2 3" gets 19
+    -- row 1 lacks a place that column 4 names, and column 4 one that row 1 names
+    ∷ "4 1  1 3  1 1 1 1  3  1 1 1 1  1 2 3" gets 19
+    ∷ "4 1  1 4  1 1 1 0  4  1 1 1 0  1 2 3 4" gets 19
+    -- as many names in each list, at other places
+    ∷ "6 2  1 3  1 1 1 1 1 1  3 3  1 1 2 1 2 2  1 2 3  4 5 6" gets 19
+    -- the same places, one of them twice in its row, or twice in its column; one twice in its row and another twice in its column
+    ∷ "3 1  1 4  1 1 1  4  1 1 1  1 1 2 3" gets 19
+    ∷ "3 1  2 3  2 1 1  3  1 1 1 0 1 0  1 2 3" gets 19
+    ∷ "3 2  3 4  3 2 2  4 3  1 2 2  1 2 0  1 2 0  1 1 2 3  1 2 3 0" gets 19
+    -- twice on both sides is no 19; then the row does not rise
+    ∷ "3 1  2 4  2 1 1  4  1 1  1 0  1 0  1 1 2 3" gets 6
+    ∷ []
 
 -- ---- "rows must rise, columns may stand in any order"
-pub record Orders : Type 0 where
-  pub falling-row : causeOf "3 1  1 3  1 1 1  3  1 1 1  1 3 2" ≡ 6
-  pub rising-columns : causeOf "3 2  2 3  2 2 2  3 3  1 2  1 2  1 2  1 2 3  1 2 3" ≡ 0
-  pub falling-columns : causeOf "3 2  2 3  2 2 2  3 3  2 1  1 2  2 1  1 2 3  1 2 3" ≡ 0
+abbrev pub orders : List Judgement
+orders =
+    "3 1  1 3  1 1 1  3  1 1 1  1 3 2" gets 6
+    ∷ "3 2  2 3  2 2 2  3 3  1 2  1 2  1 2  1 2 3  1 2 3" gets 0
+    ∷ "3 2  2 3  2 2 2  3 3  2 1  1 2  2 1  1 2 3  1 2 3" gets 0
+    ∷ []
 
 -- ---- "Both come in front of the record causes, 18 first; 3 to 8 then apply to the rows."
+abbrev pub precedence : List Judgement
+precedence =
+    -- an index above n, and a number too many
+    "3 1  1 3  1 1 1  3  1 1 1  1 2 4  0" gets 18
+    -- two bits: with a number too many; with an index above them; alone
+    ∷ "2 1  1 2  1 1  2  1 1  1 2  0" gets 18
+    ∷ "2 1  1 2  1 1  2  1 1  1 3" gets 19
+    ∷ "2 1  1 2  1 1  2  1 1  1 2" gets 3
+    -- a row of two: with an index above n, which is 19 and not 5; alone
+    ∷ "3 1  1 2  1 1 0  2  1 1 0  1 4" gets 19
+    ∷ "3 1  1 2  1 1 0  2  1 1 0  1 2" gets 4
+    -- a bit in no check: with a falling row; alone
+    ∷ "4 1  1 3  1 1 1 0  3  1 1 1 0  1 3 2" gets 6
+    ∷ "4 1  1 3  1 1 1 0  3  1 1 1 0  1 2 3" gets 8
+    ∷ []
+
 -- n bits and one check of all of them
 abbrev pub wide : ℕ → List ℕ
 wide n = textOf ((n ∷ 1 ∷ []) ∷ (1 ∷ n ∷ []) ∷ replicate n 1 ∷ (n ∷ []) ∷ replicate n 1 ∷ tab n suc ∷ [])
-
-pub record Precedence : Type 0 where
-  -- an index above n, and a number too many
-  pub eighteen-before-nineteen : causeOf "3 1  1 3  1 1 1  3  1 1 1  1 2 4  0" ≡ 18
-  -- two bits, and a number too many; two bits, and an index above them; two bits
-  pub eighteen-before-three : causeOf "2 1  1 2  1 1  2  1 1  1 2  0" ≡ 18
-  pub nineteen-before-three : causeOf "2 1  1 2  1 1  2  1 1  1 3" ≡ 19
-  pub three : causeOf "2 1  1 2  1 1  2  1 1  1 2" ≡ 3
-  -- an index above n is 19, not 5
-  pub nineteen-before-four : causeOf "3 1  1 2  1 1 0  2  1 1 0  1 4" ≡ 19
-  pub four : causeOf "3 1  1 2  1 1 0  2  1 1 0  1 2" ≡ 4
-  pub most-degree : judgeText (wide 32) ≡ 0
-  pub above-most-degree : judgeText (wide 33) ≡ 4
-  -- a falling row with a bit in no check; a rising one
-  pub six-before-eight : causeOf "4 1  1 3  1 1 1 0  3  1 1 1 0  1 3 2" ≡ 6
-  pub eight : causeOf "4 1  1 3  1 1 1 0  3  1 1 1 0  1 2 3" ≡ 8
 
 -- ---- "Export writes rising columns and no leading zeros, puts one space between numbers and ends each pair or list with a line feed."
 -- eleven bits; a check of six of them and one of seven, which share two
@@ -155,16 +201,6 @@ abbrev pub elevenText : String
 elevenText =
     "11 2\n2 7\n2 1 1 1 1 2 1 1 1 1 1\n6 7\n1 2\n1 0\n1 0\n1 0\n1 0\n1 2\n2 0\n2 0\n2 0\n2 0\n2 0\n1 2 3 4 5 6 0\n1 6 7 8 9 10 11\n"
 
-pub record Exports : Type 0 where
-  -- the bytes of "3 1", "1 3", "1 1 1", "3", three times "1", and "1 2 3"
-  pub one : alistOf (record { bits = 3; checks = (0 ∷ 1 ∷ 2 ∷ []) ∷ [] })
-      ≡ 51 ∷ 32 ∷ 49 ∷ 10 ∷ 49 ∷ 32 ∷ 51 ∷ 10 ∷ 49 ∷ 32 ∷ 49 ∷ 32 ∷ 49 ∷ 10 ∷ 51 ∷ 10 ∷ 49 ∷ 10 ∷ 49 ∷ 10 ∷ 49 ∷ 10 ∷ 49 ∷ 32 ∷ 50 ∷ 32 ∷ 51 ∷ 10 ∷ []
-  pub filled : alistOf eleven ≡ ascii elevenText
-  pub back : causeOf elevenText ≡ 0
-  pub back-code : codeOfText (ascii elevenText) ≡ eleven
-
--- ---- "Import, export and what writes records later hand back the number of bytes written."; "Each new number, here and later, is returned alone and leaves
--- all lists as they were."
 -- the records of three bits and one check of all of them
 abbrev pub records : List ℕ
 records = 0x4C ∷ 0x48 ∷ 0 ∷ 3 ∷ 0 ∷ 1 ∷ 0x4C ∷ 0x43 ∷ 3 ∷ 0 ∷ 0 ∷ 0 ∷ 1 ∷ 0 ∷ 2 ∷ []
@@ -172,29 +208,24 @@ records = 0x4C ∷ 0x48 ∷ 0 ∷ 3 ∷ 0 ∷ 1 ∷ 0x4C ∷ 0x43 ∷ 3 ∷ 0 �
 abbrev pub lent : ℕ → List ℕ
 lent n = replicate n 7
 
-pub record Calls : Type 0 where
-  -- to a list of 17 bytes, the last two stay; to one of 14
-  pub imported : importer (ascii "3 1  1 3  1 1 1  3  1 1 1  1 2 3") (lent 17) ≡ record { number = 0; bytes = 15; list = records ++ (7 ∷ 7 ∷ []) }
-  pub import-short : importer (ascii "3 1  1 3  1 1 1  3  1 1 1  1 2 3") (lent 14) ≡ record { number = 10; bytes = 0; list = lent 14 }
-  -- 18 and 19, also where there is no room
-  pub import-18 : importer (ascii "3 1  1 3  1 1 1  3  1 1 1  1 2") (lent 3) ≡ record { number = 18; bytes = 0; list = lent 3 }
-  pub import-19 : importer (ascii "3 1  1 3  1 1 1  3  1 1 1  1 2 4") (lent 3) ≡ record { number = 19; bytes = 0; list = lent 3 }
-  pub exported : exporter records (lent 30) ≡ record { number = 0; bytes = 28; list = ascii "3 1\n1 3\n1 1 1\n3\n1\n1\n1\n1 2 3\n" ++ (7 ∷ 7 ∷ []) }
-  pub export-short : exporter records (lent 27) ≡ record { number = 10; bytes = 0; list = lent 27 }
-  -- records that are cut
-  pub export-cut : exporter (0x4C ∷ []) (lent 30) ≡ record { number = 1; bytes = 0; list = lent 30 }
-  pub size : exportSize records ≡ record { number = 0; bytes = 28 }
-  pub size-cut : exportSize (0x4C ∷ []) ≡ record { number = 1; bytes = 0 }
-
 pub record Texts : Type 0 where
-  pub form : Form
-  pub decimals : Decimals
-  pub separated : Separated
-  pub counted : Counted
-  pub filled : Filled
-  pub maxima : Maxima
-  pub places : Places
-  pub orders : Orders
-  pub precedence : Precedence
-  pub exports : Exports
-  pub calls : Calls
+  pub numbers : Read (decimals ++ separations)
+  pub causes : Judged (forms ++ (decimalTexts ++ (separatedTexts ++ (counts ++ (fills ++ (maxima ++ (places ++ (orders ++ precedence))))))))
+  -- a degree of 32, and of 33
+  pub degrees : (judgeText (wide 32) ≡ 0) × (judgeText (wide 33) ≡ 4)
+  -- exports, and what they are read as
+  pub bytes : alistOf (record { bits = 3; checks = (0 ∷ 1 ∷ 2 ∷ []) ∷ [] })
+      ≡ 51 ∷ 32 ∷ 49 ∷ 10 ∷ 49 ∷ 32 ∷ 51 ∷ 10 ∷ 49 ∷ 32 ∷ 49 ∷ 32 ∷ 49 ∷ 10 ∷ 51 ∷ 10 ∷ 49 ∷ 10 ∷ 49 ∷ 10 ∷ 49 ∷ 10 ∷ 49 ∷ 32 ∷ 50 ∷ 32 ∷ 51 ∷ 10 ∷ []
+  pub filled : alistOf eleven ≡ ascii elevenText
+  pub back : codeOfText (ascii elevenText) ≡ eleven
+  -- "Import, export and what writes records later hand back the number of bytes written.": to a list of 17 bytes, of which the last two stay, and to one of 14
+  pub imports : (importer (ascii "3 1  1 3  1 1 1  3  1 1 1  1 2 3") (lent 17) ≡ record { number = 0; bytes = 15; list = records ++ (7 ∷ 7 ∷ []) })
+      × (importer (ascii "3 1  1 3  1 1 1  3  1 1 1  1 2 3") (lent 14) ≡ record { number = 10; bytes = 0; list = lent 14 })
+  -- "Each new number, here and later, is returned alone and leaves all lists as they were.": 18 and 19, also where there is no room
+  pub refusals : (importer (ascii "3 1  1 3  1 1 1  3  1 1 1  1 2") (lent 3) ≡ record { number = 18; bytes = 0; list = lent 3 })
+      × (importer (ascii "3 1  1 3  1 1 1  3  1 1 1  1 2 4") (lent 3) ≡ record { number = 19; bytes = 0; list = lent 3 })
+  -- to a list of 30 bytes, and to one of 27; of records that are cut
+  pub exports : (exporter records (lent 30) ≡ record { number = 0; bytes = 28; list = ascii "3 1\n1 3\n1 1 1\n3\n1\n1\n1\n1 2 3\n" ++ (7 ∷ 7 ∷ []) })
+      × (exporter records (lent 27) ≡ record { number = 10; bytes = 0; list = lent 27 })
+      × (exporter (0x4C ∷ []) (lent 30) ≡ record { number = 1; bytes = 0; list = lent 30 })
+  pub sizes : (exportSize records ≡ record { number = 0; bytes = 28 }) × (exportSize (0x4C ∷ []) ≡ record { number = 1; bytes = 0 })

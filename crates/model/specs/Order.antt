@@ -20,8 +20,8 @@ abbrev pub runCauses : Code → List ℤ → List ℕ
 runCauses k c = 16 if ltb (firstUndecided k c) (k .bits) ∷ oddCauses k (wordOf k c)
 
 -- ---- the order of the causes that are judged after all reading
--- "Then 9, 7, 8, 11, 12, 13, 14, 15, 10, then the run or, in test and extension, 17.", the run with 16 before 17; of document 02, 18 and 19: "Both come in front
--- of the record causes, 18 first"
+-- "Then 9, 7, 8, 11, 12, 13, 14, 15, 10, then the run or, in test and extension, 17.", the run with 16 before 17; of document 02, 18 and 19: "Both come in
+-- front of the record causes, 18 first"
 abbrev pub documentOrder : List ℕ
 documentOrder = 18 ∷ 19 ∷ 9 ∷ 7 ∷ 8 ∷ 11 ∷ 12 ∷ 13 ∷ 14 ∷ 15 ∷ 10 ∷ 16 ∷ 17 ∷ []
 
