@@ -3,7 +3,7 @@ use Rattle.integers.proofs.Prelude.{_≡_, sym, ap₂, _∙_, List, ℕ, zero, 
 use Rattle.lists.specs.Tabulated.{written}
 use Rattle.quotient.specs.Quotient.{quotient}
 use Rattle.model.specs.Iteration.{countsOf}
-use Rattle.model.specs.Calls.{Lists, Answer, Decoded, decoderCauses, decoderCause, decodedBy, decoder}
+use Rattle.model.specs.Calls.{Lists, Answer, Decoded, decoderCauses, decoderCauseUpTo, decoderCause, decodedBy, decoderUpTo}
 use Rattle.model.specs.Causes.{firstOf, accepted}
 use Rattle.model.specs.Told.{Refuses}
 use Rattle.model.specs.DecoderClaims.{Small}
@@ -45,18 +45,18 @@ module _ (b : List ℕ) (o : Settings) (costs : List ℤ) (l : Lists) where
   Refusal c = DecoderCall b o costs l (refusal c) × Refuses c
 
   refused-by : (c : ℕ) → decoderCause b o costs l ≡ c → 1 ≤ c → Refusal c
-  unfolding decoder
+  unfolding decoderUpTo
   refused-by zero e h = absurd (omega arith)
   refused-by (suc c) e h = (decoder-call b o costs l (refusal (suc c)) (λ z. absurd (omega arith)) (rw e), input-refuses b o costs l c e)
 
   pub unsound : (c : ℕ) → judge b ≡ c → 1 ≤ c → Refusal c
-  unfolding decoderCause
+  unfolding decoderCauseUpTo
   unsound zero e h = absurd (omega arith)
   unsound (suc c) e h = refused-by (suc c) (rw e) h
 
   module _ (sound : judge b ≡ 0) where
     cause-is : decoderCause b o costs l ≡ after-judgement
-    unfolding decoderCause
+    unfolding decoderCauseUpTo
     cause-is = rw sound
 
     pub refused : (c : ℕ) → c ≡ after-judgement → (c ≡ 0 → ⊥) → Refusal c
@@ -64,5 +64,5 @@ module _ (b : List ℕ) (o : Settings) (costs : List ℤ) (l : Lists) where
 
     pub accepted-is : (d : Decoded) → 0 ≡ after-judgement → Small costs → d ≡ decodedBy (codeOf b) (run quotient (systemOf (codeOf b)) o costs) l
         → DecoderCall b o costs l d
-    unfolding decoder
+    unfolding decoderUpTo
     accepted-is d e small is = decoder-call b o costs l d (λ _. small) (rw (cause-is ∙ sym e) is)

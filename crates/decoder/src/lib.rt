@@ -49,7 +49,7 @@ fn no_room(bits: usize, total: usize, variables: usize, room: Room) -> bool
 
 // The first of 11, 12, 13 and 10, or 0.
 fn cause(settings: Settings, costs: &[i16], bits: usize, short: bool) -> u32
-    ensures { λ r. ⌜ r ≡ firstOf (inputCauses settings (now (costs .entry)) bits short) ⌝ }
+    ensures { λ r. ⌜ r ≡ firstOf (inputCauses (Calls.outOfRange settings) (now (costs .entry)) bits short) ⌝ }
     ensures { λ r. ⌜ (r ≡ 0 → Small (now (costs .entry))) ⌝ }
 {
     if inputs::out_of_range(settings) {

@@ -3,7 +3,7 @@ use Rattle.integers.proofs.Prelude.{_≡_, refl, ap, subst, _∙_, List, [], �
 use Rattle.integers.proofs.Prelude.{natAbs, length, getD, List·getD-eq-default, sets}
 use Rattle.lists.specs.Tabulated.{tab, over}
 use Rattle.lists.proofs.Tabulated.{length-tab, getD-tab, tab-same, over-sets}
-use Rattle.model.specs.Limits.{mostRow}
+use Rattle.model.specs.Limits.{mostSlack, mostMultiplier, mostRow}
 use Rattle.model.specs.Iteration.{at, row, slack, multiplier}
 use Rattle.model.specs.Bounds.{RowsWithin}
 use Rattle.model.proofs.Rows.{at-tab}
@@ -117,7 +117,7 @@ straight-zero T =
 pub straight-within : (n T : ℕ) (s : List ℤ) → RowsWithin n s → RowsWithin n (straight T s)
 straight-within n T s w =
     let all = arranged-all (4 * T) (place T) s in
-    record { multipliers = all (λ z. multiplier z ≤ 32768 * n) (omega arith) (w .multipliers); slacks = all (λ z. slack z ≤ 65536) (omega arith) (w .slacks) }
+    record { multipliers = all (λ z. multiplier z ≤ mostMultiplier n) (omega arith) (w .multipliers); slacks = all (λ z. slack z ≤ mostSlack) (omega arith) (w .slacks) }
 
 pub straight-back : (n T : ℕ) (s : List ℤ) → length s ≡ 4 * T → RowsWithin n (straight T s) → RowsWithin n s
 straight-back n T s e w = subst (RowsWithin n) (straight-straight T s e) (straight-within n T (straight T s) w)

@@ -1,5 +1,5 @@
 -- What 18 and 19 mean, of every text, and which texts are accepted. Assumes nothing.
-use Rattle.integers.proofs.Prelude.{_≡_, refl, sym, ap, subst, _∙_, Bool, true, false, List, [], _∷_, map, ℕ, suc, _-_, _≤_, arith, T, eqb, ltb, leb, length}
+use Rattle.integers.proofs.Prelude.{_≡_, refl, sym, ap, subst, _∙_, Bool, true, false, List, [], _∷_, map, ℕ, suc, _-_, _≤_, arith, T, eqb, leb, length}
 use mathlib.Core.Logic.{_↔_}
 use Rattle.lists.specs.Entries.{every, some}
 use Rattle.model.specs.Limits.{mostNumber}

@@ -10,14 +10,14 @@ use Rattle.quotient.specs.Quotient.{unit, quotient}
 use Rattle.quotient.specs.Quotient.Laws.{quotient-range}
 use Rattle.model.specs.declared.Settings.{Settings}
 use Rattle.model.specs.Causes.{_if_}
-use Rattle.model.specs.Limits.{mostChecks, mostTriples, mostWeight, mostRatio, mostCost, mostDone}
+use Rattle.model.specs.Limits.{mostChecks, mostTriples, mostWeight, mostRatio, mostIterations, mostCost, mostSlack, mostMultiplier, mostRow, mostSum, mostNumerator}
 use Rattle.model.specs.Code.{Code, triples, variables}
 use Rattle.model.specs.Sound.{Sound}
 use Rattle.model.specs.Calls.{outOfRange}
 use Rattle.model.specs.Splitting.{System, systemOf, member}
 use Rattle.model.specs.Iteration.{at, row, sign, rowSum, sumAt, slack, multiplier, share, _when_, sumOf, occurrences, numerator, divisor, renewed, State, sumsOf, valueOf, valuesOf, rowsOf, iterate}
 use Rattle.model.specs.Run.{squareOfChange, changes, start, after}
-use Rattle.model.specs.Bounds.{RowsWithin, Ready, Bounds}
+use Rattle.model.specs.Bounds.{RowsWithin, Ready, Bounds, Margins}
 use Rattle.model.proofs.Causes.{in-range, within}
 use Rattle.model.proofs.TripleRule.{occurs-some, occurs-few}
 use Rattle.model.proofs.Rows.{signed-abs, at-tab, none, row-renewed}
@@ -39,10 +39,10 @@ module _ (s sum : ℤ) (small : natAbs sum ≤ 49152) where
   parts : up (renewed s sum) + (dn sum + unit) ≡ (multiplier s + up sum) + dn (renewed s sum)
   parts = omega (arith, about-sum (pos (multiplier s)) sum, about-sum (pos (multiplier s) +ℤ sum) (negℤ (pos unit)))
 
-  pub renewed-multiplier : multiplier (renewed s sum) ≤ multiplier s + 32768
+  pub renewed-multiplier : multiplier (renewed s sum) ≤ multiplier s + mostMultiplier 1
   renewed-multiplier = omega (arith, parts, about sum, about (renewed s sum))
 
-  pub renewed-slack : slack (renewed s sum) ≤ 65536
+  pub renewed-slack : slack (renewed s sum) ≤ mostSlack
   renewed-slack = omega (arith, parts, about sum, about (renewed s sum))
 
   pub multiplier-change : natAbs (pos (multiplier (renewed s sum)) -ℤ pos (multiplier s)) ≤ 65536
@@ -82,8 +82,8 @@ module _ (g : System) (o : Settings) (costs : List ℤ) (a : State) where
       at-tab (λ z. natAbs z ≤ unit) (g .variables) (valueOf quotient g o costs (b .sums)) v
       (λ _. quotient-range (numerator (o .weight) (at (b .sums) v) (at costs v)) (divisor (4 * e v) (o .ratio))) (omega arith)
 
-  sum-small : (t r : ℕ) → r < 4 → natAbs (sumAt (g .members) (b .values) t r) ≤ 49152
-  sum-small t r h =
+  row-sum-small : (t r : ℕ) → r < 4 → natAbs (sumAt (g .members) (b .values) t r) ≤ 49152
+  row-sum-small t r h =
       let c : ℕ → ℤ = λ p. at (b .values) (member (g .members) t p) in
       rowSum-bound r (c 0) (c 1) (c 2) h (values (member (g .members) t 0)) (values (member (g .members) t 1)) (values (member (g .members) t 2))
 
@@ -95,58 +95,57 @@ module _ (g : System) (o : Settings) (costs : List ℤ) (a : State) where
   pub rows : (n : ℕ) → RowsWithin n (a .rows) → RowsWithin (suc n) (b .rows)
   rows n within =
       let sum : ℕ → ℤ = λ i. sumAt (g .members) (b .values) (i / 4) (i % 4) in
-      let small : (i : ℕ) → natAbs (sum i) ≤ 49152 = λ i. sum-small (i / 4) (i % 4) (omega arith) in
+      let small : (i : ℕ) → natAbs (sum i) ≤ 49152 = λ i. row-sum-small (i / 4) (i % 4) (omega arith) in
       record {
-        multipliers = each-row (λ s. multiplier s ≤ 32768 * suc n) (omega arith)
+        multipliers = each-row (λ s. multiplier s ≤ mostMultiplier (suc n)) (omega arith)
             (λ i. omega (arith, renewed-multiplier (at (a .rows) i) (sum i) (small i), within .multipliers i));
-        slacks = each-row (λ s. slack s ≤ 65536) (omega arith) (λ i. renewed-slack (at (a .rows) i) (sum i) (small i));
+        slacks = each-row (λ s. slack s ≤ mostSlack) (omega arith) (λ i. renewed-slack (at (a .rows) i) (sum i) (small i));
       }
+
+-- ---- rows of up to 4,000 iterations: how large s is, a position's share of a triple, and S of a variable
+pub row-small : (n : ℕ) (s : List ℤ) → n ≤ mostIterations → RowsWithin n s → (i : ℕ) → natAbs (at s i) ≤ mostRow
+row-small n s h w i = omega (arith, about (at s i), w .multipliers i, w .slacks i)
+
+pub share-small : (s : List ℤ) (t p : ℕ) → p < 3 → ((r : ℕ) → natAbs (row s t r) ≤ mostRow) → natAbs (share s t p) ≤ 4 * mostRow
+unfolding share
+share-small s t p l h =
+    let size : ℕ → ℤ = λ r. pos (slack (row s t r) + multiplier (row s t r)) in
+    le-trans (sumℤ-bound 4 (λ r. sign r p *ℤ size r) (λ _. mostRow) (λ r k. rw (signed-abs r p (size r) k l) (omega (arith, about (row s t r), h r)))) (omega arith)
+
+when-bound : (t : Bool) (z : ℤ) (u : ℕ) → natAbs z ≤ u → natAbs (z when t) ≤ u * (1 if t)
+when-bound true z u h = omega arith
+when-bound false z u h = omega arith
+
+sum-small : (ts : List ℕ) (T : ℕ) (s : List ℤ) → ((i : ℕ) → natAbs (at s i) ≤ mostRow) → (v : ℕ) → natAbs (sumOf ts T s v) ≤ (4 * mostRow) * occurrences ts T v
+unfolding sumOf occurrences
+sum-small ts T s small v =
+    let u = 4 * mostRow in
+    let f : ℕ → ℕ → ℕ = λ t p. 1 if eqb (member ts t p) v in
+    let part : ℕ → ℕ → ℤ = λ t p. share s t p when eqb (member ts t p) v in
+    le-trans (sumℤ-bound T (λ t. sumℤ 3 (part t)) (λ t. sumℕ 3 (λ p. u * f t p))
+    (λ t _. sumℤ-bound 3 (part t) (λ p. u * f t p) (λ p l. when-bound (eqb (member ts t p) v) (share s t p) u (share-small s t p l (λ r. small (4 * t + r))))))
+    (le-of-eq (sumℕ-same T (λ t. sumℕ 3 (λ p. u * f t p)) (λ t. u * sumℕ 3 (f t)) (λ t _. sumℕ-scale 3 u (f t)) ∙ sumℕ-scale T u (λ t. sumℕ 3 (f t))))
 
 -- ---- one iteration: all its numbers
 module _ (g : System) (o : Settings) (costs : List ℤ) (n : ℕ) (a : State) (ready : Ready (g .variables) (g .members) (g .triples) o costs) (within : RowsWithin n (a .rows)) where
-  abbrev S : ℕ → ℤ
-  S v = sumOf (g .members) (g .triples) (a .rows) v
-
   abbrev b′ : State
   b′ = b g o costs a
 
-  -- a position's share of a triple, and S
-  share-bound : (t p : ℕ) → p < 3 → natAbs (share (a .rows) t p) ≤ 4 * (32768 * (n + 2))
-  unfolding share
-  share-bound t p l =
-      let size : ℕ → ℕ = λ r. slack (row (a .rows) t r) + multiplier (row (a .rows) t r) in
-      let each : (r : ℕ) → r < 4 → natAbs (sign r p *ℤ pos (size r)) ≤ 32768 * (n + 2)
-      = λ r h. rw (signed-abs r p (pos (size r)) h l) (omega (arith, within .multipliers (4 * t + r), within .slacks (4 * t + r))) in
-      le-trans (sumℤ-bound 4 (λ r. sign r p *ℤ pos (size r)) (λ _. 32768 * (n + 2)) each) (omega arith)
-
-  when-bound : (t : Bool) (z : ℤ) (u : ℕ) → natAbs z ≤ u → natAbs (z when t) ≤ u * (1 if t)
-  when-bound true z u h = omega arith
-  when-bound false z u h = omega arith
-
-  sum-bound : (v : ℕ) → natAbs (S v) ≤ (4 * (32768 * (n + 2))) * e g o costs a v
-  unfolding sumOf occurrences
-  sum-bound v =
-      let u = 4 * (32768 * (n + 2)) in
-      let f : ℕ → ℕ → ℕ = λ t p. 1 if eqb (member (g .members) t p) v in
-      let part : ℕ → ℕ → ℤ = λ t p. share (a .rows) t p when eqb (member (g .members) t p) v in
-      le-trans (sumℤ-bound (g .triples) (λ t. sumℤ 3 (part t)) (λ t. sumℕ 3 (λ p. u * f t p))
-      (λ t _. sumℤ-bound 3 (part t) (λ p. u * f t p) (λ p l. when-bound (eqb (member (g .members) t p) v) (share (a .rows) t p) u (share-bound t p l))))
-      (le-of-eq (sumℕ-same (g .triples) (λ t. sumℕ 3 (λ p. u * f t p)) (λ t. u * sumℕ 3 (f t)) (λ t _. sumℕ-scale 3 u (f t)) ∙ sumℕ-scale (g .triples) u (λ t. sumℕ 3 (f t))))
-
-  sums : (v : ℕ) → natAbs (at (b′ .sums) v) ≤ mostTriples * (32768 * (n + 2))
+  sums : n < mostIterations → (v : ℕ) → natAbs (at (b′ .sums) v) ≤ mostSum
   unfolding iterate sumsOf
-  sums v =
-      let u = 4 * (32768 * (n + 2)) in
-      at-tab (λ z. natAbs z ≤ mostTriples * (32768 * (n + 2))) (g .variables) S v
-      (λ h. le-trans (sum-bound v) (let m : u * e g o costs a v ≤ u * mostChecks = mul-le-mul-left u (ready .few v h) in omega arith))
+  sums h v =
+      let u = 4 * mostRow in
+      at-tab (λ z. natAbs z ≤ mostSum) (g .variables) (sumOf (g .members) (g .triples) (a .rows)) v
+      (λ l. le-trans (sum-small (g .members) (g .triples) (a .rows) (row-small n (a .rows) (omega arith) within) v)
+      (let m : u * e g o costs a v ≤ u * mostChecks = mul-le-mul-left u (ready .few v l) in omega arith))
       (omega arith)
 
-  numerators : n ≤ mostDone → (v : ℕ) → natAbs (numerator (o .weight) (at (b′ .sums) v) (at costs v)) ≤ 2 ^ 48
+  numerators : n < mostIterations → (v : ℕ) → natAbs (numerator (o .weight) (at (b′ .sums) v) (at costs v)) ≤ mostNumerator
   numerators h v =
       let x = at (b′ .sums) v in
       let y = at costs v in
       let m : natAbs (pos (o .weight) *ℤ y) ≤ mostWeight * mostCost = rw abs-mul (mul-le-mul (ready .weight) (ready .cost v)) in
-      rw (abs-neg (pos 256 *ℤ x +ℤ pos (o .weight) *ℤ y)) (omega (arith, abs-add (pos 256 *ℤ x) (pos (o .weight) *ℤ y), abs-mul (pos 256) x, sums v))
+      rw (abs-neg (pos 256 *ℤ x +ℤ pos (o .weight) *ℤ y)) (omega (arith, abs-add (pos 256 *ℤ x) (pos (o .weight) *ℤ y), abs-mul (pos 256) x, sums h v))
 
   pub bounds : Bounds g o costs n a
   unfolding iterate
@@ -157,7 +156,7 @@ module _ (g : System) (o : Settings) (costs : List ℤ) (n : ℕ) (a : State) (r
     numerators = numerators;
     values = values g o costs a;
     rows = rows g o costs a n within;
-    multiplier-total = changes-bound multiplier (g .triples) (a .rows) (b′ .rows) (ready .triples) (λ t r l k. rw (row-renewed g (a .rows) (b′ .values) t r l k) (multiplier-change (row (a .rows) t r) (sumAt (g .members) (b′ .values) t r) (sum-small g o costs a t r k)));
+    multiplier-total = changes-bound multiplier (g .triples) (a .rows) (b′ .rows) (ready .triples) (λ t r l k. rw (row-renewed g (a .rows) (b′ .values) t r l k) (multiplier-change (row (a .rows) t r) (sumAt (g .members) (b′ .values) t r) (row-sum-small g o costs a t r k)));
     slack-total = changes-bound slack (g .triples) (a .rows) (b′ .rows) (ready .triples) (λ t r l k. abs-difference (slack (row (b′ .rows) t r)) (slack (row (a .rows) t r)) 65536 (omega (arith, rows g o costs a n within .slacks (4 * t + r))) (omega (arith, within .slacks (4 * t + r))));
   }
 
@@ -191,3 +190,7 @@ ready k s o h costs e small =
       ratio = r .ratio;
       cost = small;
     }
+
+-- ---- what is left of the widths
+pub margins : Margins
+margins = record { row = omega arith; share = omega arith; sum = omega arith; numerator = omega arith }

@@ -1,10 +1,10 @@
 -- The iterates of a run, and the lists that a call leaves. Assumes nothing.
 use Rattle.integers.proofs.Prelude.{_≡_, refl, sym, ap, ap₂, subst, _∙_, Bool, true, false, _&&_, List, ℕ, zero, suc, _*_, _≤_, _<_, arith, leb, ℤ, pos}
-use Rattle.integers.proofs.Prelude.{natAbs, length}
+use Rattle.integers.proofs.Prelude.{length}
 use lib.ListN.{length-replicate}
 use Rattle.lists.specs.Tabulated.{written}
 use Rattle.lists.proofs.Tabulated.{length-tab, written-in}
-use Rattle.quotient.specs.Quotient.{unit, quotient}
+use Rattle.quotient.specs.Quotient.{quotient}
 use Rattle.model.specs.declared.Settings.{Settings}
 use Rattle.model.specs.Causes.{_if_}
 use Rattle.model.specs.Code.{triples, variables}
@@ -12,12 +12,10 @@ use Rattle.model.specs.Records.{codeOf}
 use Rattle.model.specs.Splitting.{System, systemOf}
 use Rattle.model.specs.Iteration.{at, slack, multiplier, sumOf, renewedAt, State, sumsOf, rowsOf, valueOf, valuesOf, iterate}
 use Rattle.model.specs.Run.{changes, settledBy, stop, start, Ended, after, runFrom, run}
-use Rattle.model.specs.Calls.{outOfRange, Lists, decoderCause, decodedBy, decoder}
-use Rattle.model.specs.Bounds.{RowsWithin}
+use Rattle.model.specs.Calls.{InRange, outOfRange, Lists, decoderCause, decodedBy, decoder}
 use Rattle.model.specs.DecoderClaims.{runOf, iterateOf, Course, Iterated}
 use Rattle.model.proofs.Causes.{in-range, unless}
 use Rattle.model.proofs.Runs.{stops, goes-on}
-use Rattle.model.proofs.Bounds.{rows-after, values-after}
 use Rattle.model.proofs.DecoderCalls.{clear-causes, ran-is}
 
 -- ---- the iterates
@@ -129,48 +127,37 @@ module _ (b : List ℕ) (o : Settings) (costs : List ℤ) (l : Lists) (h : decod
   abbrev path : Course (systemOf (codeOf b)) o costs (o .limit) 0 (start (systemOf (codeOf b))) (runOf b o costs)
   path = course (systemOf (codeOf b)) o costs (o .limit) 0 (start (systemOf (codeOf b)))
 
+  pub accepted-settings : InRange o
+  accepted-settings = in-range o .0 (unless 10 (outOfRange o) (clear-causes b o costs l h .1 .0))
+
   count-is : runOf b o costs .k ≡ path .steps
   count-is = omega (arith, path .count)
 
-  last-is : runOf b o costs .last ≡ iterateOf b o costs (runOf b o costs .k)
+  pub last-is : runOf b o costs .last ≡ iterateOf b o costs (runOf b o costs .k)
   last-is = path .last ∙ ap (iterateOf b o costs) (sym count-is)
 
   -- K is at least 1, so there is an iteration
   some-step : 1 ≤ path .steps
   some-step =
-      by (path .steps) (path .none) (path .early) (in-range o .0 (unless 10 (outOfRange o) (clear-causes b o costs l h .1 .0)) .limit .0)
+      by (path .steps) (path .none) (path .early) (accepted-settings .limit .0)
     where
       by : (n : ℕ) {s : ℕ} → (n ≡ 0 → s ≡ 0) → (n < o .limit → 1 ≤ s) → 1 ≤ o .limit → 1 ≤ n
       by zero none early l = absurd (omega (arith, none refl, early (omega arith)))
       by (suc n) none early l = omega arith
 
-  last-within : RowsWithin (path .steps) (runOf b o costs .last .rows)
-  last-within = subst (λ (a : State). RowsWithin (path .steps) (a .rows)) (sym (path .last)) (rows-after (systemOf (codeOf b)) o costs (path .steps))
-
-  last-centred : (v : ℕ) → natAbs (at (runOf b o costs .last .values) v) ≤ unit
-  last-centred v = subst (λ (a : State). natAbs (at (a .values) v) ≤ unit) (sym (path .last)) (values-after (systemOf (codeOf b)) o costs (path .steps) v)
-
-  last-row : (i : ℕ) → i < 4 * triples (codeOf b) → at (written (runOf b o costs .last .rows) (l .rows)) i ≡ at (runOf b o costs .last .rows) i
-  unfolding systemOf
-  last-row i k = in-list (runOf b o costs .last .rows) (l .rows) (4 * triples (codeOf b)) i (last-long (systemOf (codeOf b)) o costs .rows) k
-
-  last-value : (v : ℕ) → v < variables (codeOf b) → at (written (runOf b o costs .last .values) (l .values)) v ≡ at (runOf b o costs .last .values) v
-  unfolding systemOf
-  last-value v k = in-list (runOf b o costs .last .values) (l .values) (variables (codeOf b)) v (last-long (systemOf (codeOf b)) o costs .values) k
+  pub steps-range : (1 ≤ runOf b o costs .k) × (runOf b o costs .k ≤ o .limit)
+  steps-range = (omega (arith, count-is, some-step), omega (arith, count-is, path .few))
 
   pub iterated : Iterated b o costs l (decoder b o costs l)
   unfolding decodedBy
   iterated = subst (Iterated b o costs l) (sym (ran-is b o costs l h)) (record {
     course = path;
     count = count-is;
-    range = (omega (arith, count-is, some-step), omega (arith, count-is, path .few));
+    range = steps-range;
     settled = refl;
     left = record {
       sums = ap (λ (a : State). written (a .sums) (l .sums)) last-is;
       values = ap (λ (a : State). written (a .values) (l .values)) last-is;
       rows = ap (λ (a : State). written (a .rows) (l .rows)) last-is;
     };
-    centred = λ v k. rw (last-value v k) (last-centred v);
-    multipliers = λ i k. rw (last-row i k) (omega (arith, last-within .multipliers i, path .few));
-    slacks = λ i k. rw (last-row i k) (last-within .slacks i);
   })

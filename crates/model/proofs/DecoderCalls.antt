@@ -1,25 +1,26 @@
 -- A call of the decoder: its causes, and what it leaves. Assumes nothing.
-use Rattle.integers.proofs.Prelude.{_≡_, refl, sym, ap, subst, _∙_, Bool, List, [], _∷_, _++_, ℕ, zero, suc, _+_, arith, ltb, ℤ, length, take, take-at}
+use Rattle.integers.proofs.Prelude.{_≡_, refl, sym, ap, subst, _∙_, Bool, List, [], _∷_, _++_, ℕ, zero, suc, _+_, _≤_, arith, ltb, le-ltb, ℤ, length, take, take-at}
 use mathlib.Core.Logic.{_⊎_, inl, inr}
 use Rattle.lists.specs.Entries.{some}
 use Rattle.lists.specs.Tabulated.{written}
 use Rattle.model.specs.declared.Settings.{Settings}
+use Rattle.model.specs.Limits.{baseIterations, mostIterations}
 use Rattle.model.specs.Causes.{firstOf, accepted}
 use Rattle.model.specs.Code.{triples}
 use Rattle.model.specs.Records.{codeOf, judge, wholeCauses, recordCauses}
 use Rattle.model.specs.Words.{wordOf, firstUndecided, firstOdd, outcome}
 use Rattle.model.specs.Points.{Codeword}
-use Rattle.model.specs.Calls.{outOfRange, unequal, forbidden, Lists, Decoded, noRoom, decoderCauses, decoderCause, decodedBy, decoder}
+use Rattle.model.specs.Calls.{outOfRange, unequal, forbidden, Lists, Decoded, noRoom, decoderCausesUpTo, decoderCauseUpTo, decoderUpTo, decoderCauses, decoderCause, decodedBy, decoder}
 use Rattle.model.specs.Order.{runCauses, Follows, Refusal, Ordered, oneToNine}
 use Rattle.model.specs.Told.{Refuses}
-use Rattle.model.specs.DecoderClaims.{causesBefore, runOf, Refused, Ran}
+use Rattle.model.specs.DecoderClaims.{causesBefore, runOf, Refused, Ran, AsBefore}
 use Rattle.model.proofs.Causes.{first-joined, stays, Clear, clear}
 use Rattle.model.proofs.Order.{listed, whole, follow, refuses, after-records, outcome-order}
 use Rattle.model.proofs.WordClaims.{tested-is, outcome-is, outcome-claims}
 
 module _ (b : List ℕ) (o : Settings) (costs : List ℤ) (l : Lists) where
   pub causes-are : decoderCause b o costs l ≡ firstOf (judge b ∷ decoderCauses (codeOf b) o costs l)
-  unfolding decoderCause
+  unfolding decoderCauseUpTo
   causes-are = refl
 
   -- the causes with their tests, of the input and of the run
@@ -47,7 +48,7 @@ module _ (b : List ℕ) (o : Settings) (costs : List ℤ) (l : Lists) where
 
   refusal : (c : ℕ) → decoderCause b o costs l ≡ suc c
       → decoder b o costs l ≡ record { answer = record { number = suc c; place = 0; k = 0; settled = 0 }; lists = l }
-  unfolding decoder
+  unfolding decoderUpTo
   refusal c h = rw h
 
   pub refused : (c : ℕ) → decoderCause b o costs l ≡ suc c → Refused b o costs l (decoder b o costs l)
@@ -76,7 +77,7 @@ module _ (b : List ℕ) (o : Settings) (costs : List ℤ) (l : Lists) where
     clear-causes = clear (judge b ∷ decoderCauses (codeOf b) o costs l) (sym causes-are ∙ h)
 
     pub ran-is : decoder b o costs l ≡ decodedBy (codeOf b) (runOf b o costs) l
-    unfolding decoder
+    unfolding decoderUpTo
     ran-is = rw h
 
     numbers : (c : List ℤ) → (outcome (codeOf b) c .number ≡ 0) ⊎ ((outcome (codeOf b) c .number ≡ 16) ⊎ (outcome (codeOf b) c .number ≡ 17))
@@ -115,7 +116,7 @@ module _ (b : List ℕ) (o : Settings) (costs : List ℤ) (l : Lists) where
 
   pub call-ordered : Ordered (recordCauses b ++ (decoderCauses (codeOf b) o costs l ++ runCauses (codeOf b) (runOf b o costs .last .values)))
       (oneToNine ++ (10 ∷ 11 ∷ 12 ∷ 13 ∷ 16 ∷ 17 ∷ [])) (decoder b o costs l .answer .number)
-  unfolding decoder
+  unfolding decoderUpTo
   call-ordered =
       let T = oneToNine ++ (10 ∷ 11 ∷ 12 ∷ 13 ∷ 16 ∷ 17 ∷ []) in
       let k = codeOf b in
@@ -127,3 +128,18 @@ module _ (b : List ℕ) (o : Settings) (costs : List ℤ) (l : Lists) where
   pub call-follows : Follows 0 (wholeCauses b ++ (decoderCauses (codeOf b) o costs l ++ runCauses (codeOf b) (runOf b o costs .last .values)))
   call-follows =
       follow (whole b ++ (input ++ output)) refl
+
+  -- ---- a K that is no more than two limits: the causes and the call are those of either
+  module _ (m n : ℕ) (h : o .limit ≤ m) (k : o .limit ≤ n) where
+    pub same-causes : decoderCausesUpTo m (codeOf b) o costs l ≡ decoderCausesUpTo n (codeOf b) o costs l
+    same-causes = rw (le-ltb m (o .limit) h, le-ltb n (o .limit) k)
+
+    pub same-call : decoderUpTo m b o costs l ≡ decoderUpTo n b o costs l
+    unfolding decoderUpTo decoderCauseUpTo
+    same-call = rw same-causes
+
+  pub as-before : o .limit ≤ baseIterations → AsBefore b o costs l (decoder b o costs l)
+  as-before h = record {
+    causes = same-causes mostIterations baseIterations (omega arith) h;
+    call = same-call mostIterations baseIterations (omega arith) h;
+  }

@@ -30,6 +30,7 @@ pub mod Values
 pub mod ChannelClaims
 pub mod DecoderCalls
 pub mod Courses
+pub mod BoundedCalls
 pub mod ReflectedCalls
 pub mod Promises
 pub mod AlistParts

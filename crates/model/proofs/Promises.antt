@@ -24,7 +24,7 @@ use Rattle.model.specs.Order.{oddCauses, Ordered, oneToNine}
 use Rattle.model.specs.Told.{Refuses}
 use Rattle.model.specs.ChannelClaims.{Costed, ofSingles}
 use Rattle.model.specs.WordClaims.{Tested, PointOf}
-use Rattle.model.specs.DecoderClaims.{Refused, Ran, Iterated, Small, ReflectedCalls}
+use Rattle.model.specs.DecoderClaims.{Refused, Ran, Iterated, Bounded, AsBefore, Small, ReflectedCalls}
 use Rattle.model.specs.Promises.{ReaderCall, SplitterCall, FrontCall, ReflectorCall, TestCall, ExtensionCall, DecoderCall}
 use Rattle.model.proofs.Causes.{stays, clear, unless, first-in}
 use Rattle.model.proofs.Accepted as Accepted
@@ -37,6 +37,7 @@ use Rattle.model.proofs.PaperSystem.{published}
 use Rattle.model.proofs.Demand3 as Demand3
 use Rattle.model.proofs.DecoderCalls as Calls
 use Rattle.model.proofs.Courses.{iterated}
+use Rattle.model.proofs.BoundedCalls.{bounded}
 use Rattle.model.proofs.ReflectedCalls.{length-reflect, reflected-calls}
 
 -- ---- the reader
@@ -283,6 +284,8 @@ module _ (b : List ℕ) (o : Settings) (costs : List ℤ) (l : Lists) (d : Decod
     refused = λ c h. subst (Refused b o costs l) (sym meets) (Calls.refused b o costs l c h);
     ran = λ h. subst (Ran b o costs l) (sym meets) (Calls.ran b o costs l h);
     iterated = λ h. subst (Iterated b o costs l) (sym meets) (iterated b o costs l h);
+    bounded = λ h. subst (Bounded b o costs) (sym meets) (bounded b o costs l h (small h));
+    as-before = λ h. subst (AsBefore b o costs l) (sym meets) (Calls.as-before b o costs l h);
     published = λ h. (let c = Calls.clear-causes b o costs l h in published b (c .0) o costs (unless 10 (outOfRange o) (c .1 .0)));
     demand-3 = Demand3.demand-3 b;
     reflected = reflected;

@@ -15,7 +15,7 @@ use Rattle.model.specs.Run.{start, Ended}
 use Rattle.model.specs.Words.{bitAt, wordOf, Outcome, outcome}
 use Rattle.model.specs.Points.{Codeword, pointOf}
 use Rattle.model.specs.Reflection.{negatedIf, reflect, sumOfWords}
-use Rattle.model.specs.Calls.{outOfRange, unequal, forbidden, Lists, noRoom, decoderCauses, decoderCause, decodedBy, decoder}
+use Rattle.model.specs.Calls.{outOfRange, unequal, forbidden, Lists, noRoom, decoderCauseUpTo, decoderCauses, decoderCause, decodedBy, decoder}
 use Rattle.model.specs.Claims.{ReflectedRun}
 use Rattle.model.specs.DecoderClaims.{runOf, Small, ReflectedCalls}
 use Rattle.model.proofs.Causes.{Clear, unless}
@@ -65,7 +65,7 @@ module _ (b w : List ℕ) (o : Settings) (costs : List ℤ) (l m : Lists) where
     fits = eqb-true (length costs) (code .bits) (not-false _ (unless 11 (unequal costs (code .bits)) (none .1 .1 .0)))
 
     h′ : decoderCause b o (reflect w costs) m ≡ 0
-    unfolding decoderCause
+    unfolding decoderCauseUpTo
     h′ =
         no-cause (judge b) (outOfRange o) (unequal (reflect w costs) (code .bits)) (some forbidden (reflect w costs)) (noRoom code m)
         (none .0)

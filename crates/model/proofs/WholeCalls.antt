@@ -5,15 +5,16 @@ use lib.Ieee.Fits.{up-pos}
 use native.Mathlib.Nat.{mul-pos, zero-lt-suc}
 use Rattle.lists.specs.Entries.{some}
 use Rattle.quotient.specs.Quotient.{quotient}
+use Rattle.model.specs.declared.Settings.{Settings}
 use Rattle.model.specs.Code.{triples}
 use Rattle.model.specs.Records.{twoBytes, numbers, checksIn, afterChecks, codeOf, judgeHeader, judgeIndices, judgeCheck, judgeChecks, covered, judge}
 use Rattle.model.specs.Splitting.{queue, triplesFrom, systemOf}
 use Rattle.model.specs.Iteration.{sign, rowSum, share, sumOf, occurrences, sumsOf, countsOf, valuesOf, rowsOf, iterate}
 use Rattle.model.specs.Run.{changes, settledBy, start, after, runFrom, run}
 use Rattle.model.specs.Words.{wordOf, firstUndecided, firstOdd, tested, outcome}
-use Rattle.model.specs.Calls.{unequal, forbidden, Lists, Decoded, noRoom, decoderCause, decodedBy, decoder, reader}
-use Rattle.model.specs.Table.{settings, by-hand}
-use Rattle.model.specs.WholeCalls.{listed, Room, WholeCalls, RunEdges, ChannelEdges}
+use Rattle.model.specs.Calls.{outOfRange, unequal, forbidden, Lists, Decoded, noRoom, decoderCauseUpTo, decoderUpTo, decodedBy, decoder, reader}
+use Rattle.model.specs.Table.{by-hand}
+use Rattle.model.specs.WholeCalls.{listed, Room, upTo, WholeCalls, RunEdges, ChannelEdges}
 use Rattle.model.specs.Channel.{scaleInRange, floorInRange, inRange}
 use Rattle.model.proofs.Floats.{above-zero, below-zero}
 use Rattle.model.proofs.Causes.{in-range}
@@ -31,23 +32,26 @@ room l r =
       le-ltb (length (l .word)) 3 (r .word),
     )
 
--- the call over another division
-abbrev callBy : (ℤ → ℤ → ℤ) → List ℤ → Lists → Decoded
-callBy div costs l = decodedBy (codeOf listed) (run div (systemOf (codeOf listed)) (settings 256 0) costs) l
+-- a call over another division
+abbrev callBy : (ℤ → ℤ → ℤ) → Settings → List ℤ → Lists → Decoded
+callBy div o costs l = decodedBy (codeOf listed) (run div (systemOf (codeOf listed)) o costs) l
 
-called : (costs : List ℤ) (l : Lists) → Room l → unequal costs 3 ≡ false → some forbidden costs ≡ false → decoder listed (settings 256 0) costs l ≡ callBy computes costs l
-unfolding decoder decoderCause judge judgeHeader judgeChecks judgeCheck judgeIndices afterChecks covered codeOf twoBytes numbers checksIn
-called costs l r e f =
+called : (o : Settings) (costs : List ℤ) (l : Lists) → Room l → outOfRange o ≡ false → unequal costs 3 ≡ false → some forbidden costs ≡ false
+    → decoder listed o costs l ≡ callBy computes o costs l
+unfolding decoderUpTo decoderCauseUpTo judge judgeHeader judgeChecks judgeCheck judgeIndices afterChecks covered codeOf twoBytes numbers checksIn
+called o costs l r d e f =
     let q : quotient ≡ computes = fun-ext (λ n. fun-ext (quotient-computes n)) in
-    rw (e, f, room l r, q)
+    rw (d, e, f, room l r, q)
 
 pub whole-calls : WholeCalls
-unfolding reader decodedBy judge judgeHeader judgeChecks judgeCheck judgeIndices afterChecks covered codeOf twoBytes numbers checksIn queue triplesFrom systemOf sign rowSum share sumOf occurrences sumsOf countsOf valuesOf rowsOf iterate changes settledBy start after runFrom wordOf firstUndecided firstOdd tested outcome
+unfolding decoderUpTo decoderCauseUpTo reader decodedBy judge judgeHeader judgeChecks judgeCheck judgeIndices afterChecks covered codeOf twoBytes numbers checksIn queue triplesFrom systemOf sign rowSum share sumOf occurrences sumsOf countsOf valuesOf rowsOf iterate changes settledBy start after runFrom wordOf firstUndecided firstOdd tested outcome
 whole-calls = record {
   code = refl;
-  undecided = λ l r. called (pos 0 ∷ pos 0 ∷ pos 0 ∷ []) l r refl refl;
-  odd = λ l r. called by-hand l r refl refl;
-  word = λ l r. called (pos 20000 ∷ pos 20000 ∷ pos 20000 ∷ []) l r refl refl;
+  undecided = λ l r. called (upTo 2) (pos 0 ∷ pos 0 ∷ pos 0 ∷ []) l r refl refl refl;
+  odd = λ l r. called (upTo 2) by-hand l r refl refl refl;
+  word = λ l r. called (upTo 2) (pos 20000 ∷ pos 20000 ∷ pos 20000 ∷ []) l r refl refl refl;
+  longest = λ l r. called (upTo 4000) by-hand l r refl refl refl;
+  too-long = λ l. refl;
 }
 
 -- ---- settings

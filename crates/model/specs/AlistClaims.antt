@@ -3,8 +3,8 @@
 use mathlib.Core.Path.{_≡_}
 use mathlib.Core.Bool.{true}
 use mathlib.Core.List.{List, [], _∷_, _++_, map}
-use mathlib.Core.Logic.{_↔_, _⊎_}
-use Prim.Native.Nat.{ℕ, suc, _+_, _-_, _*_, _≤_, _<_}
+use mathlib.Core.Logic.{_↔_}
+use Prim.Native.Nat.{ℕ, suc, _+_, _-_, _*_, _≤_}
 use lib.Dec.{leb, ltb}
 use lib.ListN.{length, getD, take}
 use Rattle.lists.specs.Tabulated.{written}
@@ -14,7 +14,7 @@ use Rattle.model.specs.Code.{Code}
 use Rattle.model.specs.Records.{codeOf, judge, recordsOf}
 use Rattle.model.specs.RecordClaims.{judgeCode}
 use Rattle.model.specs.Sound.{Sound}
-use Rattle.model.specs.Alist.{separator, numbersOf, largest, wellFormed, times, agree, named, columns, rows, linesOf, codeIn, judgeText, alistOf}
+use Rattle.model.specs.Alist.{separator, numbersOf, wellFormed, times, agree, named, columns, rows, linesOf, judgeText, alistOf}
 use Rattle.model.specs.Alist.{codeOfText, Writing, importer, exporter}
 
 -- ---- how numbers are written

@@ -29,15 +29,18 @@ use Rattle.model.specs.Reflection.{reflect}
 use Rattle.model.specs.Channel.{finite, inRange, costOf}
 
 -- ---- causes 11 to 15
--- "cost weight W (1 to 65,535), ratio A (0 to 1,023 …), iterations K (1 to 1,000), tolerance X (any 32-bit unsigned)"
+-- "cost weight W (1 to 65,535), ratio A (0 to 1,023 …), iterations K …, tolerance X (any 32-bit unsigned)"; "K goes to 4,000" (document 02, L2)
 pub record InRange (o : Settings) : Type 0 where
   pub weight : (1 ≤ o .weight) × (o .weight ≤ mostWeight)
   pub ratio : o .ratio ≤ mostRatio
   pub limit : (1 ≤ o .limit) × (o .limit ≤ mostIterations)
 
--- 11, of a run
+-- 11, of a run, where K goes to `most`
+abbrev pub outOfRangeUpTo : ℕ → Settings → Bool
+outOfRangeUpTo most o = outside 1 mostWeight (o .weight) || (ltb mostRatio (o .ratio) || outside 1 most (o .limit))
+
 abbrev pub outOfRange : Settings → Bool
-outOfRange o = outside 1 mostWeight (o .weight) || (ltb mostRatio (o .ratio) || outside 1 mostIterations (o .limit))
+outOfRange o = outOfRangeUpTo mostIterations o
 
 -- 12: "list lengths that must agree do not"
 abbrev pub unequal : {A : Type 0} → List A → ℕ → Bool
@@ -164,16 +167,9 @@ noRoom k l =
     short (3 * triples k) (l .triples) || (short (variables k) (l .counts) || (short (variables k) (l .sums)
     || (short (variables k) (l .values) || (short (4 * triples k) (l .rows) || short (k .bits) (l .word)))))
 
--- of the settings, of the costs of n bits, and of lists that are too short or not
-abbrev pub inputCauses : Settings → List ℤ → ℕ → Bool → List ℕ
-inputCauses o costs n tooShort = 11 if outOfRange o ∷ 12 if unequal costs n ∷ 13 if some forbidden costs ∷ 10 if tooShort ∷ []
-
-abbrev pub decoderCauses : Code → Settings → List ℤ → Lists → List ℕ
-decoderCauses k o costs l = inputCauses o costs (k .bits) (noRoom k l)
-
--- why a call is refused, 0 where it is not
-unfoldable pub decoderCause : List ℕ → Settings → List ℤ → Lists → ℕ
-decoderCause b o costs l = firstOf (judge b ∷ decoderCauses (codeOf b) o costs l)
+-- of settings that are out of range or not, of the costs of n bits, and of lists that are too short or not
+abbrev pub inputCauses : Bool → List ℤ → ℕ → Bool → List ℕ
+inputCauses out costs n tooShort = 11 if out ∷ 12 if unequal costs n ∷ 13 if some forbidden costs ∷ 10 if tooShort ∷ []
 
 -- what a run that ended with e leaves: "All three carry k and whether settled", and the word is written with the number 0
 unfoldable pub decodedBy : Code → Ended → Lists → Decoded
@@ -191,12 +187,30 @@ decodedBy k e l =
       };
     }
 
-unfoldable pub decoder : List ℕ → Settings → List ℤ → Lists → Decoded
-decoder b o costs l =
-    let c = decoderCause b o costs l in
-    accepted c
-    (decodedBy (codeOf b) (run quotient (systemOf (codeOf b)) o costs) l)
-    (record { answer = record { number = c; place = 0; k = 0; settled = 0 }; lists = l })
+-- a call, where K goes to `most`
+module _ (most : ℕ) where
+  abbrev pub decoderCausesUpTo : Code → Settings → List ℤ → Lists → List ℕ
+  decoderCausesUpTo k o costs l = inputCauses (outOfRangeUpTo most o) costs (k .bits) (noRoom k l)
+
+  -- why it is refused, 0 where it is not
+  unfoldable pub decoderCauseUpTo : List ℕ → Settings → List ℤ → Lists → ℕ
+  decoderCauseUpTo b o costs l = firstOf (judge b ∷ decoderCausesUpTo (codeOf b) o costs l)
+
+  unfoldable pub decoderUpTo : List ℕ → Settings → List ℤ → Lists → Decoded
+  decoderUpTo b o costs l =
+      let c = decoderCauseUpTo b o costs l in
+      accepted c
+      (decodedBy (codeOf b) (run quotient (systemOf (codeOf b)) o costs) l)
+      (record { answer = record { number = c; place = 0; k = 0; settled = 0 }; lists = l })
+
+abbrev pub decoderCauses : Code → Settings → List ℤ → Lists → List ℕ
+decoderCauses = decoderCausesUpTo mostIterations
+
+abbrev pub decoderCause : List ℕ → Settings → List ℤ → Lists → ℕ
+decoderCause = decoderCauseUpTo mostIterations
+
+abbrev pub decoder : List ℕ → Settings → List ℤ → Lists → Decoded
+decoder = decoderUpTo mostIterations
 
 -- ---- the channel front and the reflector, whose result is one list of costs
 pub record Costs : Type 0 where

@@ -8,17 +8,18 @@ use lib.IntN.{ℤ, natAbs}
 use lib.ListN.{getD, take}
 use Rattle.lists.specs.Tabulated.{written}
 use Rattle.quotient.specs.Quotient.{unit, quotient}
-use Rattle.model.specs.Limits.{mostCost}
+use Rattle.model.specs.Limits.{baseIterations, mostCost, mostRow, mostSum, mostNumerator}
 use Rattle.model.specs.declared.Settings.{Settings}
 use Rattle.model.specs.Code.{triples, variables}
 use Rattle.model.specs.Records.{codeOf, recordCauses}
 use Rattle.model.specs.Splitting.{System, systemOf}
-use Rattle.model.specs.Iteration.{at, row, slack, multiplier, State, countsOf}
+use Rattle.model.specs.Iteration.{at, row, numerator, State, countsOf}
 use Rattle.model.specs.Run.{stop, start, Ended, after, run}
 use Rattle.model.specs.Words.{bitAt, wordOf, outcome}
 use Rattle.model.specs.Points.{Codeword, pointOf}
 use Rattle.model.specs.Reflection.{negatedIf, reflect, sumOfWords, Opposite, Reflected}
-use Rattle.model.specs.Calls.{Lists, Decoded, decoderCauses, decoderCause}
+use Rattle.model.specs.Bounds.{RowsWithin}
+use Rattle.model.specs.Calls.{Lists, Decoded, decoderCauses, decoderCause, decoderCausesUpTo, decoderUpTo}
 use Rattle.model.specs.Order.{Refusal, oneToNine}
 use Rattle.model.specs.WordClaims.{Decided}
 use Rattle.model.specs.Paper.{Paper}
@@ -87,10 +88,24 @@ pub record Iterated (b : List ℕ) (o : Settings) (costs : List ℤ) (l : Lists)
   pub settled : d .answer .settled ≡ runOf b o costs .settled
   -- the lists have the k-th iterate
   pub left : Leaves (iterateOf b o costs (d .answer .k)) l (d .lists)
-  -- "always from −U to U", and "s never leaves −65,536 .. 32,768 × K"
-  pub centred : (v : ℕ) → v < variables (codeOf b) → natAbs (at (d .lists .values) v) ≤ unit
-  pub multipliers : (i : ℕ) → i < 4 * triples (codeOf b) → multiplier (at (d .lists .rows) i) ≤ 32768 * o .limit
-  pub slacks : (i : ℕ) → i < 4 * triples (codeOf b) → slack (at (d .lists .rows) i) ≤ 65536
+
+-- how large its numbers get
+pub record Bounded (b : List ℕ) (o : Settings) (costs : List ℤ) (d : Decoded) : Type 0 where
+  -- "always from −U to U"
+  pub values : (v : ℕ) → v < variables (codeOf b) → natAbs (at (d .lists .values) v) ≤ unit
+  -- "s never leaves −65,536 .. 32,768 × K": after every k up to K, and in the list that is left
+  pub each : (k : ℕ) → RowsWithin k (iterateOf b o costs k .rows)
+  pub left : RowsWithin (d .answer .k) (take (4 * triples (codeOf b)) (d .lists .rows))
+  -- document 02, L2: "A row's s is now bounded by 131,072,000"
+  pub rows : (i : ℕ) → i < 4 * triples (codeOf b) → natAbs (at (d .lists .rows) i) ≤ mostRow
+  -- S, and what is divided, in every iteration up to K
+  pub sums : (v : ℕ) → v < variables (codeOf b) → natAbs (at (d .lists .sums) v) ≤ mostSum
+  pub numerators : (k v : ℕ) → k < o .limit → natAbs (numerator (o .weight) (at (iterateOf b o costs (suc k) .sums) v) (at costs v)) ≤ mostNumerator
+
+-- document 02, L2: "Runs with K up to 1,000 give what they gave": the causes, the answer and the lists are those of the call where K goes to 1,000
+pub record AsBefore (b : List ℕ) (o : Settings) (costs : List ℤ) (l : Lists) (d : Decoded) : Type 0 where
+  pub causes : decoderCauses (codeOf b) o costs l ≡ decoderCausesUpTo baseIterations (codeOf b) o costs l
+  pub call : d ≡ decoderUpTo baseIterations b o costs l
 
 -- "equal the published QP-ADMM decoder": the system, and the step to every iterate, with its start and its stop
 pub record Published (b : List ℕ) (o : Settings) (costs : List ℤ) : Type 0 where

@@ -1,5 +1,5 @@
 -- The limits that documents 01 and 02 set and that a run's numbers keep, by name. Definitions only.
-use Prim.Native.Nat.{ℕ, _+_, _*_, _^_}
+use Prim.Native.Nat.{ℕ, _+_, _-_, _*_}
 
 -- ---- 'Code records'
 -- "bits n (3 to 4,096), checks m (1 to 2,048)"
@@ -33,33 +33,45 @@ mostDegree = 32
 abbrev pub mostNumber : ℕ
 mostNumber = 65535
 
--- ---- what the code of a run takes
--- so many iterations may be done before one more
-abbrev pub mostDone : ℕ
-mostDone = 3999
-
--- the magnitude of s after that one: "s never leaves −65,536 .. 32,768 × K"
-abbrev pub mostRow : ℕ
-mostRow = 32768 * (mostDone + 1)
-
 -- ---- 'One iteration'
--- "cost weight W (1 to 65,535), ratio A (0 to 1,023 …), iterations K (1 to 1,000)"
+-- "cost weight W (1 to 65,535), ratio A (0 to 1,023 …)"
 abbrev pub mostWeight : ℕ
 mostWeight = 65535
 
 abbrev pub mostRatio : ℕ
 mostRatio = 1023
 
+-- "iterations K (1 to 1,000)", of which document 02, L2, says: "K goes to 4,000"
+abbrev pub baseIterations : ℕ
+baseIterations = 1000
+
 abbrev pub mostIterations : ℕ
-mostIterations = 1000
-
--- the magnitude of S, and of 256 × S + W × L
-abbrev pub mostSum : ℕ
-mostSum = 2 ^ 40
-
-abbrev pub mostNumerator : ℕ
-mostNumerator = 2 ^ 48
+mostIterations = 4000
 
 -- a cost that is not −32,768 is at most this large
 abbrev pub mostCost : ℕ
 mostCost = 32767
+
+-- ---- what follows for the numbers of a run
+-- so many iterations may be done before one more
+abbrev pub mostDone : ℕ
+mostDone = mostIterations - 1
+
+-- "So s never leaves −65,536 .. 32,768 × K": how far below 0, and how far above it after n iterations
+abbrev pub mostSlack : ℕ
+mostSlack = 65536
+
+abbrev pub mostMultiplier : ℕ → ℕ
+mostMultiplier n = 32768 * n
+
+-- "A row's s is now bounded by 131,072,000"
+abbrev pub mostRow : ℕ
+mostRow = mostMultiplier mostIterations
+
+-- S: no variable is in more triples than a code has checks, and each has four rows
+abbrev pub mostSum : ℕ
+mostSum = mostChecks * (4 * mostRow)
+
+-- 256 × S + W × L
+abbrev pub mostNumerator : ℕ
+mostNumerator = 256 * mostSum + mostWeight * mostCost

@@ -12,6 +12,7 @@ use lib.ListN.{length, getD, take}
 use Rattle.lists.specs.Tabulated.{written}
 use Rattle.model.specs.declared.Settings.{Settings}
 use Rattle.model.specs.declared.Channel as declared
+use Rattle.model.specs.Limits.{baseIterations}
 use Rattle.model.specs.Causes.{accepted}
 use Rattle.model.specs.Code.{Code, triples, variables}
 use Rattle.model.specs.Records.{codeOf, judge, wholeCauses, recordCauses, recordsOf}
@@ -28,7 +29,7 @@ use Rattle.model.specs.Order.{oddCauses, runCauses, Follows, Ordered, on
 use Rattle.model.specs.WordClaims.{Tested, PointOf}
 use Rattle.model.specs.ChannelClaims.{Costed}
 use Rattle.model.specs.Claims.{Demand3}
-use Rattle.model.specs.DecoderClaims.{runOf, Refused, Ran, Iterated, Published, ReflectedCalls}
+use Rattle.model.specs.DecoderClaims.{runOf, Refused, Ran, Iterated, Bounded, AsBefore, Published, ReflectedCalls}
 
 -- ---- the reader: a is what it tells of the bytes b
 pub record ReaderCall (b : List ℕ) (a : ReaderAnswer) : Type 0 where
@@ -111,7 +112,9 @@ pub record DecoderCall (b : List ℕ) (o : Settings) (costs : List ℤ) (l : Lis
   -- demand 2
   pub ran : decoderCause b o costs l ≡ 0 → Ran b o costs l d
   pub iterated : decoderCause b o costs l ≡ 0 → Iterated b o costs l d
+  pub bounded : decoderCause b o costs l ≡ 0 → Bounded b o costs d
   pub published : decoderCause b o costs l ≡ 0 → Published b o costs
+  pub as-before : o .limit ≤ baseIterations → AsBefore b o costs l d
   -- demand 3 of the code, and of this call and a second one, which gave e, with the costs that w reflects and lists m of its own that have the room
   pub demand-3 : judge b ≡ 0 → Demand3 (codeOf b)
   pub reflected : decoderCause b o costs l ≡ 0 → (w : List ℕ) → Codeword (codeOf b) w → (m : Lists) → noRoom (codeOf b) m ≡ false

@@ -33,6 +33,10 @@ leaves l S c s w = record {
   word = w;
 }
 
+-- W = 256, A = 0 and X = 0 with another K
+abbrev pub upTo : ℕ → Settings
+upTo limit = record { weight = 256; ratio = 0; limit = limit; tolerance = 0 }
+
 pub record WholeCalls : Type 0 where
   pub code : reader listed ≡ record { number = 0; bits = 3; checks = 1; triples = 1 }
   -- "frames (0,0,0), (20000,20000,−8000), (20000,20000,20000) print" U 2 1 0, N 2 0 0, W 2 0 000
@@ -51,17 +55,24 @@ pub record WholeCalls : Type 0 where
     lists = leaves l (pos 20000 ∷ pos 20000 ∷ pos 20000 ∷ []) ((− 10000) ∷ (− 10000) ∷ (− 10000) ∷ [])
         ((− 6384) ∷ (− 6384) ∷ (− 6384) ∷ (− 46384) ∷ []) (written (0 ∷ 0 ∷ 0 ∷ []) (l .word));
   }
+  -- document 02, L2: "K goes to 4,000", which this run does not need, and "11 now starts at 4,001"
+  pub longest : (l : Lists) → Room l → decoder listed (upTo 4000) by-hand l ≡ record {
+    answer = record { number = 0; place = 0; k = 12; settled = 1 };
+    lists = leaves l (pos 49504 ∷ pos 49504 ∷ pos 81568 ∷ []) ((− 16384) ∷ (− 16384) ∷ (− 16384) ∷ [])
+        (pos 0 ∷ pos 0 ∷ pos 16032 ∷ (− 65536) ∷ []) (written (0 ∷ 0 ∷ 0 ∷ []) (l .word));
+  }
+  pub too-long : (l : Lists) → decoder listed (upTo 4001) by-hand l ≡ record { answer = record { number = 11; place = 0; k = 0; settled = 0 }; lists = l }
 
 pub record RunEdges : Type 0 where
   pub exactly : (o : Settings) → (outOfRange o ≡ false) ↔ InRange o
-  -- "A 1,023 passes, 1,024 gets 11; K 1 and 1,000 pass, 0 and 1,001 get 11", and W
+  -- "A 1,023 passes, 1,024 gets 11; K 1 and 1,000 pass, 0 and 1,001 get 11", where document 02 has 4,000 and 4,001; and W
   pub least : (X : ℕ) → outOfRange (record { weight = 1; ratio = 0; limit = 1; tolerance = X }) ≡ false
-  pub most : (X : ℕ) → outOfRange (record { weight = 65535; ratio = 1023; limit = 1000; tolerance = X }) ≡ false
+  pub most : (X : ℕ) → outOfRange (record { weight = 65535; ratio = 1023; limit = 4000; tolerance = X }) ≡ false
   pub weight-0 : (A K X : ℕ) → outOfRange (record { weight = 0; ratio = A; limit = K; tolerance = X }) ≡ true
   pub weight-beyond : (A K X : ℕ) → outOfRange (record { weight = 65536; ratio = A; limit = K; tolerance = X }) ≡ true
   pub ratio-beyond : (X : ℕ) → outOfRange (record { weight = 1; ratio = 1024; limit = 1; tolerance = X }) ≡ true
   pub limit-0 : (X : ℕ) → outOfRange (record { weight = 1; ratio = 0; limit = 0; tolerance = X }) ≡ true
-  pub limit-beyond : (X : ℕ) → outOfRange (record { weight = 1; ratio = 0; limit = 1001; tolerance = X }) ≡ true
+  pub limit-beyond : (X : ℕ) → outOfRange (record { weight = 1; ratio = 0; limit = 4001; tolerance = X }) ≡ true
 
 -- "Scale and weight are finite and above 0, the floor finite and not below 0", for every float: fin s m e is ± m × 2 ^ e
 pub record ChannelEdges : Type 0 where

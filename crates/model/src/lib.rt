@@ -19,7 +19,7 @@ pub const MOST_WEIGHT: u32 = 65535;
 
 pub const MOST_RATIO: u32 = 1023;
 
-pub const MOST_ITERATIONS: u32 = 1000;
+pub const MOST_ITERATIONS: u32 = 4000;
 
 pub const MOST_NUMBER: usize = 65535;
 

@@ -7,7 +7,7 @@ use lib.Seq.{take-nil}
 use Rattle.model.specs.Causes.{_if_, firstOf, short, outside}
 use Rattle.model.specs.Code.{tripleCount}
 use Rattle.model.specs.Records.{twoBytes, numbers, degree, indices, judgeHeader, judgeIndices, judgeCheck}
-use Rattle.program.specs.Frames.{judgeHeldHeader, judgeHeldCheck, settingsOf, judgeSettings, frameSize, costsOf, judgeWhole, judgeFrame}
+use Rattle.program.specs.Frames.{judgeHeldHeader, judgeHeldCheck, settingsOf, judgeSettingsUpTo, judgeSettings, frameSize, costsOf, judgeWhole, judgeFrame}
 use Rattle.program.specs.FrameClaims.{Opened}
 use Rattle.model.proofs.Accepted.{length-numbers}
 use Rattle.model.proofs.Causes.{within}
@@ -57,7 +57,7 @@ held-header-take j s h = rw (header-take j s h, two-take 2 j s (omega arith))
 
 -- ---- the settings record
 pub settings-take : (s : List ℕ) → judgeSettings (take 12 s) ≡ judgeSettings s
-unfolding judgeSettings
+unfolding judgeSettingsUpTo
 settings-take s =
     rw (
       short-take 2 12 s (omega arith),

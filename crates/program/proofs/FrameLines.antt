@@ -13,7 +13,7 @@ use Rattle.model.specs.Splitting.{systemOf}
 use Rattle.model.specs.Iteration.{at}
 use Rattle.model.specs.Run.{Ended, run}
 use Rattle.model.specs.Words.{bitOf, wordOf, outcome}
-use Rattle.model.specs.Calls.{outOfRange, forbidden, Lists, Answer, noRoom, decoderCause, decodedBy}
+use Rattle.model.specs.Calls.{outOfRange, forbidden, Lists, Answer, noRoom, decoderCauseUpTo, decoderCause, decodedBy}
 use Rattle.program.specs.Frames.{line, noLists, frameLine}
 use Rattle.program.specs.FrameClaims.{HeldCode, Room, HeldFrame}
 use Rattle.model.proofs.Accepted as Accepted
@@ -55,7 +55,7 @@ line-left k e l =
 module _ (b : List ℕ) (o : Settings) (costs : List ℤ) (l : Lists) (held : HeldCode b)
     (within : outOfRange o ≡ false) (fits : length costs ≡ codeOf b .bits) (allowed : some forbidden costs ≡ false) (room : Room l) where
   no-cause : decoderCause b o costs l ≡ 0
-  unfolding decoderCause
+  unfolding decoderCauseUpTo
   no-cause =
       let most = variables-most (codeOf b) (Accepted.accepted b (held .sound)) in
       rw (held .sound, within, eq-eqb (length costs) (codeOf b .bits) fits, allowed, enough (codeOf b) l room (held .bits) (held .triples) (omega (arith, most)))

@@ -1,20 +1,22 @@
 -- What the frame program is yet to write, by the bytes that it keeps: nothing but a refusal where the next record is refused, and frame by frame once code and
 -- settings are accepted. Assumes nothing.
 use Rattle.integers.proofs.Prelude.{_≡_, refl, sym, _∙_, Bool, true, false, not, cond, _&&_, _||_, List, [], _∷_, _++_, append-nil, ℕ, zero, suc, _+_, _≤_}
-use Rattle.integers.proofs.Prelude.{_<_, arith, lt-ltb, eqb-true, eqb-false, eq-eqb, ne-eqb, eqb, ltb, length, take, drop, length-append, length-take}
+use Rattle.integers.proofs.Prelude.{_<_, arith, lt-ltb, le-ltb, eqb-true, eqb-false, eq-eqb, ne-eqb, eqb, ltb, length, take, drop, length-append, length-take}
 use Rattle.integers.proofs.Prelude.{length-drop, take-at, drop-at}
 use Rattle.model.specs.declared.Settings.{Settings}
+use Rattle.model.specs.Limits.{baseIterations, mostIterations}
 use Rattle.model.specs.Causes.{_if_, firstOf, accepted}
 use Rattle.model.specs.Code.{Code}
 use Rattle.model.specs.Records.{twoBytes, bitCount, afterChecks, codeOf, covered, judge}
-use Rattle.program.specs.Frames.{judgeHeldHeader, judgeHeldCheck, judgeHeldChecks, settingsOf, judgeSettings, frameSize, judgeWhole, judgeFrame, refusal, frameLines, frames}
+use Rattle.program.specs.Frames.{judgeHeldHeader, judgeHeldCheck, judgeHeldChecks, settingsOf, judgeSettingsUpTo, judgeSettings, frameSize, judgeWhole, judgeFrame, refusal, frameLines}
+use Rattle.program.specs.Frames.{afterCode, framesUpTo, frames}
 use Rattle.program.specs.FrameClaims.{Begun, Coded, Set, frameText, goesOn}
 use Rattle.program.proofs.FrameBytes.{held-header-take, settings-take, fields-take, costs-take, frame-take}
 use Rattle.program.proofs.FrameCode.{header-more, bits-more, count-more, code-more, judged}
 
 -- ---- the code records
 pub header-refused : (s : List ℕ) (c : ℕ) → (c ≡ 0 → ⊥) → c ≡ judgeHeldHeader (take 6 s) → frames s ≡ refusal c
-unfolding frames
+unfolding framesUpTo
 header-refused s zero h e = absurd (h refl)
 header-refused s (suc c) h e = rw (← held-header-take 6 s (omega arith), ← e)
 
@@ -26,7 +28,7 @@ module _ (left t : ℕ) (b s : List ℕ) (g : Begun left t b) where
   cause = firstOf (judgeHeldChecks (bitCount b) t left s ∷ 8 if not (covered (codeOf (b ++ s))) ∷ judgeSettings later ∷ [])
 
   begun-frames : frames (b ++ s) ≡ accepted cause (frameLines (length (b ++ s)) (codeOf (b ++ s)) (settingsOf later) (drop 12 later)) (refusal cause)
-  unfolding frames
+  unfolding framesUpTo
   begun-frames = rw (header-more b s (g .header), bits-more b s (g .header), count-more b s (g .header), g .checks s, g .after s)
 
 pub check-refused : (left t : ℕ) (b s : List ℕ) → Begun (suc left) t b → (c : ℕ) → (c ≡ 0 → ⊥) → c ≡ judgeHeldCheck (bitCount b) t s → frames (b ++ s) ≡ refusal c
@@ -126,3 +128,10 @@ cut-ends n b h = by (ltb (length b) 2) refl (not (eqb (twoBytes b) 0x4C46)) refl
     by true e v f false = rw e
     by false e true f false = rw (e, f)
     by false e false f false = rw (e, f, lt-ltb (length b) (frameSize n) h)
+
+-- ---- a K of up to 1,000 is within both limits
+pub lines-as-before : (s : List ℕ) → settingsOf (afterCode s) .limit ≤ baseIterations → frames s ≡ framesUpTo baseIterations s
+unfolding framesUpTo judgeSettingsUpTo settingsOf
+lines-as-before s h =
+    let K = twoBytes (drop 6 (afterCode s)) in
+    rw (le-ltb mostIterations K (omega arith), le-ltb baseIterations K h)

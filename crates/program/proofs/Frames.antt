@@ -7,7 +7,7 @@ use Rattle.model.specs.Code.{tripleCount}
 use Rattle.model.specs.Records.{twoBytes, numbers, bitCount, indices, judgeHeader, judgeCheck}
 use Rattle.model.specs.Limits.{mostIterations}
 use Rattle.model.specs.Calls.{outOfRange, forbidden}
-use Rattle.program.specs.Frames.{judgeHeldHeader, judgeHeldCheck, settingsOf, judgeSettings, twosComplement, costsOf, judgeWhole, judgeFrame}
+use Rattle.program.specs.Frames.{judgeHeldHeader, judgeHeldCheck, settingsOf, judgeSettingsUpTo, judgeSettings, twosComplement, costsOf, judgeWhole, judgeFrame}
 use Rattle.model.proofs.Causes.{clear, unless}
 use Rattle.model.proofs.Accepted.{length-numbers}
 
@@ -38,7 +38,7 @@ pub record SoundSettings (s : List ℕ) : Type 0 where
   pub within : outOfRange (settingsOf s) ≡ false
 
 pub settings-sound : (s : List ℕ) → judgeSettings s ≡ 0 → SoundSettings s
-unfolding judgeSettings settingsOf
+unfolding judgeSettingsUpTo settingsOf
 settings-sound s h =
     let w = outside 1 65535 (twoBytes (drop 2 s)) in
     let a = ltb 1023 (twoBytes (drop 4 s)) in

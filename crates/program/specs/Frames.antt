@@ -43,15 +43,18 @@ fourBytes s = 65536 * twoBytes s + twoBytes (drop 2 s)
 unfoldable pub settingsOf : List ℕ → Settings
 settingsOf s = record { weight = twoBytes (drop 2 s); ratio = twoBytes (drop 4 s); limit = twoBytes (drop 6 s); tolerance = fourBytes (drop 8 s) }
 
--- "whose fields are judged one by one"
-unfoldable pub judgeSettings : List ℕ → ℕ
-judgeSettings s =
+-- "whose fields are judged one by one", where K goes to `most`
+unfoldable pub judgeSettingsUpTo : ℕ → List ℕ → ℕ
+judgeSettingsUpTo most s =
     firstOf (
     1 if short 2 s ∷ 2 if not (eqb (twoBytes s) 0x4C53) ∷
     1 if short 4 s ∷ 11 if outside 1 mostWeight (twoBytes (drop 2 s)) ∷
     1 if short 6 s ∷ 11 if ltb mostRatio (twoBytes (drop 4 s)) ∷
-    1 if short 8 s ∷ 11 if outside 1 mostIterations (twoBytes (drop 6 s)) ∷
+    1 if short 8 s ∷ 11 if outside 1 most (twoBytes (drop 6 s)) ∷
     1 if short 12 s ∷ [])
+
+abbrev pub judgeSettings : List ℕ → ℕ
+judgeSettings = judgeSettingsUpTo mostIterations
 
 -- ---- "frame records (mark 0x4C46, n costs of two bytes, two's complement)", that s begins with
 abbrev pub frameSize : ℕ → ℕ
@@ -114,10 +117,16 @@ frameLines (suc most) k o s =
     (cond (eqb c 13) (refusal c ++ more)
     (refusal c)))
 
--- what is written for the input s
-unfoldable pub frames : List ℕ → List ℕ
-frames s =
-    let m = checkCount s in
-    let settings = afterChecks m (drop 6 s) in
-    let c = firstOf (judgeHeldHeader s ∷ judgeHeldChecks (bitCount s) 0 m (drop 6 s) ∷ 8 if not (covered (codeOf s)) ∷ judgeSettings settings ∷ []) in
+-- where the settings record of the input s begins
+abbrev pub afterCode : List ℕ → List ℕ
+afterCode s = afterChecks (checkCount s) (drop 6 s)
+
+-- what is written for the input s, where K goes to `most`
+unfoldable pub framesUpTo : ℕ → List ℕ → List ℕ
+framesUpTo most s =
+    let settings = afterCode s in
+    let c = firstOf (judgeHeldHeader s ∷ judgeHeldChecks (bitCount s) 0 (checkCount s) (drop 6 s) ∷ 8 if not (covered (codeOf s)) ∷ judgeSettingsUpTo most settings ∷ []) in
     accepted c (frameLines (length s) (codeOf s) (settingsOf settings) (drop 12 settings)) (refusal c)
+
+abbrev pub frames : List ℕ → List ℕ
+frames = framesUpTo mostIterations

@@ -11,7 +11,7 @@ use Rattle.lists.specs.Tabulated.{tab, over}
 use Rattle.lists.proofs.Tests.{and-left, and-false}
 use Rattle.lists.proofs.Tabulated.{getD-tab, tab-same, tab-getD, length-over, over-in, over-out, over-sets, over-same, over-self}
 use Rattle.quotient.specs.Quotient.{unit}
-use Rattle.model.specs.Limits.{mostTriples, mostDone, mostRow}
+use Rattle.model.specs.Limits.{mostTriples, mostDone, mostSlack, mostRow}
 use Rattle.model.specs.Causes.{_if_}
 use Rattle.model.specs.Splitting.{member}
 use Rattle.model.specs.Iteration.{at, sumAt, row, slack, multiplier, renewed, renewedAt}
@@ -43,7 +43,7 @@ module _ (ts : List ℕ) (c : List ℤ) (unit-most : (v : ℕ) → natAbs (at c 
   new-abs : (z : ℤ) (t r : ℕ) → r < 4 → SmallRow z → natAbs (renewed z (sumAt ts c t r)) ≤ mostRow
   new-abs z t r l h = let sum = sumAt ts c t r in let k = sum-small t r l in omega (arith, about (renewed z sum), renewed-multiplier z sum k, renewed-slack z sum k, h .0)
 
-  -- the square of a change: by 65,536 at most, on both sides
+  -- the square of a change, on both sides
   multiplier-most : (z : ℤ) (t r : ℕ) → r < 4 → SmallRow z → changeOf (pos 1) z (renewed z (sumAt ts c t r)) ≤ 4294967296
   multiplier-most z t r l h =
       let sum = sumAt ts c t r in
@@ -53,7 +53,7 @@ module _ (ts : List ℕ) (c : List ℤ) (unit-most : (v : ℕ) → natAbs (at c 
   slack-most : (z : ℤ) (t r : ℕ) → r < 4 → SmallRow z → changeOf (negsuc 0) z (renewed z (sumAt ts c t r)) ≤ 4294967296
   slack-most z t r l h =
       let sum = sumAt ts c t r in
-      let d = abs-difference (slack (renewed z sum)) (slack z) 65536 (omega (arith, renewed-slack z sum (sum-small t r l))) (omega (arith, h .1)) in
+      let d = abs-difference (slack (renewed z sum)) (slack z) mostSlack (omega (arith, renewed-slack z sum (sum-small t r l))) (omega (arith, h .1)) in
       rw (side-slack z, side-slack (renewed z sum)) (mul-le-mul d d)
 
   -- and after

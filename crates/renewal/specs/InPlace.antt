@@ -9,7 +9,7 @@ use lib.ListN.{length}
 use Rattle.integers.specs.Sum.{sumℕ}
 use Rattle.lists.specs.Tabulated.{tab}
 use Rattle.quotient.specs.Quotient.{unit}
-use Rattle.model.specs.Limits.{mostTriples, mostDone}
+use Rattle.model.specs.Limits.{mostTriples, mostDone, mostSlack, mostMultiplier}
 use Rattle.model.specs.Splitting.{Named}
 use Rattle.model.specs.Iteration.{at, row, sumAt, multiplier, slack, renewed, renewedAt}
 use Rattle.rows.specs.Sides.{changeOf}
@@ -23,9 +23,9 @@ Sized T ts s = (T ≤ mostTriples) × (3 * T ≡ length ts) × (4 * T ≡ length
 abbrev pub Valued : List ℕ → List ℤ → Type 0
 Valued ts c = Named ts (length c) × ((v : ℕ) → natAbs (at c v) ≤ unit)
 
--- a row of fewer than 4,000 iterations
+-- a row that may be renewed once more
 abbrev pub SmallRow : ℤ → Type 0
-SmallRow z = (multiplier z ≤ 32768 * mostDone) × (slack z ≤ 65536)
+SmallRow z = (multiplier z ≤ mostMultiplier mostDone) × (slack z ≤ mostSlack)
 
 -- ---- the squares of the changes of one side: of the rows of a triple, and of four
 abbrev pub tripleChanges : ℤ → List ℤ → List ℤ → ℕ

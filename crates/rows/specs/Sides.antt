@@ -6,7 +6,7 @@ use Rattle.model.specs.Limits.{mostRow}
 use Rattle.model.specs.Iteration.{at, multiplier}
 use Rattle.model.specs.Run.{squareOfChange}
 
--- rows of up to 4,000 iterations
+-- rows that a run reaches
 abbrev pub Rows : List ℤ → Type 0
 Rows s = (r : ℕ) → natAbs (at s r) ≤ mostRow
 

@@ -3,6 +3,7 @@ use Rattle.integers.proofs.Prelude.{_≡_, refl, sym, ap, _∙_, Bool, true, fa
 use Rattle.integers.proofs.Prelude.{ltb-false, ltb, length, take, drop, length-take, length-drop}
 use Rattle.program.specs.Frames.{frames}
 use Rattle.program.proofs.FrameBytes.{opened-degree}
+use Rattle.program.proofs.FrameProgram.{lines-as-before}
 use Rattle.session.specs.declared.State.{State}
 use Rattle.session.specs.declared.Part.{Part}
 use Rattle.session.specs.declared.Part.the-variants.{Header, Check, Indices, Settings, Frame, Over}
@@ -74,4 +75,5 @@ module _ (s : List ℕ) where
   program = record {
     writes = λ {n} {st} {b} {rest} {out} t w. (let g = after-turns t in sym (append-nil out) ∙ rw (is-over st b (g .kept) w) at (g .all));
     ends = λ t w. (let g = after-turns t in omega (arith, g .count (not-over _ _ (g .kept) w)));
+    as-before = lines-as-before s;
   }

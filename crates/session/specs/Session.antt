@@ -5,8 +5,9 @@ use mathlib.Core.List.{List, [], _++_}
 use mathlib.Core.Path.{_≡_}
 use Prim.Native.Nat.{ℕ, suc, _+_, _-_, _*_, _≤_, _<_}
 use lib.ListN.{length, take, drop}
+use Rattle.model.specs.Limits.{baseIterations}
 use Rattle.model.specs.Records.{bitCount, degree}
-use Rattle.program.specs.Frames.{frameSize, refusal, frames}
+use Rattle.program.specs.Frames.{settingsOf, frameSize, refusal, afterCode, framesUpTo, frames}
 use Rattle.program.specs.FrameClaims.{bufferSize, Begun, Opened, Coded, Set}
 use Rattle.session.specs.declared.State.{State}
 use Rattle.session.specs.declared.Step.{Step}
@@ -109,3 +110,5 @@ pub data Turns (s : List ℕ) : ℕ → State → List ℕ → List ℕ → List
 pub record Program (s : List ℕ) : Type 0 where
   pub writes : {n : ℕ} {st : State} {b rest out : List ℕ} → Turns s n st b rest out → st .want ≡ 0 → out ≡ frames s
   pub ends : {n : ℕ} {st : State} {b rest out : List ℕ} → Turns s n st b rest out → 0 < st .want → n ≤ length s
+  -- document 02, L2: where the settings record has a K of up to 1,000, that is what was written where K went to 1,000
+  pub as-before : settingsOf (afterCode s) .limit ≤ baseIterations → frames s ≡ framesUpTo baseIterations s

@@ -15,7 +15,8 @@ use Rattle.model.proofs.Rows.{at-tab}
 use Rattle.layout.specs.Transposed.{lane, straight}
 use Rattle.layout.proofs.Places.{straight-first, straight-four}
 use Rattle.sums.specs.Shares.{Shared, InFours}
-use Rattle.sums.proofs.Sums.{reached, share-small}
+use Rattle.model.proofs.Bounds.{share-small}
+use Rattle.sums.proofs.Sums.{reached}
 
 -- what `rows::shares` forms of four rows
 abbrev pub formed : List ℤ → List ℤ

@@ -1,19 +1,19 @@
 -- S, as the shares of one triple after another are added. Assumes nothing.
 use Rattle.integers.proofs.Prelude.{_≡_, refl, sym, ap, _∙_, Bool, true, false, List, [], _∷_, ℕ, suc, _+_, _*_, _^_, _≤_, _<_, arith, eq-eqb, ne-eqb, eqb, ℤ}
-use Rattle.integers.proofs.Prelude.{pos, natAbs, _+ℤ_, _*ℤ_, length, set, w32, toZ, ofZ}
+use Rattle.integers.proofs.Prelude.{pos, natAbs, _+ℤ_, length, set, w32, toZ, ofZ}
 use native.Mathlib.Nat.{le-trans}
 use lib.IntN.{+ℤ-idr, +ℤ-assoc}
 use Rattle.integers.specs.Sum.{sumℤ}
 use Rattle.integers.proofs.Sums.{sumℕ-bound, sumℤ-bound}
-use Rattle.integers.proofs.Linear.{about, abs-add}
+use Rattle.integers.proofs.Linear.{abs-add}
 use Rattle.integers.proofs.Machine.{param}
 use Rattle.lists.specs.Tabulated.{tab}
 use Rattle.lists.proofs.Tabulated.{length-tab, getD-tab, tab-same, tab-set}
 use Rattle.model.specs.Limits.{mostTriples, mostDone, mostRow}
 use Rattle.model.specs.Splitting.{member, Named}
-use Rattle.model.specs.Iteration.{at, sign, row, slack, multiplier, share, _when_, sumOf}
+use Rattle.model.specs.Iteration.{at, share, _when_, sumOf}
 use Rattle.model.specs.Bounds.{RowsWithin}
-use Rattle.model.proofs.Rows.{signed-abs}
+use Rattle.model.proofs.Bounds.{row-small, share-small}
 use Rattle.sums.specs.Shares.{Summed, Shared}
 
 -- one entry is increased
@@ -25,13 +25,7 @@ increased n f v x h =
 -- ---- how large shares and sums are
 -- rows that a run reaches
 pub reached : (s : List ℤ) → RowsWithin mostDone s → (i : ℕ) → natAbs (at s i) ≤ mostRow
-reached s w i = omega (arith, about (at s i), w .multipliers i, w .slacks i)
-
-pub share-small : (s : List ℤ) (t p : ℕ) → p < 3 → ((r : ℕ) → natAbs (row s t r) ≤ mostRow) → natAbs (share s t p) ≤ 4 * mostRow
-unfolding share
-share-small s t p l h =
-    let size : ℕ → ℤ = λ r. pos (slack (row s t r) + multiplier (row s t r)) in
-    le-trans (sumℤ-bound 4 (λ r. sign r p *ℤ size r) (λ _. mostRow) (λ r k. rw (signed-abs r p (size r) k l) (omega (arith, about (row s t r), h r)))) (omega arith)
+reached s w i = row-small mostDone s (omega arith) w i
 
 -- a share, as it is read
 pub read-share : (s : List ℤ) (t p : ℕ) (x : ℤ) → RowsWithin mostDone s → p < 3 → x ≡ share s t p → toZ w32 (ofZ w32 x) ≡ share s t p

@@ -15,7 +15,7 @@ ghost use Rattle.values.specs.Values.{Given, valueFrom};
 // "256 × S + W × L"
 fn weighed(weight: u32, sum: i64, cost: i16) -> i64
     requires { ⌜ (weight ≤ mostWeight) × (natAbs sum ≤ mostSum) × (natAbs cost ≤ mostCost) ⌝ }
-    ensures { λ z. ⌜ (z ≡ pos 256 *ℤ sum +ℤ pos weight *ℤ cost) × (natAbs z ≤ 2 * mostNumerator) ⌝ }
+    ensures { λ z. ⌜ (z ≡ pos 256 *ℤ sum +ℤ pos weight *ℤ cost) × (natAbs z ≤ mostNumerator) ⌝ }
 {
     256 * sum + (weight as i64) * (cost as i64)
 }
@@ -45,7 +45,7 @@ pub fn prepare(ratio: u32, limits: &mut [i64], inverses: &mut [i64])
 // "−(256 × S + W × L) divided by 256 × e − A, rounded to nearest, halves away from zero, then limited", x being what is negated: by a product where
 // the lists have numbers for the divisor.
 fn divide(x: i64, count: usize, ratio: u32, limits: &[i64], inverses: &[i64]) -> i16
-    requires { ⌜ (natAbs x ≤ 2 * mostNumerator) × (1 ≤ count) × (count ≤ mostChecks) × (ratio ≤ mostRatio) ⌝ }
+    requires { ⌜ (natAbs x ≤ mostNumerator) × (1 ≤ count) × (count ≤ mostChecks) × (ratio ≤ mostRatio) ⌝ }
     requires { ⌜ Tables ratio (now limits) (now inverses) ⌝ }
     ensures { λ c. ⌜ c ≡ quotient (negℤ x) (Iteration.divisor (4 * count) ratio) ⌝ }
 {

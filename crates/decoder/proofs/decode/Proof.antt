@@ -78,7 +78,7 @@ module _ (q : tie.After-cause) where
   short-is = q .before .no-room .ensures ∙ ap₂ (λ (n x : ℕ). tooShort n x vars) (read found .bits) (read found .triples) ∙ ap (tooShort (k .bits) (triples k)) (read found .variables)
 
   abbrev causes : Bool → ℕ → List ℕ
-  causes r n = inputCauses (s .args .settings) (s .args .costs .now) n r
+  causes r n = inputCauses (outOfRange (s .args .settings)) (s .args .costs .now) n r
 
   cause-is : q .cause .result ≡ after-judgement (s .args .code .now) (s .args .settings) (s .args .costs .now) l
   cause-is = q .cause .ensures .0 ∙ ap₂ (λ (r : Bool) (n : ℕ). firstOf (causes r n)) short-is (read found .bits)

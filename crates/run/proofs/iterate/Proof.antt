@@ -64,7 +64,7 @@ write-values-requires c κs =
         record {
           sums-long = ap length (sums-are m) ∙ length-tab (n s) (sumOf (ts s) (T s) (a s .rows));
           counts-long = ap length (s .pre .0 .counted) ∙ length-tab (n s) (occurrences (ts s) (T s));
-          sum = λ v h. rw (sums-are m) (omega (arith, bound s .sums v));
+          sum = λ v h. rw (sums-are m) (bound s .sums (omega arith) v);
           cost = λ v h. is-ready s .cost v;
           some = λ v h. rw (count-is s v h) (is-ready s .some v h);
           few = λ v h. rw (count-is s v h) (is-ready s .few v h);

@@ -3,7 +3,7 @@ use Rattle.integers.proofs.Prelude.{_≡_, _∙_, false, List, [], _∷_, ℕ, 
 use Rattle.model.specs.Causes.{_if_, firstOf, short, outside}
 use Rattle.model.specs.Records.{twoBytes}
 use Rattle.model.specs.Limits.{mostIterations}
-use Rattle.program.specs.Frames.{judgeSettings}
+use Rattle.program.specs.Frames.{judgeSettingsUpTo, judgeSettings}
 use Rattle.stream.proofs.judge_settings.Statement.{statement}
 use Rattle.stream.proofs.judge_settings.Tie as tie
 
@@ -21,7 +21,7 @@ abbrev after-mark : List ℕ → List ℕ
 after-mark s = 1 if short 4 s ∷ 11 if outside 1 65535 (twoBytes (drop 2 s)) ∷ after-weight s
 
 mark : (c : tie.Else2) → let s = c .before .before .before .before .args .s .now in judgeSettings s ≡ firstOf (after-mark s)
-unfolding judgeSettings
+unfolding judgeSettingsUpTo
 mark c = rw (le-ltb _ 2 (c .before .before .if1 .left), ← c .before .two-bytes .ensures .0, c .if2 .left)
 
 weight : (c : tie.Else4) → let s = c .before .before .before .before .before .before .before .args .s .now in judgeSettings s ≡ firstOf (after-weight s)
@@ -44,11 +44,11 @@ limit c =
 
 -- ---- the code
 returns : tie.Need-returns
-unfolding judgeSettings
+unfolding judgeSettingsUpTo
 returns c = rw (lt-ltb _ 2 (c .if1 .taken))
 
 returns-2 : tie.Need-returns-2
-unfolding judgeSettings
+unfolding judgeSettingsUpTo
 returns-2 c = rw (le-ltb _ 2 (c .before .before .if1 .left), ne-eqb _ 0x4C53 (λ e. c .if2 .taken (c .before .two-bytes .ensures .0 ∙ e)))
 
 returns-3 : tie.Need-returns-3

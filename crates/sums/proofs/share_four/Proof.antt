@@ -8,7 +8,8 @@ use Rattle.model.proofs.Rows.{at-tab}
 use Rattle.rows.proofs.Four.{four-are}
 use Rattle.layout.specs.Transposed.{lane, straight}
 use Rattle.sums.specs.Shares.{InFours}
-use Rattle.sums.proofs.Sums.{reached, share-small}
+use Rattle.model.proofs.Bounds.{share-small}
+use Rattle.sums.proofs.Sums.{reached}
 use Rattle.sums.proofs.Groups.{formed, read-formed, lane-share, four-small, shared-next}
 use Rattle.sums.proofs.share_four.Statement.{statement}
 use Rattle.sums.proofs.share_four.Tie as tie

@@ -32,8 +32,8 @@ returns c =
     read-back w16 (c .divide-opposite .ok) (c .divide-opposite .ensures den (prepared (c .before)) ∙ ap (λ (y : ℤ). quotient (negℤ y) den) (toZ-ofZ (s .fits .x)))
 
 -- ---- by `/`
-opposite : (s : tie.Start) → Worth (pos 0 -ℤ toZ w64 (ofZ w64 (s .args .x))) (negℤ (s .args .x)) (2 * mostNumerator)
-opposite s = negative (param w64 (s .args .x) (2 * mostNumerator) tt (s .pre .0 .0))
+opposite : (s : tie.Start) → Worth (pos 0 -ℤ toZ w64 (ofZ w64 (s .args .x))) (negℤ (s .args .x)) mostNumerator
+opposite s = negative (param w64 (s .args .x) mostNumerator tt (s .pre .0 .0))
 
 den-is : (c : tie.After-divisor) → let a = c .before .before .args in toZ w64 (ofZ w64 (c .divisor .result)) ≡ divisor (4 * a .count) (a .ratio)
 den-is c = read-back w64 (c .divisor .ok) (c .divisor .ensures)
