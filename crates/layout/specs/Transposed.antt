@@ -16,7 +16,7 @@ use Rattle.layout.specs.Arranged.{arranged}
 abbrev pub cell : List (List ℤ) → ℕ → ℕ → ℤ
 cell q k j = at (getD q k []) j
 
--- fours of rows of up to 4,000 iterations
+-- fours of rows that a run reaches
 abbrev pub Fours : List (List ℤ) → Type 0
 Fours q = (k : ℕ) → Rows (getD q k [])
 

@@ -8,7 +8,7 @@ use Rattle.lists.proofs.Tests.{and-left, and-right}
 use Rattle.model.specs.Limits.{mostNumber}
 use Rattle.model.specs.Alist.{pieces, filled, allFilled, soundSide, wellFormed, listed, named, columns, rows, numberCount, fill, largestOf, linesOf}
 use Rattle.model.specs.Alist.{codeIn}
-use Rattle.model.specs.AlistClaims.{joined}
+use Rattle.model.specs.AlistClaims.{joined, codeFor}
 
 pub length-joined : (ls : List (List ℕ)) → length (joined ls) ≡ total length ls
 length-joined [] = refl
@@ -158,7 +158,7 @@ module _ (cs rs : List (List ℕ)) where
   pub named-rows : named (rows (joined (linesOf cs rs))) ≡ rs
   named-rows = ap named rows-lines ∙ listed-fill most-row rs
 
-  pub code-lines : codeIn (joined (linesOf cs rs)) ≡ record { bits = length cs; checks = map (map (λ i. i - 1)) rs }
+  pub code-lines : codeIn (joined (linesOf cs rs)) ≡ codeFor cs rs
   unfolding codeIn
   code-lines = rw named-rows
 

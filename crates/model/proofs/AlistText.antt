@@ -1,15 +1,14 @@
 -- What 18 and 19 mean, of every text, and which texts are accepted. Assumes nothing.
-use Rattle.integers.proofs.Prelude.{_≡_, refl, sym, ap, subst, _∙_, Bool, true, false, List, [], _∷_, map, ℕ, suc, _-_, _≤_, arith, T, eqb, leb, length}
+use Rattle.integers.proofs.Prelude.{_≡_, refl, sym, ap, subst, _∙_, Bool, true, false, List, [], _∷_, ℕ, suc, _-_, _≤_, arith, T, eqb, leb, length}
 use mathlib.Core.Logic.{_↔_}
 use Rattle.lists.specs.Entries.{every, some}
 use Rattle.model.specs.Limits.{mostNumber}
 use Rattle.model.specs.Causes.{firstOf}
-use Rattle.model.specs.Code.{Code}
 use Rattle.model.specs.Records.{recordsOf}
 use Rattle.model.specs.RecordClaims.{codeCauses, judgeCode}
 use Rattle.model.specs.Sound.{Sound}
 use Rattle.model.specs.Alist.{numbersOf, wellFormed, agree, named, columns, rows, linesOf, numberCount, codeIn, codeOfText, judgeText}
-use Rattle.model.specs.AlistClaims.{joined, AlistText, SamePlaces, TextClaims}
+use Rattle.model.specs.AlistClaims.{joined, AlistText, SamePlaces, codeFor, TextClaims}
 use Rattle.model.proofs.Order.{Listed, listed, both, first-of-listed, number-listed}
 use Rattle.model.proofs.RecordClaims.{sound}
 use Rattle.model.proofs.Spelling.{spelled, numbers-room}
@@ -19,10 +18,6 @@ use Rattle.model.proofs.Agreement.{rows-upTo, agreement}
 use Rattle.model.proofs.AlistTrips.{text-sound}
 use Rattle.model.proofs.AlistSizes.{records-fit}
 use Rattle.model.proofs.AlistCauses.{rows-below, code-listed}
-
--- the code of the rows rs, with a bit for each of the columns cs
-abbrev pub codeFor : List (List ℕ) → List (List ℕ) → Code
-codeFor cs rs = record { bits = length cs; checks = map (map (λ i. i - 1)) rs }
 
 module _ (s : List ℕ) where
   abbrev l : List ℕ

@@ -102,7 +102,7 @@ module _ (g : System) (o : Settings) (costs : List ℤ) (a : State) where
         slacks = each-row (λ s. slack s ≤ mostSlack) (omega arith) (λ i. renewed-slack (at (a .rows) i) (sum i) (small i));
       }
 
--- ---- rows of up to 4,000 iterations: how large s is, a position's share of a triple, and S of a variable
+-- ---- rows that a run reaches: how large s is, a position's share of a triple, and S of a variable
 pub row-small : (n : ℕ) (s : List ℤ) → n ≤ mostIterations → RowsWithin n s → (i : ℕ) → natAbs (at s i) ≤ mostRow
 row-small n s h w i = omega (arith, about (at s i), w .multipliers i, w .slacks i)
 

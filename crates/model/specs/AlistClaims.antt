@@ -70,24 +70,26 @@ pub record AlistText (s : List ℕ) (cs rs : List (List ℕ)) : Type 0 where
 abbrev pub SamePlaces : List (List ℕ) → List (List ℕ) → Type 0
 SamePlaces cs rs = (r c : ℕ) → times (suc c) (getD rs r []) ≡ times (suc r) (getD cs c [])
 
+-- the code of the rows rs, with a bit for each of the columns cs
+abbrev pub codeFor : List (List ℕ) → List (List ℕ) → Code
+codeFor cs rs = record { bits = length cs; checks = map (map (λ i. i - 1)) rs }
+
 pub record TextClaims (s : List ℕ) : Type 0 where
   -- the numbers of a text, where each is at most 65,535
   pub spelled : (l : List ℕ) → Spells s l ↔ ((numbersOf 0 s ≡ l) × (every (λ x. leb x mostNumber) l ≡ true))
   -- 18 is for what is no alist text, of which there is one reading
   pub form : (wellFormed (numbersOf 0 s) ≡ true) ↔ ((cs : List (List ℕ)) × (rs : List (List ℕ)) × AlistText s cs rs)
   pub only : (cs rs : List (List ℕ)) → AlistText s cs rs
-      → (named (columns (numbersOf 0 s)) ≡ cs) × (named (rows (numbersOf 0 s)) ≡ rs)
-      × (codeOfText s ≡ record { bits = length cs; checks = map (map (λ i. i - 1)) rs })
+      → (named (columns (numbersOf 0 s)) ≡ cs) × (named (rows (numbersOf 0 s)) ≡ rs) × (codeOfText s ≡ codeFor cs rs)
   -- 19 is for an alist text whose columns and rows do not name the same places
   pub places : (cs rs : List (List ℕ)) → (agree cs rs ≡ true) ↔ SamePlaces cs rs
   pub eighteen : (judgeText s ≡ 18) ↔ ((cs rs : List (List ℕ)) → AlistText s cs rs → ⊥)
   pub nineteen : (judgeText s ≡ 19) ↔ ((cs : List (List ℕ)) × (rs : List (List ℕ)) × AlistText s cs rs × (SamePlaces cs rs → ⊥))
   -- "3 to 8 then apply to the rows"
-  pub after : (cs rs : List (List ℕ)) → AlistText s cs rs → SamePlaces cs rs
-      → judgeText s ≡ judgeCode (record { bits = length cs; checks = map (map (λ i. i - 1)) rs })
+  pub after : (cs rs : List (List ℕ)) → AlistText s cs rs → SamePlaces cs rs → judgeText s ≡ judgeCode (codeFor cs rs)
   -- so the accepted texts are these
   pub accepted : (judgeText s ≡ 0) ↔ ((cs : List (List ℕ)) × (rs : List (List ℕ)) × AlistText s cs rs × SamePlaces cs rs
-      × Sound (record { bits = length cs; checks = map (map (λ i. i - 1)) rs }))
+      × Sound (codeFor cs rs))
   -- an index of n or above is 19 before it could be 5
   pub never-five : judgeText s ≡ 5 → ⊥
   -- the records of an accepted text are not longer than it

@@ -8,7 +8,8 @@ use lib.Signed.{_≤ℤ_, _<ℤ_}
 use Rattle.lists.specs.Tabulated.{tab}
 use Rattle.quotient.specs.Quotient.{unit, mostDivisor, quotient}
 use Rattle.model.specs.declared.Settings.{Settings}
-use Rattle.model.specs.Limits.{mostChecks, mostTriples, mostWeight, mostRatio, mostIterations, mostCost, mostSlack, mostMultiplier, mostRow, mostSum, mostNumerator}
+use Rattle.model.specs.Limits.{mostChecks, mostTriples, mostWeight, mostRatio, mostIterations, mostCost}
+use Rattle.model.specs.Limits.{mostSlack, mostMultiplier, mostRow, mostSum, mostNumerator}
 use Rattle.model.specs.Code.{Code}
 use Rattle.model.specs.Splitting.{System, Named}
 use Rattle.model.specs.Iteration.{at, multiplier, slack, occurrences, numerator, divisor, State, iterate}

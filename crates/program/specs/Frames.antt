@@ -125,7 +125,8 @@ afterCode s = afterChecks (checkCount s) (drop 6 s)
 unfoldable pub framesUpTo : ℕ → List ℕ → List ℕ
 framesUpTo most s =
     let settings = afterCode s in
-    let c = firstOf (judgeHeldHeader s ∷ judgeHeldChecks (bitCount s) 0 (checkCount s) (drop 6 s) ∷ 8 if not (covered (codeOf s)) ∷ judgeSettingsUpTo most settings ∷ []) in
+    let checks = judgeHeldChecks (bitCount s) 0 (checkCount s) (drop 6 s) in
+    let c = firstOf (judgeHeldHeader s ∷ checks ∷ 8 if not (covered (codeOf s)) ∷ judgeSettingsUpTo most settings ∷ []) in
     accepted c (frameLines (length s) (codeOf s) (settingsOf settings) (drop 12 settings)) (refusal c)
 
 abbrev pub frames : List ℕ → List ℕ

@@ -1,5 +1,5 @@
-// The renewal of all rows (document 01, 'One iteration'), with the totals of its changes, on lists of exact length. Rows of fewer than 4,000
-// iterations are taken, as they stand while a run goes.
+// The renewal of all rows (document 01, 'One iteration'), with the totals of its changes, on lists of exact length. Rows that may be
+// renewed once more are taken, as they stand while a run goes.
 ghost use mathlib.Core.Path.{_≡_};
 ghost use mathlib.Core.Bool.{_&&_};
 ghost use mathlib.Core.List.{[], _∷_};

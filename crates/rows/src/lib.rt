@@ -1,5 +1,5 @@
 // The four rows of one triple (document 01, 'One iteration'): their sums, their shares of S, their renewal, and the squares of its changes.
-// Rows of up to 4,000 iterations are taken.
+// Rows that a run reaches are taken.
 ghost use mathlib.Core.Path.{_≡_};
 ghost use Prim.Native.Nat.{ℕ, _+_, _*_, _^_, _≤_, _<_};
 ghost use lib.IntN.{pos, natAbs, _+ℤ_, _*ℤ_};

@@ -1,5 +1,5 @@
-// S (document 01, 'One iteration'): the sum over each variable's rows of z + p, on lists of exact length. Rows of fewer than 4,000 iterations are
-// taken, as they stand while a run goes.
+// S (document 01, 'One iteration'): the sum over each variable's rows of z + p, on lists of exact length. Rows that a run
+// reaches are taken, as they stand while it goes.
 ghost use mathlib.Core.Path.{_≡_};
 ghost use mathlib.Core.List.{List};
 ghost use Prim.Native.Nat.{ℕ, suc, _+_, _-_, _*_, _%_, _^_, _≤_, _<_};
