@@ -45,6 +45,9 @@ extern "C" {
 #define WIDAGBE_MAX_TRIPLES 8192    /* T */
 #define WIDAGBE_MAX_VARIABLES 12288 /* V */
 
+/* The most iterations that a run may be asked for. */
+#define WIDAGBE_MAX_ITERATIONS 4000
+
 enum widagbe_number {
     WIDAGBE_OK = 0,
     WIDAGBE_CUT = 1,              /* the bytes end inside a record */
@@ -221,7 +224,7 @@ typedef struct {
  * Decodes one frame.
  *   weight     1 to 65535: how much the costs weigh
  *   ratio      0 to 1023: the penalty that drives values away from the middle, in parts of 256
- *   limit      1 to 1000: the most iterations
+ *   limit      1 to 4000 (WIDAGBE_MAX_ITERATIONS): the most iterations
  *   tolerance  any: the run settles when, after an iteration, neither the squares of the changes of all multipliers nor those of
  *              all slacks add up to more
  *   costs      n entries
@@ -229,7 +232,7 @@ typedef struct {
  *   counts     V entries, as widagbe_split fills it
  *   sums       V entries: the sum of each variable in the last iteration
  *   values     V entries, -16384 to 16384: the value of each variable, above 0 for bit 1, below 0 for bit 0
- *   rows       4T entries: for each row the multiplier where above 0, the slack negated where below 0
+ *   rows       4T entries, -65536 to 32768 k: for each row the multiplier where above 0, the slack negated where below 0
  *   word       n entries: the codeword, written with number 0 only
  * With 16 and 17 all lists but the word are filled. What they held before does not matter.
  * Numbers: 0 to 13, 16, 17.

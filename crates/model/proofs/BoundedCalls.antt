@@ -1,5 +1,5 @@
 -- How large the numbers of a call get. Assumes nothing.
-use Rattle.integers.proofs.Prelude.{_≡_, sym, subst, List, ℕ, zero, suc, _*_, _≤_, _<_, arith, eqb-true, not-false, ℤ, natAbs, length, drop, take-at}
+use Rattle.integers.proofs.Prelude.{_≡_, sym, subst, List, ℕ, zero, suc, _*_, _≤_, _<_, arith, ℤ, natAbs, length, drop, take-at}
 use Rattle.quotient.specs.Quotient.{unit}
 use Rattle.model.specs.declared.Settings.{Settings}
 use Rattle.model.specs.Limits.{mostIterations, mostSum, mostNumerator}
@@ -8,13 +8,12 @@ use Rattle.model.specs.Records.{codeOf}
 use Rattle.model.specs.Splitting.{System, systemOf}
 use Rattle.model.specs.Iteration.{at, numerator, State}
 use Rattle.model.specs.Run.{after, Ended}
-use Rattle.model.specs.Calls.{outOfRange, unequal, Lists, decoderCause, decodedBy, decoder}
+use Rattle.model.specs.Calls.{Lists, decoderCause, decodedBy, decoder}
 use Rattle.model.specs.Bounds.{RowsWithin, Bounds}
 use Rattle.model.specs.DecoderClaims.{runOf, iterateOf, Small, Bounded}
-use Rattle.model.proofs.Causes.{unless}
 use Rattle.model.proofs.Accepted as Accepted
 use Rattle.model.proofs.Bounds.{row-small, rows-after, values-after, bounds, ready}
-use Rattle.model.proofs.DecoderCalls.{clear-causes, ran-is}
+use Rattle.model.proofs.DecoderCalls.{sound, settings-allowed, costs-fit, ran-is}
 use Rattle.model.proofs.Courses.{accepted-settings, steps-range, last-is, last-long, in-list}
 
 module _ (b : List ℕ) (o : Settings) (costs : List ℤ) (l : Lists) (h : decoderCause b o costs l ≡ 0) (small : Small costs) where
@@ -27,9 +26,6 @@ module _ (b : List ℕ) (o : Settings) (costs : List ℤ) (l : Lists) (h : decod
   abbrev end : Ended
   end = runOf b o costs
 
-  fits : length costs ≡ code .bits
-  fits = eqb-true (length costs) (code .bits) (not-false _ (unless 11 (unequal costs (code .bits)) (clear-causes b o costs l h .1 .1 .0)))
-
   -- K, and so the number of iterations, is within the limit
   few : (k : ℕ) → k < o .limit → k < mostIterations
   few k c = omega (arith, accepted-settings b o costs l h .limit .1)
@@ -38,9 +34,8 @@ module _ (b : List ℕ) (o : Settings) (costs : List ℤ) (l : Lists) (h : decod
   step : (k : ℕ) → Bounds g o costs k (iterateOf b o costs k)
   unfolding systemOf
   step k =
-      let c = clear-causes b o costs l h in
-      bounds g o costs k (iterateOf b o costs k) (ready code (Accepted.accepted b (c .0)) o (unless 10 (outOfRange o) (c .1 .0)) costs fits small)
-      (rows-after g o costs k)
+      let r = ready code (Accepted.accepted b (sound b o costs l h)) o (settings-allowed b o costs l h) costs (costs-fit b o costs l h) small in
+      bounds g o costs k (iterateOf b o costs k) r (rows-after g o costs k)
 
   numerators : (k v : ℕ) → k < o .limit → natAbs (numerator (o .weight) (at (iterateOf b o costs (suc k) .sums) v) (at costs v)) ≤ mostNumerator
   unfolding after

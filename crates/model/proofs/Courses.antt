@@ -12,11 +12,11 @@ use Rattle.model.specs.Records.{codeOf}
 use Rattle.model.specs.Splitting.{System, systemOf}
 use Rattle.model.specs.Iteration.{at, slack, multiplier, sumOf, renewedAt, State, sumsOf, rowsOf, valueOf, valuesOf, iterate}
 use Rattle.model.specs.Run.{changes, settledBy, stop, start, Ended, after, runFrom, run}
-use Rattle.model.specs.Calls.{InRange, outOfRange, Lists, decoderCause, decodedBy, decoder}
+use Rattle.model.specs.Calls.{InRange, Lists, decoderCause, decodedBy, decoder}
 use Rattle.model.specs.DecoderClaims.{runOf, iterateOf, Course, Iterated}
-use Rattle.model.proofs.Causes.{in-range, unless}
+use Rattle.model.proofs.Causes.{in-range}
 use Rattle.model.proofs.Runs.{stops, goes-on}
-use Rattle.model.proofs.DecoderCalls.{clear-causes, ran-is}
+use Rattle.model.proofs.DecoderCalls.{settings-allowed, ran-is}
 
 -- ---- the iterates
 module _ (g : System) (o : Settings) (costs : List ℤ) where
@@ -128,7 +128,7 @@ module _ (b : List ℕ) (o : Settings) (costs : List ℤ) (l : Lists) (h : decod
   path = course (systemOf (codeOf b)) o costs (o .limit) 0 (start (systemOf (codeOf b)))
 
   pub accepted-settings : InRange o
-  accepted-settings = in-range o .0 (unless 10 (outOfRange o) (clear-causes b o costs l h .1 .0))
+  accepted-settings = in-range o .0 (settings-allowed b o costs l h)
 
   count-is : runOf b o costs .k ≡ path .steps
   count-is = omega (arith, path .count)

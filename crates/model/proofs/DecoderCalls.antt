@@ -1,5 +1,5 @@
 -- A call of the decoder: its causes, and what it leaves. Assumes nothing.
-use Rattle.integers.proofs.Prelude.{_≡_, refl, sym, ap, subst, _∙_, Bool, List, [], _∷_, _++_, ℕ, zero, suc, _+_, _≤_, arith, ltb, le-ltb, ℤ, length, take, take-at}
+use Rattle.integers.proofs.Prelude.{_≡_, refl, sym, ap, subst, _∙_, Bool, false, List, [], _∷_, _++_, ℕ, zero, suc, _+_, _≤_, arith, eqb-true, not-false, ltb, le-ltb, ℤ, length, take, take-at}
 use mathlib.Core.Logic.{_⊎_, inl, inr}
 use Rattle.lists.specs.Entries.{some}
 use Rattle.lists.specs.Tabulated.{written}
@@ -14,7 +14,7 @@ use Rattle.model.specs.Calls.{outOfRange, unequal, forbidden, Lists, Dec
 use Rattle.model.specs.Order.{runCauses, Follows, Refusal, Ordered, oneToNine}
 use Rattle.model.specs.Told.{Refuses}
 use Rattle.model.specs.DecoderClaims.{causesBefore, runOf, Refused, Ran, AsBefore}
-use Rattle.model.proofs.Causes.{first-joined, stays, Clear, clear}
+use Rattle.model.proofs.Causes.{first-joined, stays, Clear, clear, unless}
 use Rattle.model.proofs.Order.{listed, whole, follow, refuses, after-records, outcome-order}
 use Rattle.model.proofs.WordClaims.{tested-is, outcome-is, outcome-claims}
 
@@ -73,8 +73,17 @@ module _ (b : List ℕ) (o : Settings) (costs : List ℤ) (l : Lists) where
       by (suc c) f = absurd (none c (e ∙ ap (λ (d : Decoded). d .answer .number) (refusal c f)) (input-refuses c f) h)
 
   module _ (h : decoderCause b o costs l ≡ 0) where
-    pub clear-causes : Clear (judge b ∷ decoderCauses (codeOf b) o costs l)
+    clear-causes : Clear (judge b ∷ decoderCauses (codeOf b) o costs l)
     clear-causes = clear (judge b ∷ decoderCauses (codeOf b) o costs l) (sym causes-are ∙ h)
+
+    pub sound : judge b ≡ 0
+    sound = clear-causes .0
+
+    pub settings-allowed : outOfRange o ≡ false
+    settings-allowed = unless 10 (outOfRange o) (clear-causes .1 .0)
+
+    pub costs-fit : length costs ≡ codeOf b .bits
+    costs-fit = eqb-true (length costs) (codeOf b .bits) (not-false _ (unless 11 (unequal costs (codeOf b .bits)) (clear-causes .1 .1 .0)))
 
     pub ran-is : decoder b o costs l ≡ decodedBy (codeOf b) (runOf b o costs) l
     unfolding decoderUpTo

@@ -18,7 +18,7 @@ use Rattle.model.specs.Words.{firstOdd, Outcome, tested}
 use Rattle.model.specs.Points.{Codeword, pointOf}
 use Rattle.model.specs.Reflection.{reflect}
 use Rattle.model.specs.Channel.{finite, inRange, product, costOf}
-use Rattle.model.specs.Calls.{outOfRange, unequal, forbidden, notBinary, ReaderAnswer, reader, Split, splitter, wordCauses, codewordTest}
+use Rattle.model.specs.Calls.{unequal, forbidden, notBinary, ReaderAnswer, reader, Split, splitter, wordCauses, codewordTest}
 use Rattle.model.specs.Calls.{Extended, extensionCauses, extension, Lists, Decoded, noRoom, decoderCause, decoder, Costs, frontCauses, channelFront, reflectorCauses, reflector}
 use Rattle.model.specs.Order.{oddCauses, Ordered, oneToNine}
 use Rattle.model.specs.Told.{Refuses}
@@ -286,7 +286,7 @@ module _ (b : List ℕ) (o : Settings) (costs : List ℤ) (l : Lists) (d : Decod
     iterated = λ h. subst (Iterated b o costs l) (sym meets) (iterated b o costs l h);
     bounded = λ h. subst (Bounded b o costs) (sym meets) (bounded b o costs l h (small h));
     as-before = λ h. subst (AsBefore b o costs l) (sym meets) (Calls.as-before b o costs l h);
-    published = λ h. (let c = Calls.clear-causes b o costs l h in published b (c .0) o costs (unless 10 (outOfRange o) (c .1 .0)));
+    published = λ h. published b (Calls.sound b o costs l h) o costs (Calls.settings-allowed b o costs l h);
     demand-3 = Demand3.demand-3 b;
     reflected = reflected;
     end-to-end = λ ended w t test passed old r call done m room e again.

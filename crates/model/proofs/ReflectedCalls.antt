@@ -1,6 +1,6 @@
 -- Two calls, the second with reflected costs. Assumes nothing.
-use Rattle.integers.proofs.Prelude.{_≡_, refl, sym, ap, ap₂, _∙_, Bool, false, not, List, [], _∷_, ℕ, zero, suc, _+_, _*_, _≤_, arith, eqb-true, ne-eqb}
-use Rattle.integers.proofs.Prelude.{not-false, eqb, ℤ, pos, negsuc, natAbs, length, take, drop, take-at}
+use Rattle.integers.proofs.Prelude.{_≡_, refl, sym, ap, ap₂, _∙_, Bool, false, not, List, [], _∷_, ℕ, zero, suc, _+_, _*_, _≤_, arith, eq-eqb, ne-eqb}
+use Rattle.integers.proofs.Prelude.{ℤ, pos, negsuc, natAbs, length, take, drop, take-at}
 use Rattle.lists.specs.Entries.{some}
 use Rattle.lists.specs.Tabulated.{written}
 use Rattle.lists.proofs.Tabulated.{length-tab}
@@ -15,13 +15,12 @@ use Rattle.model.specs.Run.{start, Ended}
 use Rattle.model.specs.Words.{bitAt, wordOf, Outcome, outcome}
 use Rattle.model.specs.Points.{Codeword, pointOf}
 use Rattle.model.specs.Reflection.{negatedIf, reflect, sumOfWords}
-use Rattle.model.specs.Calls.{outOfRange, unequal, forbidden, Lists, noRoom, decoderCauseUpTo, decoderCauses, decoderCause, decodedBy, decoder}
+use Rattle.model.specs.Calls.{outOfRange, unequal, forbidden, Lists, noRoom, decoderCauseUpTo, decoderCause, decodedBy, decoder}
 use Rattle.model.specs.Claims.{ReflectedRun}
 use Rattle.model.specs.DecoderClaims.{runOf, Small, ReflectedCalls}
-use Rattle.model.proofs.Causes.{Clear, unless}
 use Rattle.model.proofs.Demand3.{demand-3}
 use Rattle.model.proofs.WordClaims.{outcome-claims}
-use Rattle.model.proofs.DecoderCalls.{clear-causes, ran-is}
+use Rattle.model.proofs.DecoderCalls.{sound, settings-allowed, costs-fit, ran-is}
 use Rattle.model.proofs.Courses.{last-long, in-list}
 
 -- a cost that is negated is none of the forbidden ones either
@@ -58,24 +57,21 @@ module _ (b w : List ℕ) (o : Settings) (costs : List ℤ) (l m : Lists) where
     abbrev end′ : Ended
     end′ = runOf b o (reflect w costs)
 
-    none : Clear (judge b ∷ decoderCauses code o costs l)
-    none = clear-causes b o costs l h
-
     fits : length costs ≡ code .bits
-    fits = eqb-true (length costs) (code .bits) (not-false _ (unless 11 (unequal costs (code .bits)) (none .1 .1 .0)))
+    fits = costs-fit b o costs l h
 
     h′ : decoderCause b o (reflect w costs) m ≡ 0
     unfolding decoderCauseUpTo
     h′ =
         no-cause (judge b) (outOfRange o) (unequal (reflect w costs) (code .bits)) (some forbidden (reflect w costs)) (noRoom code m)
-        (none .0)
-        (unless 10 (outOfRange o) (none .1 .0))
-        (ap (λ (n : ℕ). not (eqb n (code .bits))) (length-reflect w costs) ∙ unless 11 (unequal costs (code .bits)) (none .1 .1 .0))
+        (sound b o costs l h)
+        (settings-allowed b o costs l h)
+        (ap not (eq-eqb (length (reflect w costs)) (code .bits) (length-reflect w costs ∙ fits)))
         (reflected-allowed w costs small)
         room
 
     both : ReflectedRun code o costs w (o .limit) 0 (start sys) (start sys)
-    both = let r = demand-3 b (none .0) .reflects w c in r .whole o costs fits (o .limit) 0 (start sys) (start sys) (r .begun)
+    both = let r = demand-3 b (sound b o costs l h) .reflects w c in r .whole o costs fits (o .limit) 0 (start sys) (start sys) (r .begun)
 
     same-answer : decodedBy code end′ m .answer ≡ decodedBy code end l .answer
     unfolding decodedBy
