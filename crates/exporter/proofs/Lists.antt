@@ -2,11 +2,11 @@
 use Rattle.integers.proofs.Prelude.{_≡_, refl, sym, ap, _∙_, List, [], _∷_, _++_, append-assoc, append-nil, ℕ, zero, suc, _+_, _-_, _*_, _≤_, _<_, max, arith}
 use Rattle.integers.proofs.Prelude.{add-one, length, getD, take, drop, length-append, length-take, length-take-le, length-drop, take-append-drop, take-suc}
 use Rattle.integers.proofs.Prelude.{drop-cons, drop-drop}
-use Rattle.lists.specs.Entries.{total}
+use Rattle.lists.specs.Entries.{total, sum}
 use Rattle.lists.proofs.Entries.{total-append, total-next, total-part}
 use Rattle.model.specs.Alist.{largest, fill, lineOf, textOf}
 use Rattle.model.proofs.AlistSizes.{total-most}
-use Rattle.exporter.specs.Lines.{Side, filledText, listsText, sideText}
+use Rattle.exporter.specs.Lines.{SideLists, filledText, listsText, sideText}
 use Rattle.exporter.proofs.Lines.{field, length-line, length-filled}
 
 -- ---- the largest degree
@@ -24,23 +24,23 @@ some-degree (d ∷ l) h = omega arith
 
 -- ---- the lists, one behind the other
 module _ (most : ℕ) where
-  lists-append : (a b entries : List ℕ) → filledText most (a ++ b) entries ≡ filledText most a entries ++ filledText most b (drop (total (λ d. d) a) entries)
+  lists-append : (a b entries : List ℕ) → filledText most (a ++ b) entries ≡ filledText most a entries ++ filledText most b (drop (sum a) entries)
   unfolding textOf
   lists-append [] b entries = refl
   lists-append (d ∷ a) b entries =
-      rw (lists-append a b (drop d entries), drop-drop (total (λ d. d) a) d entries)
-      (sym (append-assoc (lineOf (fill most (take d entries))) (filledText most a (drop d entries)) (filledText most b (drop (d + total (λ d. d) a) entries))))
+      rw (lists-append a b (drop d entries), drop-drop (sum a) d entries)
+      (sym (append-assoc (lineOf (fill most (take d entries))) (filledText most a (drop d entries)) (filledText most b (drop (d + sum a) entries))))
 
   -- ---- how long
   module _ (some : 1 ≤ most) where
-    pub length-lists : (degrees entries : List ℕ) → largest degrees ≤ most → length entries ≡ total (λ d. d) degrees
+    pub length-lists : (degrees entries : List ℕ) → largest degrees ≤ most → length entries ≡ sum degrees
         → length (filledText most degrees entries) ≡ total field entries + 2 * (length degrees * most - length entries)
     unfolding textOf
     length-lists [] [] h e = omega arith
     length-lists [] (x ∷ entries) h e = absurd (omega arith)
     length-lists (d ∷ degrees) entries h e =
         let long : length (take d entries) ≡ d = length-take-le d entries (omega arith) in
-        let left : length (drop d entries) ≡ total (λ d. d) degrees = omega (arith, length-drop d entries) in
+        let left : length (drop d entries) ≡ sum degrees = omega (arith, length-drop d entries) in
         let ih = length-lists degrees (drop d entries) (omega arith) left in
         let parts = ap (total field) (take-append-drop d entries) in
         omega (
@@ -52,7 +52,7 @@ module _ (most : ℕ) where
         )
 
 -- a side
-pub length-side : (degrees entries : List ℕ) → Side degrees entries
+pub length-side : (degrees entries : List ℕ) → SideLists degrees entries
     → length (sideText degrees entries) ≡ total field degrees + total field entries + 2 * (length degrees * largest degrees - length entries)
 length-side degrees entries s =
     let lists = listsText degrees entries in
@@ -64,7 +64,7 @@ abbrev pub lent : List ℕ → ℕ → ℕ → List ℕ
 lent entries first d = take (first + d - first) (drop first entries)
 
 pub record Listed (most : ℕ) (degrees entries : List ℕ) (i first d : ℕ) : Type 0 where
-  pub ends : first + d ≡ total (λ d. d) (take (i + 1) degrees)
+  pub ends : first + d ≡ sum (take (i + 1) degrees)
   pub inside : first + d ≤ length entries
   pub long : length (lent entries first d) ≡ d
   pub small : d ≤ largest degrees
@@ -72,8 +72,8 @@ pub record Listed (most : ℕ) (degrees entries : List ℕ) (i first d : ℕ) : 
   -- there is room for it where there is room for all
   pub room : length (filledText most (take i degrees) entries) + length (lineOf (fill most (lent entries first d))) ≤ length (filledText most degrees entries)
 
-pub listed : (most : ℕ) (degrees entries : List ℕ) → length entries ≡ total (λ d. d) degrees → (i : ℕ) → i < length degrees → (first d : ℕ)
-    → first ≡ total (λ d. d) (take i degrees) → d ≡ getD degrees i 0 → Listed most degrees entries i first d
+pub listed : (most : ℕ) (degrees entries : List ℕ) → length entries ≡ sum degrees → (i : ℕ) → i < length degrees → (first d : ℕ)
+    → first ≡ sum (take i degrees) → d ≡ getD degrees i 0 → Listed most degrees entries i first d
 unfolding textOf
 listed most degrees entries long i h first d begins degree =
     let all = total (λ (d : ℕ). d) in

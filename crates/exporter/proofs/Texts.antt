@@ -3,7 +3,7 @@ use Rattle.integers.proofs.Prelude.{_≡_, refl, sym, ap, ap₂, _∙_, List, [
 use Rattle.integers.proofs.Prelude.{length-append, length-map, take-append-seam}
 use lib.Seq.{drop-append-seam}
 use Rattle.lists.specs.Tabulated.{tab}
-use Rattle.lists.specs.Entries.{total}
+use Rattle.lists.specs.Entries.{total, sum}
 use Rattle.lists.proofs.Tabulated.{map-tab}
 use Rattle.lists.proofs.Entries.{total-map, total-lengths}
 use Rattle.model.specs.Limits.{mostBits, mostPlaces}
@@ -15,7 +15,7 @@ use Rattle.model.specs.AlistClaims.{joined}
 use Rattle.model.proofs.AlistForm.{length-joined}
 use Rattle.model.proofs.AlistCode.{length-columns, length-rows, columns-from-one, rows-from-one, code-places}
 use Rattle.model.proofs.AlistSizes.{same-total, places-least, places-most}
-use Rattle.exporter.specs.Lines.{cut, Side, listsText, sideText, headText}
+use Rattle.exporter.specs.Lines.{cut, SideLists, listsText, sideText, headText}
 use Rattle.exporter.proofs.Lines.{field, length-line}
 
 -- ---- lists one behind the other, and their degrees
@@ -23,13 +23,13 @@ cut-joined : (ls : List (List ℕ)) → cut (map length ls) (joined ls) ≡ ls
 cut-joined [] = refl
 cut-joined (l ∷ ls) = rw (take-append-seam l (joined ls), drop-append-seam l (joined ls), cut-joined ls)
 
-some-largest : (l : List ℕ) → 1 ≤ total (λ d. d) l → 1 ≤ largest l
+some-largest : (l : List ℕ) → 1 ≤ sum l → 1 ≤ largest l
 some-largest [] h = absurd (omega arith)
 some-largest (zero ∷ l) h = omega (arith, some-largest l (omega arith))
 some-largest (suc d ∷ l) h = omega arith
 
 -- such lists are a side
-side-of : (ls : List (List ℕ)) → 1 ≤ total length ls → total length ls ≤ mostPlaces → length ls ≤ mostBits → Side (map length ls) (joined ls)
+side-of : (ls : List (List ℕ)) → 1 ≤ total length ls → total length ls ≤ mostPlaces → length ls ≤ mostBits → SideLists (map length ls) (joined ls)
 side-of ls some most few =
     let e = total-map (λ d. d) length ls in
     record {
@@ -132,12 +132,12 @@ module _ (k : Code) where
     some : 1 ≤ total length (k .checks)
     some = omega (arith, places-least (k .bits) (k .checks) (s .checks), s .checks-least)
 
-    pub columns-side : Side column-degrees (joined (columnsOf k))
+    pub columns-side : SideLists column-degrees (joined (columnsOf k))
     columns-side =
         let e = columns-total in
         side-of (columnsOf k) (omega (arith, some)) (omega (arith, few)) (omega (arith, length-columns k, s .bits-most))
 
-    pub rows-side : Side row-degrees (joined (rowsOf k))
+    pub rows-side : SideLists row-degrees (joined (rowsOf k))
     rows-side =
         let e = rows-total in
         side-of (rowsOf k) (omega (arith, some)) (omega (arith, few)) (omega (arith, length-rows k, s .checks-most))

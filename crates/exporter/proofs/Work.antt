@@ -3,7 +3,7 @@ use Rattle.integers.proofs.Prelude.{_≡_, refl, sym, ap, ap₂, _∙_, List, _
 use Rattle.integers.proofs.Prelude.{length-take-le, take-at}
 use lib.ListN.{replicate}
 use Rattle.lists.specs.Tabulated.{tab, written}
-use Rattle.lists.specs.Entries.{total}
+use Rattle.lists.specs.Entries.{total, sum}
 use Rattle.lists.proofs.Tabulated.{length-tab}
 use Rattle.lists.proofs.Entries.{total-map}
 use Rattle.model.specs.Limits.{mostBits, mostChecks, mostPlaces}
@@ -12,7 +12,7 @@ use Rattle.model.specs.Records.{checksIn, judgeChecks}
 use Rattle.model.specs.Alist.{columnFrom, columnsOf, rowsOf, alistOf}
 use Rattle.model.specs.AlistClaims.{joined}
 use Rattle.model.proofs.Accepted.{length-checks}
-use Rattle.exporter.specs.Lines.{Side, codeFrom, Accepted, Lists, Fitted}
+use Rattle.exporter.specs.Lines.{SideLists, codeFrom, Accepted, Lists, Fitted}
 use Rattle.exporter.proofs.Lines.{Room, room-start}
 use Rattle.exporter.proofs.Texts.{column-degrees, row-degrees, column-degrees-are, row-degrees-are, columns-joined, rows-joined}
 use Rattle.exporter.proofs.Texts.{columns-total, few, columns-side, rows-side, textFrom, text-is}
@@ -66,12 +66,12 @@ module _ (s columns rows entries : List ℕ) (w : Lists s columns rows entries) 
     columns-are : d ≡ column-degrees code
     columns-are = degrees ∙ column-degrees-are code
 
-    total-is : total (λ d. d) d ≡ total length checks
-    total-is = ap (total (λ d. d)) columns-are ∙ total-map (λ d. d) length (columnsOf code) ∙ columns-total code (w .sound .1)
+    total-is : sum d ≡ total length checks
+    total-is = ap sum columns-are ∙ total-map (λ d. d) length (columnsOf code) ∙ columns-total code (w .sound .1)
 
     -- what the entries of the columns are asked for
     pub entries-asked : ((judgeChecks (length d) (length rows) s ≡ 0) × (length d ≤ mostBits) × (length rows ≤ mostChecks))
-        × ((d ≡ tab (length d) (λ b. length (columnFrom 0 b checks))) × ((length entries ≡ total (λ d. d) d) × (length entries ≤ 65535)))
+        × ((d ≡ tab (length d) (λ b. length (columnFrom 0 b checks))) × ((length entries ≡ sum d) × (length entries ≤ 65535)))
     entries-asked = (
       (ap (λ (n : ℕ). judgeChecks n (length rows) s) long ∙ w .sound .0, omega (arith, long, bits-most), checks-most),
       (
@@ -85,14 +85,14 @@ module _ (s columns rows entries : List ℕ) (w : Lists s columns rows entries) 
       entries-are : e ≡ joined (columnsOf code)
       entries-are = given ∙ ap (λ (n : ℕ). joined (tab n (λ b. columnFrom 0 b checks))) long ∙ columns-joined code
 
-      pub side-columns : Side d e
+      pub side-columns : SideLists d e
       side-columns = rw (columns-are, entries-are) (columns-side code (w .sound .1))
 
       module _ (f : List ℕ) (told : f ≡ joined (map (map suc) checks)) where
         row-entries-are : f ≡ joined (rowsOf code)
         row-entries-are = told ∙ rows-joined code
 
-        pub side-rows : Side rows f
+        pub side-rows : SideLists rows f
         side-rows = rw (rows-are, row-entries-are) (rows-side code (w .sound .1))
 
         pub text : alistOf code ≡ textFrom d rows e f

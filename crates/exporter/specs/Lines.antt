@@ -4,7 +4,7 @@ use mathlib.Core.List.{List, [], _∷_, _++_, map}
 use Prim.Native.Nat.{ℕ, _≤_, _<_}
 use lib.ListN.{length, take, drop}
 use Rattle.lists.specs.Tabulated.{written}
-use Rattle.lists.specs.Entries.{total}
+use Rattle.lists.specs.Entries.{total, sum}
 use Rattle.model.specs.Limits.{mostBits, mostPlaces}
 use Rattle.model.specs.Code.{Code}
 use Rattle.model.specs.Records.{checksIn, judgeChecks}
@@ -23,8 +23,8 @@ cut [] entries = []
 cut (d ∷ degrees) entries = take d entries ∷ cut degrees (drop d entries)
 
 -- a side of an accepted code: as many entries as the degrees say, and one at least
-pub record Side (degrees entries : List ℕ) : Type 0 where
-  pub long : length entries ≡ total (λ d. d) degrees
+pub record SideLists (degrees entries : List ℕ) : Type 0 where
+  pub long : length entries ≡ sum degrees
   pub some : 1 ≤ largest degrees
   pub few : length degrees ≤ mostBits
   pub small : length entries ≤ mostPlaces

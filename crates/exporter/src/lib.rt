@@ -8,7 +8,7 @@ ghost use Rattle.model.specs.Text.{decimal};
 ghost use Rattle.lists.specs.Tabulated.{written};
 ghost use Rattle.model.specs.Alist.{largest, fill, lineOf, alistOf};
 ghost use Rattle.model.specs.AlistPromises.{ExportCall, SizeCall};
-ghost use Rattle.exporter.specs.Lines.{Side, spaced, headText, listsText, sideText, codeFrom, Accepted, Lists, Fitted};
+ghost use Rattle.exporter.specs.Lines.{SideLists, spaced, headText, listsText, sideText, codeFrom, Accepted, Lists, Fitted};
 ghost use Rattle.text.specs.Appended.{Appended};
 use model::MOST_BITS;
 use model::MOST_CHECKS;
@@ -61,7 +61,7 @@ fn largest(degrees: &[u16]) -> usize
 
 // The bytes of a side: the line of its degrees, and its lists, each filled to the largest degree.
 fn side_size(degrees: &[u16], entries: &[u16]) -> usize
-    requires { ⌜ Side (now degrees) (now entries) ⌝ }
+    requires { ⌜ SideLists (now degrees) (now entries) ⌝ }
     ensures { λ r. ⌜ (r ≡ length (sideText (now (degrees .entry)) (now (entries .entry)))) × (r ≤ 1000000000) ⌝ }
 {
     let filled = degrees.len() * largest(degrees);
@@ -117,7 +117,7 @@ fn put_pair(x: usize, y: usize, text: &mut [u8], at: usize) -> usize
 
 // The lines of the lists of a side, each filled to the largest degree, from `at` on; where the next byte goes.
 fn put_lists(degrees: &[u16], entries: &[u16], text: &mut [u8], at: usize) -> usize
-    requires { ⌜ Side (now degrees) (now entries) × (at + length (listsText (now degrees) (now entries)) ≤ length (now text)) ⌝ }
+    requires { ⌜ SideLists (now degrees) (now entries) × (at + length (listsText (now degrees) (now entries)) ≤ length (now text)) ⌝ }
     ensures { λ r. ⌜ Appended at (listsText (now (degrees .entry)) (now (entries .entry))) (now (text .entry)) (now (text .exit)) r ⌝ }
 {
     let most = largest(degrees);

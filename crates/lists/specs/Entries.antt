@@ -18,6 +18,10 @@ abbrev pub total : {A : Type 0} → (A → ℕ) → List A → ℕ
 total f [] = 0
 total f (x ∷ l) = f x + total f l
 
+-- of numbers
+abbrev pub sum : List ℕ → ℕ
+sum l = total (λ x. x) l
+
 -- the lowest index below n that passes, or n
 abbrev pub first : ℕ → (ℕ → Bool) → ℕ
 first zero f = zero

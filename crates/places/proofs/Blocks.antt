@@ -5,7 +5,7 @@ use Rattle.model.specs.Limits.{mostNumber}
 use Rattle.numbers.specs.Walked.{from, Small, Filled}
 use Rattle.numbers.proofs.Walk.{small-part}
 use Rattle.places.specs.declared.Window.{Window}
-use Rattle.places.specs.Counters.{namedIn, inRows, inColumns, More, Above, Zeros, Room, Block}
+use Rattle.places.specs.Counters.{timesIn, inRows, inColumns, More, Above, Zeros, Room, Block}
 use Rattle.places.proofs.Counters.{more-then}
 use Rattle.places.proofs.Named.{named-append, named-part, named-most}
 
@@ -75,11 +75,11 @@ room-rows w most q l old now z h m p =
 
 -- ---- what is counted with it
 module _ {s l : List ℕ} {lists most done : ℕ} {values : List ℕ} {size end : ℕ} (b : Next s l lists most done values size end) where
-  named-block : (a x : ℕ) → namedIn most a x 0 (take (done + size) l) ≡ namedIn most a x 0 (take done l) + namedIn most a x done (take size values)
+  named-block : (a x : ℕ) → timesIn most a x 0 (take (done + size) l) ≡ timesIn most a x 0 (take done l) + timesIn most a x done (take size values)
   named-block a x =
       let e : 0 + length (take done l) ≡ done = omega (arith, length-take-le done l (omega (arith, b .enough))) in
-      ap (namedIn most a x 0) (take-add done size l) ∙ named-append most a x 0 (take done l) (take size (drop done l))
-      ∙ ap₂ (λ (n : ℕ) (k : List ℕ). namedIn most a x 0 (take done l) + namedIn most a x n k) e (sym (b .list))
+      ap (timesIn most a x 0) (take-add done size l) ∙ named-append most a x 0 (take done l) (take size (drop done l))
+      ∙ ap₂ (λ (n : ℕ) (k : List ℕ). timesIn most a x 0 (take done l) + timesIn most a x n k) e (sym (b .list))
 
   module _ (w : Window) where
     pub up-block : {old now next : List ℕ} → More (inRows w most 0 (take done l)) old now → More (inRows w most done (take size values)) now next
@@ -101,7 +101,7 @@ module _ {s l : List ℕ} {lists most done : ℕ} {values : List ℕ} {size end 
     pub above-block : {old now : List ℕ} → More (inColumns w most 0 (take done l)) now old → Above (inColumns w most done (take size values)) now
         → Above (inColumns w most 0 (take (lists * most) l)) old
     above-block m (p, j, n) =
-        let part : namedIn most (p % w .width) (suc (w .top + p / w .width)) 0 (take (done + size) l) ≤ inColumns w most 0 (take (lists * most) l) p
+        let part : timesIn most (p % w .width) (suc (w .top + p / w .width)) 0 (take (done + size) l) ≤ inColumns w most 0 (take (lists * most) l) p
         = rw (← take-take (done + size) (lists * most) l (b .reached .most))
         (named-part most (p % w .width) (suc (w .top + p / w .width)) 0 (done + size) (take (lists * most) l)) in
         (p, omega (arith, m .long), omega (arith, m .each p j, column-block p, part))

@@ -3,8 +3,9 @@ use Rattle.integers.proofs.Prelude.{_≡_, refl, sym, ap, _∙_, Bool, true, fa
 use Rattle.integers.proofs.Prelude.{eqb-true, eqb-false, length, getD, take, drop, set, length-set, drop-at, getD-drop}
 use lib.ListN.{replicate}
 use lib.Seq.{getD-set-same, getD-set-other}
+use Rattle.lists.specs.Entries.{sum}
 use Rattle.model.specs.Causes.{_if_}
-use Rattle.places.specs.Counters.{Tells, More, Above, sum, Zeros}
+use Rattle.places.specs.Counters.{Tells, More, Above, Zeros}
 
 -- ---- sums
 pub sum-set : (l : List ℕ) (i x : ℕ) → i < length l → sum (set l i x) + getD l i 0 ≡ sum l + x

@@ -9,53 +9,53 @@ use lib.Seq.{take-nil, drop-nil}
 use Rattle.model.specs.Causes.{_if_}
 use Rattle.model.specs.Alist.{times}
 use Rattle.places.specs.declared.Window.{Window}
-use Rattle.places.specs.Counters.{listAt, namedIn}
+use Rattle.places.specs.Counters.{listAt, timesIn}
 
 -- ---- how often x is in the a-th list
 module _ (most a x : ℕ) where
-  pub named-append : (q : ℕ) (l k : List ℕ) → namedIn most a x q (l ++ k) ≡ namedIn most a x q l + namedIn most a x (q + length l) k
-  named-append q [] k = ap (λ (n : ℕ). namedIn most a x n k) (sym (add-zero q)) ∙ omega arith
+  pub named-append : (q : ℕ) (l k : List ℕ) → timesIn most a x q (l ++ k) ≡ timesIn most a x q l + timesIn most a x (q + length l) k
+  named-append q [] k = ap (λ (n : ℕ). timesIn most a x n k) (sym (add-zero q)) ∙ omega arith
   named-append q (v ∷ l) k =
       let e : suc q + length l ≡ q + suc (length l) = omega arith in
-      omega (arith, named-append (suc q) l k, ap (λ (n : ℕ). namedIn most a x n k) e)
+      omega (arith, named-append (suc q) l k, ap (λ (n : ℕ). timesIn most a x n k) e)
 
   -- one number more
   pub named-next : (q : ℕ) (l : List ℕ) (k : ℕ) → k < length l
-      → namedIn most a x q (take (suc k) l) ≡ namedIn most a x q (take k l) + 1 if (eqb ((q + k) / most) a && eqb x (getD l k 0))
+      → timesIn most a x q (take (suc k) l) ≡ timesIn most a x q (take k l) + 1 if (eqb ((q + k) / most) a && eqb x (getD l k 0))
   named-next q l k h =
-      ap (namedIn most a x q) (take-suc l k 0 h) ∙ named-append q (take k l) (getD l k 0 ∷ [])
-      ∙ ap (λ (n : ℕ). namedIn most a x q (take k l) + namedIn most a x (q + n) (getD l k 0 ∷ [])) (length-take-le k l (omega arith)) ∙ omega arith
+      ap (timesIn most a x q) (take-suc l k 0 h) ∙ named-append q (take k l) (getD l k 0 ∷ [])
+      ∙ ap (λ (n : ℕ). timesIn most a x q (take k l) + timesIn most a x (q + n) (getD l k 0 ∷ [])) (length-take-le k l (omega arith)) ∙ omega arith
 
   -- a part names nothing more often
-  pub named-part : (q k : ℕ) (l : List ℕ) → namedIn most a x q (take k l) ≤ namedIn most a x q l
-  named-part q k l = omega (arith, named-append q (take k l) (drop k l), ap (namedIn most a x q) (take-append-drop k l))
+  pub named-part : (q k : ℕ) (l : List ℕ) → timesIn most a x q (take k l) ≤ timesIn most a x q l
+  named-part q k l = omega (arith, named-append q (take k l) (drop k l), ap (timesIn most a x q) (take-append-drop k l))
 
   one-most : (t : Bool) → 1 if t ≤ 1
   one-most true = omega arith
   one-most false = omega arith
 
   -- nothing before the list begins, and then at most once for each number
-  pub named-most : (q : ℕ) (l : List ℕ) → namedIn most a x q l + (q - a * most) ≤ q + length l - a * most
+  pub named-most : (q : ℕ) (l : List ℕ) → timesIn most a x q l + (q - a * most) ≤ q + length l - a * most
   named-most q [] = omega arith
   named-most q (v ∷ l) = by (eqb (q / most) a) refl (named-most (suc q) l)
     where
-      by : (t : Bool) → eqb (q / most) a ≡ t → namedIn most a x (suc q) l + (suc q - a * most) ≤ suc q + length l - a * most
-          → 1 if (t && eqb x v) + namedIn most a x (suc q) l + (q - a * most) ≤ q + suc (length l) - a * most
+      by : (t : Bool) → eqb (q / most) a ≡ t → timesIn most a x (suc q) l + (suc q - a * most) ≤ suc q + length l - a * most
+          → 1 if (t && eqb x v) + timesIn most a x (suc q) l + (q - a * most) ≤ q + suc (length l) - a * most
       by true e h =
           let low : a * most ≤ q = omega (arith, ap (λ (n : ℕ). n * most) (eqb-true (q / most) a e), div-add-mod' q most) in
           omega (arith, one-most (eqb x v))
       by false e h = omega arith
 
   -- exactly as often as its part of the numbers has it
-  named-exact : 1 ≤ most → (q : ℕ) (l : List ℕ) → namedIn most a x q l ≡ times x (drop (a * most - q) (take (a * most + most - q) l))
+  named-exact : 1 ≤ most → (q : ℕ) (l : List ℕ) → timesIn most a x q l ≡ times x (drop (a * most - q) (take (a * most + most - q) l))
   named-exact h q [] = sym (ap (times x) (ap (drop (a * most - q)) (take-nil (a * most + most - q)) ∙ drop-nil (a * most - q)))
   named-exact h q (v ∷ l) = by (decLt q (a * most)) (decLt q (a * most + most)) (named-exact h (suc q) l)
     where
-      other : q / most ≢ a → namedIn most a x q (v ∷ l) ≡ namedIn most a x (suc q) l
+      other : q / most ≢ a → timesIn most a x q (v ∷ l) ≡ timesIn most a x (suc q) l
       other n = rw (ne-eqb (q / most) a n) (omega arith)
 
-      by : Dec (q < a * most) → Dec (q < a * most + most) → namedIn most a x (suc q) l ≡ times x (drop (a * most - suc q) (take (a * most + most - suc q) l))
-          → namedIn most a x q (v ∷ l) ≡ times x (drop (a * most - q) (take (a * most + most - q) (v ∷ l)))
+      by : Dec (q < a * most) → Dec (q < a * most + most) → timesIn most a x (suc q) l ≡ times x (drop (a * most - suc q) (take (a * most + most - suc q) l))
+          → timesIn most a x q (v ∷ l) ≡ times x (drop (a * most - q) (take (a * most + most - q) (v ∷ l)))
       by (yes k) d ih =
           let e : a * most - q ≡ suc (a * most - suc q) = omega arith in
           let f : a * most + most - q ≡ suc (a * most + most - suc q) = omega arith in
@@ -78,7 +78,7 @@ drop-take zero m l = let e : zero + m ≡ m = omega arith in rw e
 drop-take (suc b) m [] = ap (drop (suc b)) (take-nil (suc b + m)) ∙ sym (take-nil m)
 drop-take (suc b) m (x ∷ l) = let e : suc b + m ≡ suc (b + m) = omega arith in rw e (drop-take b m l)
 
-pub named-list : (most n a x : ℕ) (l : List ℕ) → a < n → namedIn most a x 0 (take (n * most) l) ≡ times x (listAt most l a)
+pub named-list : (most n a x : ℕ) (l : List ℕ) → a < n → timesIn most a x 0 (take (n * most) l) ≡ times x (listAt most l a)
 named-list zero n a x l h = let e : n * 0 ≡ 0 = omega arith in rw e
 named-list (suc m) n a x l h =
     let most = suc m in

@@ -5,7 +5,6 @@ use mathlib.Core.List.{List, [], _∷_}
 use Prim.Native.Nat.{ℕ, suc, _+_, _-_, _*_, _/_, _%_, _≤_, _<_}
 use lib.Dec.{eqb}
 use lib.ListN.{length, getD, take, drop}
-use Rattle.lists.specs.Entries.{total}
 use Rattle.model.specs.Causes.{_if_}
 use Rattle.model.specs.Limits.{mostNumber}
 use Rattle.model.specs.Alist.{times}
@@ -32,16 +31,16 @@ pub record Tells (t : Bool) (holds : Type 0) : Type 0 where
 
 -- ---- counters
 -- how often x is in the a-th list of `most` numbers, as far as l goes, of which the first is the q-th number
-abbrev pub namedIn : ℕ → ℕ → ℕ → ℕ → List ℕ → ℕ
-namedIn most a x q [] = 0
-namedIn most a x q (v ∷ l) = 1 if (eqb (q / most) a && eqb x v) + namedIn most a x (suc q) l
+abbrev pub timesIn : ℕ → ℕ → ℕ → ℕ → List ℕ → ℕ
+timesIn most a x q [] = 0
+timesIn most a x q (v ∷ l) = 1 if (eqb (q / most) a && eqb x v) + timesIn most a x (suc q) l
 
 -- how often l names the window's p-th place: numbers of its rows, and of its columns
 abbrev pub inRows : Window → ℕ → ℕ → List ℕ → ℕ → ℕ
-inRows w most q l p = namedIn most (p / w .width) (suc (w .left + p % w .width)) q l
+inRows w most q l p = timesIn most (p / w .width) (suc (w .left + p % w .width)) q l
 
 abbrev pub inColumns : Window → ℕ → ℕ → List ℕ → ℕ → ℕ
-inColumns w most q l p = namedIn most (p % w .width) (suc (w .top + p / w .width)) q l
+inColumns w most q l p = timesIn most (p % w .width) (suc (w .top + p / w .width)) q l
 
 -- m is l with f p more at each p
 pub record More (f : ℕ → ℕ) (l m : List ℕ) : Type 0 where
@@ -51,9 +50,6 @@ pub record More (f : ℕ → ℕ) (l m : List ℕ) : Type 0 where
 -- f is above l at some place
 abbrev pub Above : (ℕ → ℕ) → List ℕ → Type 0
 Above f l = (p : ℕ) × (p < length l) × (getD l p 0 < f p)
-
-abbrev pub sum : List ℕ → ℕ
-sum l = total (λ x. x) l
 
 abbrev pub Zeros : List ℕ → Type 0
 Zeros l = (p : ℕ) → getD l p 0 ≡ 0

@@ -4,11 +4,12 @@ ghost use mathlib.Core.Path.{_≡_};
 ghost use mathlib.Core.Bool.{true, false};
 ghost use Prim.Native.Nat.{ℕ, _+_, _*_, _^_, _≤_, _<_, min};
 ghost use lib.ListN.{length, getD, take, drop};
+ghost use Rattle.lists.specs.Entries.{sum};
 ghost use Rattle.model.specs.Limits.{mostNumber};
 ghost use Rattle.model.specs.Alist.{agree};
 ghost use Rattle.numbers.specs.Walked.{from, Small, Filled};
 ghost use Rattle.places.specs.Held.{Held, listsOf};
-ghost use Rattle.places.specs.Counters.{mostCounters, Agrees, Tells, inRows, inColumns, More, Above, sum, Zeros, Room, Inside, Block};
+ghost use Rattle.places.specs.Counters.{mostCounters, Agrees, Tells, inRows, inColumns, More, Above, Zeros, Room, Inside, Block};
 use numbers::Side;
 
 // So many counters a window can have.

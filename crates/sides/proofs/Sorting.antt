@@ -4,7 +4,7 @@ use Rattle.integers.proofs.Prelude.{arith, add-one, ltb-true, ltb-false, eqb-tr
 use Rattle.integers.proofs.Prelude.{length-append, length-set, length-drop, take-append-drop, drop-drop}
 use lib.Seq.{take-set-le, drop-set-lt, drop-set-add, take-suc-set}
 use Rattle.lists.specs.Tabulated.{tab}
-use Rattle.lists.specs.Entries.{some, total}
+use Rattle.lists.specs.Entries.{some, total, sum}
 use Rattle.model.specs.Sound.{Rising}
 use Rattle.model.specs.AlistClaims.{joined}
 use Rattle.model.proofs.RecordClaims.{none-left}
@@ -46,7 +46,7 @@ start-of n column zero h = refl
 start-of zero column (suc b) h = absurd (omega arith)
 start-of (suc n) column (suc b) h = omega (arith, start-of n (λ i. column (suc i)) b (omega arith))
 
-pub start-end : (n : ℕ) (column : ℕ → List ℕ) → total (λ d. d) (tab n (λ i. length (column i))) ≡ start column n
+pub start-end : (n : ℕ) (column : ℕ → List ℕ) → sum (tab n (λ i. length (column i))) ≡ start column n
 start-end zero column = refl
 start-end (suc n) column = omega (arith, start-end n (λ i. column (suc i)))
 

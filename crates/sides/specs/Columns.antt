@@ -5,7 +5,7 @@ use mathlib.Core.List.{List, [], _∷_}
 use Prim.Native.Nat.{ℕ, _+_, _≤_, _<_}
 use lib.Dec.{eqb}
 use lib.ListN.{length, getD, take, set}
-use Rattle.lists.specs.Entries.{some, total}
+use Rattle.lists.specs.Entries.{some, sum}
 use Rattle.lists.specs.Tabulated.{tab}
 
 -- ---- the degrees
@@ -24,7 +24,7 @@ Counted l most = (b : ℕ) → b < length l → getD l b 0 ≤ most
 -- ---- the places
 -- column b begins where those before it end
 abbrev pub startOf : List ℕ → ℕ → ℕ
-startOf degrees b = total (λ d. d) (take b degrees)
+startOf degrees b = sum (take b degrees)
 
 -- number j at the next place of each bit of a check
 abbrev pub placed : ℕ → List ℕ → List ℕ → List ℕ → List ℕ

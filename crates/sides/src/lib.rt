@@ -4,7 +4,7 @@ ghost use mathlib.Core.Path.{_≡_};
 ghost use mathlib.Core.List.{map};
 ghost use Prim.Native.Nat.{suc, _+_, _≤_};
 ghost use lib.ListN.{length};
-ghost use Rattle.lists.specs.Entries.{total};
+ghost use Rattle.lists.specs.Entries.{total, sum};
 ghost use Rattle.lists.specs.Tabulated.{tab, over};
 ghost use Rattle.model.specs.Limits.{mostBits, mostChecks};
 ghost use Rattle.model.specs.Records.{indices, checksIn, judgeCheck, judgeChecks};
@@ -88,7 +88,7 @@ pub fn column_degrees(s: &[u8], checks: usize, degrees: &mut [u16])
 
 // Where each column begins, the columns standing one behind the other.
 fn starts(degrees: &[u16], next: &mut [u16; MOST_BITS])
-    requires { ⌜ (length (now degrees) ≤ mostBits) × (length (now next) ≡ mostBits) × (total (λ d. d) (now degrees) ≤ 65535) ⌝ }
+    requires { ⌜ (length (now degrees) ≤ mostBits) × (length (now next) ≡ mostBits) × (sum (now degrees) ≤ 65535) ⌝ }
     ensures { λ _. ⌜ now (next .exit) ≡ over (length (now (degrees .entry))) (startOf (now (degrees .entry))) (now (next .entry)) ⌝ }
 {
     let mut at = 0usize;
@@ -118,7 +118,7 @@ fn place(s: &[u8], bits: usize, j: usize, next: &mut [u16; MOST_BITS], entries: 
 pub fn column_entries(s: &[u8], checks: usize, degrees: &[u16], entries: &mut [u16])
     requires { ⌜ (judgeChecks (length (now degrees)) checks (now s) ≡ 0) × (length (now degrees) ≤ mostBits) × (checks ≤ mostChecks) ⌝ }
     requires { ⌜ now degrees ≡ tab (length (now degrees)) (λ b. length (columnFrom 0 b (checksIn checks (now s)))) ⌝ }
-    requires { ⌜ (length (now entries) ≡ total (λ d. d) (now degrees)) × (length (now entries) ≤ 65535) ⌝ }
+    requires { ⌜ (length (now entries) ≡ sum (now degrees)) × (length (now entries) ≤ 65535) ⌝ }
     ensures { λ _. ⌜ now (entries .exit) ≡ joined (tab (length (now (degrees .entry))) (λ b. columnFrom 0 b (checksIn checks (now (s .entry))))) ⌝ }
 {
     let bits = degrees.len();

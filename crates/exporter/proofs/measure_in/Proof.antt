@@ -1,7 +1,7 @@
 -- `exporter::measure_in` meets its contract: the pairs, the columns and the rows. Assumes nothing.
 use Rattle.integers.proofs.Prelude.{refl, sym, arith, needs}
 use Rattle.model.specs.Alist.{largest}
-use Rattle.exporter.specs.Lines.{Side}
+use Rattle.exporter.specs.Lines.{SideLists}
 use Rattle.exporter.proofs.Texts.{measured}
 use Rattle.exporter.proofs.Work.{long, bits-most, checks-most, entries-asked, side-columns, side-rows, text}
 use Rattle.exporter.proofs.measure_in.Statement.{statement}
@@ -23,7 +23,7 @@ column-entries-requires : tie.Need-column-entries-requires
 column-entries-requires c κs = let d = found c in entries-asked _ _ _ _ (start d .pre) _ (d .column-degrees .ensures)
 
 -- ---- and their entries
-sides-columns : (c : tie.After-column-entries) → Side (found (c .before) .column-degrees .last .1 .1 .0) (c .column-entries .last .1 .1 .1 .0)
+sides-columns : (c : tie.After-column-entries) → SideLists (found (c .before) .column-degrees .last .1 .1 .0) (c .column-entries .last .1 .1 .1 .0)
 sides-columns c = let d = found (c .before) in side-columns _ _ _ _ (start d .pre) _ (d .column-degrees .ensures) _ (c .column-entries .ensures)
 
 side-size-requires : tie.Need-side-size-requires

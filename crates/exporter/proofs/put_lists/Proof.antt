@@ -1,6 +1,6 @@
 -- `exporter::put_lists` meets its contract: the lines of the lists so far. Assumes nothing.
 use Rattle.integers.proofs.Prelude.{_≡_, refl, ap, ℕ, _-_, _≤_, arith, needs, length, take, take-all}
-use Rattle.lists.specs.Entries.{total}
+use Rattle.lists.specs.Entries.{sum}
 use Rattle.model.specs.Alist.{largest, textOf}
 use Rattle.text.specs.Appended.{Appended}
 use Rattle.text.proofs.Appended.{none, long, then}
@@ -11,7 +11,7 @@ use Rattle.exporter.proofs.put_lists.Tie as tie
 
 abbrev Inv-loop : tie.InvT-loop
 Inv-loop degrees entries text₀ at most next₀ first₀ i₀ i-end text next first i =
-    (i ≤ i-end) × (first ≡ total (λ d. d) (take i degrees)) × Appended at (filledText most (take i degrees) entries) text₀ text next
+    (i ≤ i-end) × (first ≡ sum (take i degrees)) × Appended at (filledText most (take i degrees) entries) text₀ text next
 
 abbrev μ-loop : tie.MeasureT-loop
 μ-loop degrees entries text₀ at most next₀ first₀ i₀ i-end text next first i = i-end - i

@@ -5,7 +5,7 @@ use Rattle.model.specs.Records.{checksIn}
 use Rattle.model.specs.Alist.{columnFrom}
 use Rattle.model.specs.AlistClaims.{joined}
 use Rattle.text.proofs.Appended.{then, front}
-use Rattle.exporter.specs.Lines.{Side, headText, listsText}
+use Rattle.exporter.specs.Lines.{SideLists, headText, listsText}
 use Rattle.exporter.proofs.Lines.{Room, room-here, room-next}
 use Rattle.exporter.proofs.Work.{bits-most, checks-most, some-bit, some-check, entries-asked, side-columns, side-rows, text, room}
 use Rattle.exporter.proofs.write_in.Statement.{statement}
@@ -66,7 +66,7 @@ module _ (c : tie.After-column-entries) where
   abbrev e : List ℕ
   e = c .column-entries .last .1 .1 .1 .0
 
-  columns-side : Side (d k) e
+  columns-side : SideLists (d k) e
   columns-side = side-columns _ _ _ _ (s k .pre .0) _ (k .column-degrees .ensures) _ (c .column-entries .ensures)
 
   -- after the head, whatever the entries of the rows are
@@ -91,7 +91,7 @@ module _ (c : tie.After-row-entries) where
   abbrev f : List ℕ
   f = c .row-entries .last .1 .1 .1 .0
 
-  rows-side : Side (rows (k n)) f
+  rows-side : SideLists (rows (k n)) f
   rows-side =
       side-rows _ _ _ _ (s (k n) .pre .0) _ (k n .column-degrees .ensures) _ (n .column-entries .ensures) _ (c .row-entries .ensures)
 

@@ -3,10 +3,11 @@ use Rattle.integers.proofs.Prelude.{_≡_, sym, ap, _∙_, List, _++_, ℕ, _+_
 use Rattle.integers.proofs.Prelude.{length-take-le, take-at}
 use lib.Seq.{length-front}
 use native.Mathlib.Nat.{mul-le-mul-left, mul-le-mul-right}
+use Rattle.lists.specs.Entries.{sum}
 use Rattle.numbers.specs.Walked.{from}
 use Rattle.numbers.proofs.Walk.{small-part}
 use Rattle.places.specs.declared.Window.{Window}
-use Rattle.places.specs.Counters.{mostCounters, Agrees, Tells, sum, Zeros, Inside}
+use Rattle.places.specs.Counters.{mostCounters, Agrees, Tells, Zeros, Inside}
 use Rattle.places.proofs.Counters.{zeros-take, zeros-back}
 use Rattle.places.proofs.Windows.{window-tells, list-past, wider, wide-part}
 use Rattle.places.proofs.band.Statement.{statement}

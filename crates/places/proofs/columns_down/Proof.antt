@@ -1,9 +1,10 @@
 -- `places::columns_down` meets its contract: the first numbers of the columns are counted down, block by block. Assumes nothing.
 use Rattle.integers.proofs.Prelude.{_≡_, refl, sym, _∙_, ℕ, _-_, _*_, _≤_, arith, needs, not-true, not-false, take}
 use native.Mathlib.Nat.{mul-le-mul}
+use Rattle.lists.specs.Entries.{sum}
 use Rattle.model.specs.Limits.{mostNumber}
 use Rattle.numbers.specs.Walked.{from}
-use Rattle.places.specs.Counters.{inColumns, More, sum}
+use Rattle.places.specs.Counters.{inColumns, More}
 use Rattle.places.proofs.Counters.{more-none, above-tells, end-tells, end-zeros}
 use Rattle.places.proofs.Blocks.{Reached, reached-none, reached-small, Next, next-block, down-block, above-block}
 use Rattle.places.proofs.columns_down.Statement.{statement}

@@ -1,9 +1,10 @@
 -- `places::rows_up` meets its contract: the first numbers of the rows are counted, block by block. Assumes nothing.
 use Rattle.integers.proofs.Prelude.{_≡_, refl, sym, List, ℕ, _+_, _-_, _*_, _≤_, arith, needs, take}
 use native.Mathlib.Nat.{mul-le-mul}
+use Rattle.lists.specs.Entries.{sum}
 use Rattle.model.specs.Limits.{mostNumber}
 use Rattle.numbers.specs.Walked.{from}
-use Rattle.places.specs.Counters.{inRows, More, sum}
+use Rattle.places.specs.Counters.{inRows, More}
 use Rattle.places.proofs.Counters.{zeros-sum, more-none}
 use Rattle.places.proofs.Blocks.{Reached, reached-none, reached-small, Next, next-block, room-rows, up-block}
 use Rattle.places.proofs.rows_up.Statement.{statement}

@@ -1,6 +1,6 @@
 -- `sides::column_entries` meets its contract: the columns among the checks so far stand where they begin. Assumes nothing.
 use Rattle.integers.proofs.Prelude.{_≡_, refl, ap, _∙_, _+_, _-_, _≤_, arith, needs, length, getD}
-use Rattle.lists.specs.Entries.{total}
+use Rattle.lists.specs.Entries.{sum}
 use Rattle.lists.proofs.Tabulated.{length-over}
 use Rattle.model.specs.Limits.{mostBits}
 use Rattle.model.specs.Records.{indices, judgeCheck}
@@ -26,7 +26,7 @@ abbrev μ-loop : tie.MeasureT-loop
 filled : (s : tie.Start Inv-loop μ-loop)
     → let a = s .args in
     length (a .entries .now) ≡ start (column (a .checks) (a .s .now)) (length (a .degrees .now))
-filled s = let a = s .args in s .pre .1 .1 .0 ∙ ap (total (λ d. d)) (s .pre .1 .0) ∙ start-end (length (a .degrees .now)) (column (a .checks) (a .s .now))
+filled s = let a = s .args in s .pre .1 .1 .0 ∙ ap sum (s .pre .1 .0) ∙ start-end (length (a .degrees .now)) (column (a .checks) (a .s .now))
 
 loop-holds : tie.Need-loop-holds Inv-loop μ-loop
 loop-holds c =
