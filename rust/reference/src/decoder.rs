@@ -4,7 +4,7 @@ use crate::cause::Cause;
 use crate::fault::Fault;
 use crate::iteration::{row_sums, Iterate, Problem};
 use crate::records::Code;
-use crate::run::run;
+use crate::run::{run, MOST_ITERATIONS};
 use crate::Reference;
 use interface::{DecodeAnswer, Lists, Settings};
 
@@ -18,7 +18,7 @@ impl Reference {
         let signed = self.has(Fault::SignedTolerance) && settings.tolerance > i32::MAX as u32;
         self.within(weight, 1, 65_535)
             && self.within(settings.ratio as usize, 0, 1_023)
-            && self.within(settings.limit as usize, 1, 1_000)
+            && self.within(settings.limit as usize, 1, MOST_ITERATIONS)
             && !signed
     }
 

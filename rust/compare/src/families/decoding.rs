@@ -60,11 +60,14 @@ fn grid() -> Vec<Case> {
     cases
 }
 
+/// K at the ends of its range, at the former end and beyond.
+const LIMITS: [u32; 10] = [0, 1, 2, 1_000, 1_001, 3_999, 4_000, 4_001, 65_537, u32::MAX];
+
 fn edge_settings() -> Vec<Case> {
     let mut cases = Vec::new();
     for weight in [0, 1, 65_535, 65_536, 65_537, u32::MAX] {
         for ratio in [0, 1_023, 1_024, 65_536, u32::MAX] {
-            for limit in [0, 1, 2, 1_000, 1_001, 65_537, u32::MAX] {
+            for limit in LIMITS {
                 let settings = Settings::new(weight, ratio, limit, u32::MAX);
                 cases.push(exact_case(&one_check(4), settings, vec![3, -2, 1, 5]));
             }

@@ -139,7 +139,7 @@ fn room() -> Vec<Case> {
 fn edge_settings() -> Vec<Case> {
     let mut cases = Vec::new();
     for field in 0..3 {
-        for number in [0u16, 1, 1_000, 1_001, 1_023, 1_024, 65_535] {
+        for number in [0u16, 1, 1_000, 1_001, 1_023, 1_024, 4_000, 4_001, 65_535] {
             let mut record = settings_record(LISTED);
             record[2 + 2 * field..4 + 2 * field].copy_from_slice(&number.to_be_bytes());
             for length in 0..=record.len() {
