@@ -56,7 +56,7 @@ faults! {
         AuxiliariesUndecided, HighestUndecided, SameWordEachTime, WordWrittenAlways,
         SplitBeforeJudged, ShortWordPassesUnwritten, SignedTolerance, WeightIn16Bits;
     ["decode", "frames"]:
-        FormerLimitJudged;
+        FormerLimitJudged, CutAtFormerLimit, RowsAtFormerBound;
     ["import"]:
         LeadingZerosRefused, NumbersIn16Bits, CountIn32Bits, NumbersAfterIgnored, TabSeparates,
         CarriageReturnSeparates, NulSeparates, SeparatorFirstRefused, NoSeparatorLastRefused,

@@ -44,6 +44,7 @@ fn limit(problem: &Problem) -> u32 {
     let limit = problem.settings.limit;
     match problem.reference.fault {
         Some(Fault::OneIterationMore) => limit + 1,
+        Some(Fault::CutAtFormerLimit) => limit.min(FORMER_MOST_ITERATIONS as u32),
         _ => limit,
     }
 }

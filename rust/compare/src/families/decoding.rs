@@ -24,13 +24,12 @@ pub fn families() -> Vec<Family> {
         Family::random("totals equal to the tolerance", 1_200, exact_tolerance),
         Family::random("runs on middle codes", 200, middle_run),
         Family::random("noisy codewords", 100, noisy_codeword),
-        Family::random("long runs", 100, long_run),
         Family::random("runs on large codes", 10, large_run),
         Family::listed("runs at the limits", limits),
     ]
 }
 
-fn exact_case(code: &Code, settings: Settings, costs: Vec<i16>) -> Case {
+pub fn exact_case(code: &Code, settings: Settings, costs: Vec<i16>) -> Case {
     Case::Decode(DecodeCase {
         code: records(code),
         settings,
@@ -155,14 +154,6 @@ fn noisy_codeword(random: &mut Random) -> Case {
     let tolerance = random.pick(&[10_000, 10_000_000]);
     let weight = random.pick(&[1_000, 8_000]);
     exact_case(&code, Settings::new(weight, 150, 200, tolerance), costs)
-}
-
-fn long_run(random: &mut Random) -> Case {
-    let mut draft = Draft::random(random, tiny_code);
-    draft.settings.limit = random.pick(&[999, 1_000, 1_000]);
-    draft.settings.tolerance = random.pick(&[0, 0, 1_000]);
-    draft.settings.weight = random.pick(&[300, 5_000, 65_535]);
-    draft.case(Entry::Decode)
 }
 
 fn large_run(random: &mut Random) -> Case {
