@@ -29,8 +29,8 @@ fn long_run(random: &mut Random) -> Case {
     draft.case(Entry::Decode)
 }
 
-/// A row that grows until the other checks give way, which settles late, or to the
-/// end. Few enough checks that the tuned rival takes part.
+/// A row that grows to the end, or until the other checks give way: the run then
+/// settles late. No bit lies in more checks than the tuned rival takes.
 fn strained_run(random: &mut Random) -> Case {
     let code = strained_code([0; 3].map(|_| random.between(4, 31)));
     let least = random.pick(&[20_000, 30_000, 32_767]);
@@ -60,7 +60,7 @@ fn longest_run(random: &mut Random) -> Case {
     exact_case(&code, Settings::new(weight, ratio, 4_000, 0), costs)
 }
 
-/// With few bits besides the crowded one these runs hardly ever settle.
+/// With these weights and ratios hardly any run settles.
 fn crowded_run(random: &mut Random) -> Case {
     let (checks, limit) = random.pick(&[(1_000, 4_000), (2_048, 1_001), (2_048, 2_000)]);
     let degree = random.pick(&[3, 3, 4, 6]);

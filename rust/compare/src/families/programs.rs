@@ -17,7 +17,7 @@ pub fn families() -> Vec<Family> {
         Family::listed("a bit in no check, cut at every byte", unused_bit),
         Family::listed("the program's room", room),
         Family::listed("a settings record of every edge", edge_settings),
-        Family::listed("a frame of every length", lengths),
+        Family::listed("frames at the limits of K", limits),
         Family::random("streams", 300, stream),
         Family::random("cut streams", 300, cut_stream),
         Family::random("damaged streams", 600, damaged_stream),
@@ -168,13 +168,11 @@ fn whole(code: &Code, settings: Settings, frames: &[Vec<i16>]) -> Case {
     Case::Frames { input }
 }
 
-/// Frames that go on to the limit, among them the longest, and one that does not.
-fn lengths() -> Vec<Case> {
-    let limits = [999, 1_000, 1_001, 3_999, 4_000];
-    let settings = limits.map(|limit| Settings::new(256, 0, limit, 0));
+/// Two frames that go on to the limit, and one between them that settles.
+fn limits() -> Vec<Case> {
     let frames = [[-20_000; 3], [20_000; 3], [-20_000; 3]].map(Vec::from);
-    let cases = settings.map(|settings| whole(&one_check(3), settings, &frames));
-    cases.into()
+    let case = |limit| whole(&one_check(3), Settings::new(256, 0, limit, 0), &frames);
+    [999, 1_000, 1_001, 3_999, 4_000].map(case).into()
 }
 
 /// Settings and a few frames for a code.
