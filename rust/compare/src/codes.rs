@@ -126,6 +126,26 @@ pub fn code_of(random: &mut Random, bits: usize, checks: usize, triples: usize) 
     }
 }
 
+/// A random code with one bit in all of its checks, each of this degree.
+pub fn crowded_code(random: &mut Random, bits: usize, checks: usize, degree: usize) -> Code {
+    let crowded = random.below(bits);
+    let mut others: Vec<usize> = (0..bits).filter(|&bit| bit != crowded).collect();
+    random.shuffle(&mut others);
+    let mut unused = others.clone();
+    let checks = (0..checks).map(|_| {
+        let mut check = BTreeSet::from([crowded]);
+        while check.len() < degree {
+            let bit = unused.pop().unwrap_or_else(|| random.pick(&others));
+            check.insert(bit);
+        }
+        check.into_iter().collect()
+    });
+    Code {
+        bits,
+        checks: checks.collect(),
+    }
+}
+
 /// Degrees of so many checks that have so many triples, none above the widest.
 fn random_degrees(random: &mut Random, widest: usize, checks: usize, triples: usize) -> Vec<usize> {
     let mut degrees = vec![3; checks];

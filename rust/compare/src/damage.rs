@@ -190,7 +190,7 @@ fn wrong_setting(random: &mut Random, draft: &mut Draft) {
     match random.below(3) {
         0 => draft.settings.weight = random.pick(&[0, 65_536, u32::MAX]),
         1 => draft.settings.ratio = random.pick(&[1_024, 65_536, u32::MAX]),
-        _ => draft.settings.limit = random.pick(&[0, 1_001, 65_537, u32::MAX]),
+        _ => draft.settings.limit = random.pick(&[0, 4_001, 65_537, u32::MAX]),
     }
 }
 

@@ -149,12 +149,21 @@ fn random_limit(random: &mut Random) -> u32 {
     random.between(1, most) as u32
 }
 
+/// A number from -`most` to `most`.
+fn signed(random: &mut Random, most: usize) -> i32 {
+    random.below(2 * most + 1) as i32 - most as i32
+}
+
+/// Costs of any size up to the most, for no word in particular.
+pub fn wild_costs(random: &mut Random, bits: usize, most: usize) -> Vec<i16> {
+    (0..bits).map(|_| signed(random, most) as i16).collect()
+}
+
 /// Costs of several kinds: noisy signs of a codeword, small ones for ties, and
 /// wild ones.
 pub fn random_costs(random: &mut Random, codeword: &[u8]) -> Vec<i16> {
     let kind = random.below(6);
     let strength = random.pick(&[3, 100, 3_000, 15_000]);
-    let signed = |random: &mut Random, most: usize| random.below(2 * most + 1) as i32 - most as i32;
     let cost = |random: &mut Random, bit: u8| {
         let sign = 1 - 2 * i32::from(bit);
         match kind {

@@ -15,6 +15,8 @@ pub mod random;
 pub mod reflection;
 pub mod reflections;
 pub mod round_trips;
+pub mod run_events;
+pub mod strained;
 pub mod tally;
 pub mod text;
 pub mod text_events;

@@ -82,6 +82,13 @@ impl Outcome {
         self
     }
 
+    /// The first entries of a lent list.
+    pub fn first(&self, name: &str, count: usize) -> &[i64] {
+        let mut lists = self.lists.iter();
+        let (_, entries) = lists.find(|(other, _)| *other == name).expect("a list");
+        &entries[MARGIN..MARGIN + count]
+    }
+
     /// The first difference from what was expected.
     pub fn difference(&self, expected: &Outcome) -> Option<String> {
         for ((name, found), (_, due)) in self.fields.iter().zip(&expected.fields) {

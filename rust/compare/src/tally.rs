@@ -3,9 +3,10 @@
 use crate::case::{Case, DecodeCase};
 use crate::families::seed;
 use crate::outcome::Outcome;
+use crate::run_events::{end_events, iteration_events, Largest, OF_RUNS};
 use crate::text_events::{pairs_against_texts, text_events, OF_TEXTS};
-use reference::iteration::{Iterate, Problem, Totals, UNIT};
-use reference::run::run;
+use reference::iteration::Problem;
+use reference::run::{run, MOST_ITERATIONS};
 use reference::SOUND;
 use std::collections::BTreeMap;
 
@@ -30,36 +31,19 @@ const KINDS: [(&str, &str); 13] = [
     ),
 ];
 
-/// What must happen in some run, and in some accepted import and export.
-const EVENTS: [(&str, &[&str]); 3] = [
+/// What must happen in some run, accepted import, accepted export and frame.
+const EVENTS: [(&str, &[&str]); 4] = [
     ("decode", &OF_RUNS),
     ("import", &OF_TEXTS),
     (
         "export",
         &["text in a longer list", "text in a list of its length"],
     ),
+    ("frames", &[LONGEST_FRAME]),
 ];
 
-const OF_RUNS: [&str; 18] = [
-    "half above zero",
-    "half below zero",
-    "limited above",
-    "limited below",
-    "auxiliary at zero",
-    "auxiliary off zero",
-    "multiplier above zero",
-    "row above 16 bits",
-    "total above 32 bits",
-    "total equal to the tolerance",
-    "total one above the tolerance",
-    "only slacks exceed",
-    "only multipliers exceed",
-    "settled before the limit",
-    "settled at the limit",
-    "not settled",
-    "place above zero",
-    "a thousand iterations",
-];
+/// A line whose k is the most that can be.
+const LONGEST_FRAME: &str = "frame of 4,000 iterations";
 
 /// Runs of more rows than this are not watched.
 const MOST_WATCHED: usize = 200_000;
@@ -68,6 +52,7 @@ const MOST_WATCHED: usize = 200_000;
 pub struct Tally {
     counts: BTreeMap<String, u64>,
     pub cases: u64,
+    largest: Option<Largest>,
 }
 
 impl Tally {
@@ -142,30 +127,25 @@ impl Tally {
                 &line[..1]
             };
             self.count(format!("frames {kind}"));
+            if line.split(' ').nth(1) == Some(&MOST_ITERATIONS.to_string()) {
+                self.count(LONGEST_FRAME);
+            }
         }
     }
 
     fn add_run(&mut self, case: &DecodeCase, outcome: &Outcome) {
-        let [number, place, k, settled] = [0, 1, 2, 3].map(|field| outcome.fields[field].1);
+        let [number, k] = [0, 2].map(|field| outcome.fields[field].1);
         if ![0, 16, 17].contains(&number) {
             return;
         }
-        let at_limit = k == case.settings.limit as usize;
-        self.count(match (settled == 1, at_limit) {
-            (true, false) => "settled before the limit",
-            (true, true) => "settled at the limit",
-            (false, _) => "not settled",
-        });
-        if place > 0 {
-            self.count("place above zero");
-        }
-        if k == 1_000 {
-            self.count("a thousand iterations");
-        }
         let code = SOUND.read_code(&case.code).expect("an accepted code");
+        let split = SOUND.split_code(&code);
+        let problem = Problem::new(SOUND, split, case.settings, &case.costs);
+        self.add_events(end_events(&problem, outcome));
+        let largest = self.largest.get_or_insert_default();
+        largest.add(&problem, outcome);
         if 4 * code.triples() * k <= MOST_WATCHED {
-            let split = SOUND.split_code(&code);
-            self.watch(&Problem::new(SOUND, split, case.settings, &case.costs));
+            self.watch(&problem);
         }
     }
 
@@ -173,11 +153,7 @@ impl Tally {
     fn watch(&mut self, problem: &Problem) {
         let mut met: BTreeMap<&str, bool> = BTreeMap::new();
         run(problem, &mut |iterate, totals| {
-            for (event, happens) in quotient_events(problem, iterate)
-                .into_iter()
-                .chain(row_events(iterate))
-                .chain(total_events(totals, problem.settings.tolerance.into()))
-            {
+            for (event, happens) in iteration_events(problem, iterate, totals) {
                 *met.entry(event).or_default() |= happens;
             }
         });
@@ -201,15 +177,15 @@ impl Tally {
         }
     }
 
-    /// The counts in one line.
+    /// The counts in one line, and of runs the largest sizes.
     pub fn summary(&self) -> String {
-        let counts: Vec<String> = self
-            .counts
-            .iter()
+        let counts = self.counts.iter();
+        let mut parts: Vec<String> = counts
             .map(|(what, count)| format!("{what}: {count}"))
             .collect();
-        let counts = counts.join(", ");
-        format!("seed {}, {} cases; {counts}", seed(), self.cases)
+        parts.extend(self.largest.map(|largest| largest.to_string()));
+        let parts = parts.join(", ");
+        format!("seed {}, {} cases; {parts}", seed(), self.cases)
     }
 }
 
@@ -230,46 +206,4 @@ fn of_entry(entry: &str) -> Vec<String> {
 
 fn is_accepted(outcome: &Outcome) -> bool {
     outcome.fields[0].1 == 0
-}
-
-fn quotient_events(problem: &Problem, iterate: &Iterate) -> [(&'static str, bool); 6] {
-    let is_half = |variable: usize, sign: i128| {
-        let dividend = sign * problem.dividend(variable, iterate.sums[variable]);
-        let divisor = problem.divisor(variable);
-        dividend > 0 && 2 * (dividend % divisor) == divisor
-    };
-    let beyond = |variable: usize, sign: i128| {
-        let dividend = sign * problem.dividend(variable, iterate.sums[variable]);
-        dividend > (i128::from(UNIT) + 1) * problem.divisor(variable)
-    };
-    let variables = 0..problem.split.variables();
-    let auxiliaries = &iterate.values[problem.split.bits..];
-    [
-        ("half above zero", variables.clone().any(|v| is_half(v, 1))),
-        ("half below zero", variables.clone().any(|v| is_half(v, -1))),
-        ("limited above", variables.clone().any(|v| beyond(v, 1))),
-        ("limited below", variables.clone().any(|v| beyond(v, -1))),
-        ("auxiliary at zero", auxiliaries.contains(&0)),
-        ("auxiliary off zero", auxiliaries.iter().any(|&c| c != 0)),
-    ]
-}
-
-fn row_events(iterate: &Iterate) -> [(&'static str, bool); 2] {
-    let rows = || iterate.rows.iter().flatten();
-    [
-        ("multiplier above zero", rows().any(|&s| s > 0)),
-        ("row above 16 bits", rows().any(|&s| s > 32_767)),
-    ]
-}
-
-fn total_events(totals: Totals, tolerance: i128) -> [(&'static str, bool); 5] {
-    let larger = totals.multipliers.max(totals.slacks);
-    let exceed = (totals.multipliers > tolerance, totals.slacks > tolerance);
-    [
-        ("total above 32 bits", larger > i128::from(u32::MAX)),
-        ("total equal to the tolerance", larger == tolerance),
-        ("total one above the tolerance", larger == tolerance + 1),
-        ("only slacks exceed", exceed == (false, true)),
-        ("only multipliers exceed", exceed == (true, false)),
-    ]
 }

@@ -2,9 +2,9 @@
 
 use crate::cause::Cause;
 use crate::fault::Fault;
-use crate::iteration::{row_sums, Iterate, Problem};
+use crate::iteration::{most_row, row_sums, Iterate, Problem, UNIT};
 use crate::records::Code;
-use crate::run::run;
+use crate::run::{run, MOST_ITERATIONS};
 use crate::Reference;
 use interface::{DecodeAnswer, Lists, Settings};
 
@@ -18,7 +18,7 @@ impl Reference {
         let signed = self.has(Fault::SignedTolerance) && settings.tolerance > i32::MAX as u32;
         self.within(weight, 1, 65_535)
             && self.within(settings.ratio as usize, 0, 1_023)
-            && self.within(settings.limit as usize, 1, 1_000)
+            && self.within(settings.limit as usize, 1, MOST_ITERATIONS)
             && !signed
     }
 
@@ -84,7 +84,9 @@ fn write_iterate(
     for (entry, &value) in values.iter_mut().zip(&last.values) {
         *entry = i16::try_from(value).expect("c lies in -U..U");
     }
+    let range = -4 * UNIT..=most_row(problem.settings.limit as usize);
     for (entry, &s) in rows.iter_mut().zip(last.rows.iter().flatten()) {
-        *entry = i32::try_from(s).expect("s lies in -65,536 .. 32,768 * K");
+        assert!(range.contains(&s), "s lies in -65,536 .. 32,768 * K");
+        *entry = i32::try_from(s).expect("this range fits");
     }
 }

@@ -2,6 +2,7 @@
 //! that a test can show that a comparison notices it.
 
 use crate::cause::Cause::{self, *};
+use crate::run::{FORMER_MOST_ITERATIONS, MOST_ITERATIONS};
 use crate::Reference;
 
 /// Defines the faults, and lists those with a place of their own in the
@@ -54,6 +55,8 @@ faults! {
         TotalsTogether, SumsOfNextIteration, NotSettledAtLimit, OneIterationMore,
         AuxiliariesUndecided, HighestUndecided, SameWordEachTime, WordWrittenAlways,
         SplitBeforeJudged, ShortWordPassesUnwritten, SignedTolerance, WeightIn16Bits;
+    ["decode", "frames"]:
+        FormerLimitJudged, CutAtFormerLimit, RowsAtFormerBound;
     ["import"]:
         LeadingZerosRefused, NumbersIn16Bits, CountIn32Bits, NumbersAfterIgnored, TabSeparates,
         CarriageReturnSeparates, NulSeparates, SeparatorFirstRefused, NoSeparatorLastRefused,
@@ -100,9 +103,9 @@ const OF_IMPORT: &[Cause] = &[
 const LIMITS: &[(&[&str], &[usize])] = &[
     (OF_RECORDS, &[3, 32, 2_048, 4_096, 8_192]),
     (OF_CHANNELS, &[32_767]),
-    (&["decode"], &[1_000, 1_023, 16_384, 65_535]),
+    (&["decode"], &[1_023, MOST_ITERATIONS, 16_384, 65_535]),
     (&["import"], &[3, 32, 2_048, 4_096, 8_192, 65_535]),
-    (&["frames"], &[32, 512, 1_000, 1_023, 1_024]),
+    (&["frames"], &[32, 512, 1_023, 1_024, MOST_ITERATIONS]),
 ];
 
 /// Causes that are judged together, in their order.
@@ -161,6 +164,7 @@ impl Reference {
         match self.fault {
             Some(Fault::OneMore(moved)) if moved == number => number + 1,
             Some(Fault::OneLess(moved)) if moved == number => number - 1,
+            Some(Fault::FormerLimitJudged) if number == MOST_ITERATIONS => FORMER_MOST_ITERATIONS,
             _ => number,
         }
     }

@@ -4,7 +4,7 @@ use crate::cause::Cause;
 use crate::fault::Fault;
 use crate::iteration::Problem;
 use crate::records::{Code, Reader};
-use crate::run::run;
+use crate::run::{run, MOST_ITERATIONS};
 use crate::Reference;
 use interface::Settings;
 
@@ -83,7 +83,7 @@ fn settings_record(reader: &mut Reader) -> Result<Settings, Cause> {
     Ok(Settings {
         weight: reader.number_within(2, (1, 65_535), Cause::Setting)? as u32,
         ratio: reader.number_within(2, (0, 1_023), Cause::Setting)? as u32,
-        limit: reader.number_within(2, (1, 1_000), Cause::Setting)? as u32,
+        limit: reader.number_within(2, (1, MOST_ITERATIONS), Cause::Setting)? as u32,
         tolerance: reader.number(4)?,
     })
 }

@@ -2,12 +2,18 @@
 
 use crate::fault::Fault;
 use crate::quotient::limited;
+use crate::run::FORMER_MOST_ITERATIONS;
 use crate::splitting::Split;
 use crate::Reference;
 use interface::Settings;
 
 /// The centred value of a 1.
 pub const UNIT: i64 = 16_384;
+
+/// What no s exceeds after so many iterations: each adds at most 2U.
+pub const fn most_row(iterations: usize) -> i64 {
+    2 * UNIT * iterations as i64
+}
 
 /// The signs of a triple's three variables in its four rows.
 pub const SIGNS: [[i64; 3]; 4] = [[1, -1, -1], [-1, 1, -1], [-1, -1, 1], [1, 1, 1]];
@@ -141,6 +147,9 @@ fn renewed_rows(problem: &Problem, old: &[[i64; 4]], values: &[i64]) -> Vec<[i64
             let sum = reference.narrowed(sum, Fault::TripleSumsIn16Bits);
             *s = multiplier(*s) + sum - UNIT;
             *s = reference.narrowed(*s, Fault::RowsIn16Bits);
+            if reference.has(Fault::RowsAtFormerBound) {
+                *s = (*s).min(most_row(FORMER_MOST_ITERATIONS));
+            }
         }
     }
     rows

@@ -6,6 +6,12 @@ use crate::iteration::{iterate, start, Iterate, Problem, Totals};
 use crate::records::Code;
 use crate::Reference;
 
+/// The most iterations of a run: K is at most this.
+pub const MOST_ITERATIONS: usize = 4_000;
+
+/// What it was before request L2 of document 02.
+pub const FORMER_MOST_ITERATIONS: usize = 1_000;
+
 /// How a run ended.
 #[derive(Clone, Debug, PartialEq, Eq)]
 pub struct End {
@@ -16,7 +22,7 @@ pub struct End {
 
 /// Runs to the end and shows each iteration to `watch`.
 pub fn run(problem: &Problem, watch: &mut dyn FnMut(&Iterate, Totals)) -> End {
-    let more = u32::from(problem.reference.has(Fault::OneIterationMore));
+    let limit = limit(problem);
     let mut last = start(problem);
     let mut k = 0;
     loop {
@@ -24,12 +30,22 @@ pub fn run(problem: &Problem, watch: &mut dyn FnMut(&Iterate, Totals)) -> End {
         last = next;
         k += 1;
         watch(&last, totals);
-        let at_limit = k >= problem.settings.limit + more;
+        let at_limit = k >= limit;
         let ignored = at_limit && problem.reference.has(Fault::NotSettledAtLimit);
         let settled = within(problem, totals) && !ignored;
         if settled || at_limit {
             return End { last, k, settled };
         }
+    }
+}
+
+/// The iteration after which the run stops, settled or not.
+fn limit(problem: &Problem) -> u32 {
+    let limit = problem.settings.limit;
+    match problem.reference.fault {
+        Some(Fault::OneIterationMore) => limit + 1,
+        Some(Fault::CutAtFormerLimit) => limit.min(FORMER_MOST_ITERATIONS as u32),
+        _ => limit,
     }
 }
 

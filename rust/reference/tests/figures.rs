@@ -1,4 +1,5 @@
-//! Every figure that document 01 prints.
+//! Every figure that document 01 prints, with the limit of K that document 02's
+//! request L2 gives it.
 
 mod common;
 
@@ -118,8 +119,10 @@ fn settings_at_the_edges() {
         (1_024, 1, 11),
         (0, 1, 0),
         (0, 1_000, 0),
+        (0, 1_001, 0),
+        (0, 4_000, 0),
         (0, 0, 11),
-        (0, 1_001, 11),
+        (0, 4_001, 11),
     ] {
         let costs = [20_000; 3];
         let (answer, _) = decode_small(Settings::new(65_535, ratio, limit, 0), costs);

@@ -74,10 +74,10 @@ fn settings_are_judged_one_by_one() {
     assert_eq!(after_small(&[&[0x4C, 0x53, 0, 1, 4, 0]]), "R 11\n");
     assert_eq!(after_small(&[&[0x4C, 0x53, 0, 1, 4]]), "R 1\n");
     assert_eq!(after_small(&[&[0x4C, 0x53, 0, 1, 3, 255, 0, 0]]), "R 11\n");
-    assert_eq!(
-        after_small(&[&[0x4C, 0x53, 0, 1, 3, 255, 3, 0xE9]]),
-        "R 11\n"
-    );
+    for (limit, expected) in [(1_000, "R 1\n"), (4_000, "R 1\n"), (4_001, "R 11\n")] {
+        let fields = [[0x4C, 0x53], [0, 1], [3, 255], two(limit)].concat();
+        assert_eq!(after_small(&[&fields]), expected);
+    }
     assert_eq!(after_small(&[&SETTINGS[..11]]), "R 1\n");
 }
 

@@ -24,13 +24,12 @@ pub fn families() -> Vec<Family> {
         Family::random("totals equal to the tolerance", 1_200, exact_tolerance),
         Family::random("runs on middle codes", 200, middle_run),
         Family::random("noisy codewords", 100, noisy_codeword),
-        Family::random("long runs", 100, long_run),
         Family::random("runs on large codes", 10, large_run),
         Family::listed("runs at the limits", limits),
     ]
 }
 
-fn exact_case(code: &Code, settings: Settings, costs: Vec<i16>) -> Case {
+pub fn exact_case(code: &Code, settings: Settings, costs: Vec<i16>) -> Case {
     Case::Decode(DecodeCase {
         code: records(code),
         settings,
@@ -60,11 +59,14 @@ fn grid() -> Vec<Case> {
     cases
 }
 
+/// K at the ends of its range, at the former end and beyond.
+const LIMITS: [u32; 10] = [0, 1, 2, 1_000, 1_001, 3_999, 4_000, 4_001, 65_537, u32::MAX];
+
 fn edge_settings() -> Vec<Case> {
     let mut cases = Vec::new();
     for weight in [0, 1, 65_535, 65_536, 65_537, u32::MAX] {
         for ratio in [0, 1_023, 1_024, 65_536, u32::MAX] {
-            for limit in [0, 1, 2, 1_000, 1_001, 65_537, u32::MAX] {
+            for limit in LIMITS {
                 let settings = Settings::new(weight, ratio, limit, u32::MAX);
                 cases.push(exact_case(&one_check(4), settings, vec![3, -2, 1, 5]));
             }
@@ -152,14 +154,6 @@ fn noisy_codeword(random: &mut Random) -> Case {
     let tolerance = random.pick(&[10_000, 10_000_000]);
     let weight = random.pick(&[1_000, 8_000]);
     exact_case(&code, Settings::new(weight, 150, 200, tolerance), costs)
-}
-
-fn long_run(random: &mut Random) -> Case {
-    let mut draft = Draft::random(random, tiny_code);
-    draft.settings.limit = random.pick(&[999, 1_000, 1_000]);
-    draft.settings.tolerance = random.pick(&[0, 0, 1_000]);
-    draft.settings.weight = random.pick(&[300, 5_000, 65_535]);
-    draft.case(Entry::Decode)
 }
 
 fn large_run(random: &mut Random) -> Case {

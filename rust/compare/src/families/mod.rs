@@ -4,6 +4,7 @@ mod channels;
 mod decoding;
 mod exports;
 mod imports;
+mod long_runs;
 mod programs;
 mod records;
 mod small_texts;
@@ -104,6 +105,7 @@ pub fn calls() -> Vec<Family> {
     families.extend(words::families());
     families.extend(channels::families());
     families.extend(decoding::families());
+    families.extend(long_runs::families());
     families
 }
 

@@ -5,8 +5,9 @@ use crate::case::Case;
 use crate::codes::{code_of, code_within, one_check, records, tiny_code, Code};
 use crate::codewords::Codewords;
 use crate::damage::{apply, damages_of};
-use crate::draft::{random_costs, random_settings, Draft, Entry};
+use crate::draft::{random_costs, random_settings, wild_costs, Draft, Entry};
 use crate::random::Random;
+use crate::strained::{strained_code, straining_costs};
 use interface::Settings;
 
 pub fn families() -> Vec<Family> {
@@ -16,12 +17,15 @@ pub fn families() -> Vec<Family> {
         Family::listed("a bit in no check, cut at every byte", unused_bit),
         Family::listed("the program's room", room),
         Family::listed("a settings record of every edge", edge_settings),
+        Family::listed("frames at the limits of K", limits),
         Family::random("streams", 300, stream),
         Family::random("cut streams", 300, cut_stream),
         Family::random("damaged streams", 600, damaged_stream),
         Family::random("streams with damaged records", 400, damaged_records),
         Family::random("large streams", 20, large_stream),
         Family::random("long streams", 4, long_stream),
+        Family::random("frames of four thousand iterations", 6, longest_frames),
+        Family::random("frames with a check under strain", 6, strained_frames),
     ]
 }
 
@@ -139,7 +143,7 @@ fn room() -> Vec<Case> {
 fn edge_settings() -> Vec<Case> {
     let mut cases = Vec::new();
     for field in 0..3 {
-        for number in [0u16, 1, 1_000, 1_001, 1_023, 1_024, 65_535] {
+        for number in [0u16, 1, 1_000, 1_001, 1_023, 1_024, 4_000, 4_001, 65_535] {
             let mut record = settings_record(LISTED);
             record[2 + 2 * field..4 + 2 * field].copy_from_slice(&number.to_be_bytes());
             for length in 0..=record.len() {
@@ -154,6 +158,21 @@ fn edge_settings() -> Vec<Case> {
         cases.push(Case::Frames { input });
     }
     cases
+}
+
+/// The input of a code, settings and frames.
+fn whole(code: &Code, settings: Settings, frames: &[Vec<i16>]) -> Case {
+    let mut input = records(code);
+    input.extend(settings_record(settings));
+    input.extend(frames.iter().flat_map(|costs| frame_record(costs)));
+    Case::Frames { input }
+}
+
+/// Two frames that go on to the limit, and one between them that settles.
+fn limits() -> Vec<Case> {
+    let frames = [[-20_000; 3], [20_000; 3], [-20_000; 3]].map(Vec::from);
+    let case = |limit| whole(&one_check(3), Settings::new(256, 0, limit, 0), &frames);
+    [999, 1_000, 1_001, 3_999, 4_000].map(case).into()
 }
 
 /// Settings and a few frames for a code.
@@ -241,4 +260,22 @@ fn long_stream(random: &mut Random) -> Case {
     let after = settings_and_frames(random, &code, count);
     let input = [records(&code), after].concat();
     Case::Frames { input }
+}
+
+/// Weak costs: hardly any of these frames settles.
+fn longest_frames(random: &mut Random) -> Case {
+    let code = tiny_code(random);
+    let count = random.between(1, 3);
+    let frames: Vec<_> = (0..count)
+        .map(|_| wild_costs(random, code.bits, 300))
+        .collect();
+    whole(&code, Settings::new(16, 0, 4_000, 0), &frames)
+}
+
+/// Rows beyond what 1,000 iterations reach.
+fn strained_frames(random: &mut Random) -> Case {
+    let code = strained_code([0; 3].map(|_| random.between(4, 20)));
+    let frames = [20_000, 32_767].map(|least| straining_costs(random, &code, least));
+    let ratio = random.pick(&[0, 150, 1_023]);
+    whole(&code, Settings::new(65_535, ratio, 4_000, 0), &frames)
 }

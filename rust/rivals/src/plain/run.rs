@@ -72,7 +72,7 @@ fn in_range(settings: Settings) -> bool {
         limit,
         ..
     } = settings;
-    weight != 0 && weight <= 65535 && ratio <= 1023 && limit != 0 && limit <= 1000
+    weight != 0 && weight <= 65535 && ratio <= 1023 && limit != 0 && limit <= 4000
 }
 
 /// The run on accepted input, and the word if there is one.

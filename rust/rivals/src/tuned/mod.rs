@@ -1,6 +1,11 @@
 //! The tuned rival: four checks at a time in the lanes of SSE2, floats that
 //! hold whole numbers exactly, a reciprocal instead of a division, and totals
 //! only until one of them exceeds the tolerance.
+//!
+//! It is exact in all runs. The floats hold sizes up to 2^24, and before
+//! an S could exceed that the plain rival goes on with the run. Its rows of 32 bits
+//! and sums of 64 hold what 4,000 iterations can reach: s up to 131,072,000, S below
+//! 2^40, and 256 S + W L below 2^48.
 
 mod bits;
 mod checks;
@@ -63,4 +68,21 @@ fn run_tuned(task: &Task, state: &mut State) -> (u32, bool) {
 /// s is larger, and grows by at most 32,768.
 fn safe_iterations(count: usize, largest: usize) -> usize {
     (EXACT / (2 * count)).saturating_sub(largest) / 32768
+}
+
+#[cfg(test)]
+mod tests {
+    use super::{safe_iterations, EXACT, MOST_COUNT};
+
+    #[test]
+    fn every_sum_stays_exact() {
+        for count in 2..=MOST_COUNT {
+            for largest in [65_536, 98_304, 262_143, 4_000_000, 131_072_000] {
+                let safe = safe_iterations(count, largest);
+                assert!(safe == 0 || 2 * count * (largest + 32_768 * safe) <= EXACT);
+            }
+            assert!(safe_iterations(count, 65_536) > 0);
+            assert_eq!(safe_iterations(count, 131_072_000), 0);
+        }
+    }
 }

@@ -30,7 +30,8 @@ pub struct Work<'a> {
 /// 1 / divisor, larger by so little that halves round away from zero and
 /// nothing else changes: by a part of 2^-16 / divisor. A quotient that is no
 /// half lies at least 1 / (2 * divisor) from one, and all other errors are
-/// below 2^-18 / divisor, for divisors up to 2^15 and quotients up to 2^14.
+/// below 2^-18 / divisor, for divisors up to 2^15, quotients up to 2^14, and S up to
+/// 2^24, whatever part of the dividend the cost takes back.
 pub fn reciprocal(divisor: f64) -> f64 {
     (1.0 + 1.0 / (65536.0 * divisor)) / divisor
 }
