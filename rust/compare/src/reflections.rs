@@ -4,6 +4,7 @@ use crate::codes::{code_within, regular_code, small_code, tiny_code, training_co
 use crate::random::Random;
 use crate::reflection::Reflection;
 use interface::{Decoder, Library};
+use reference::run::MOST_ITERATIONS;
 use std::collections::BTreeMap;
 
 /// How often each outcome was reflected by a codeword that is not all 0.
@@ -34,8 +35,10 @@ pub fn check_reflections(decoder: &dyn Decoder, library: &dyn Library) -> Result
         };
         let mut reflection = Reflection::random(&mut random, code);
         let limit = reflection.settings.limit;
-        // Stops the run after each of its first iterations and at its limit.
-        for stop in (1..=limit.min(5)).chain([limit]) {
+        let longest = random.once_in(30).then_some(MOST_ITERATIONS as u32);
+        // Stops the run after each of its first iterations, at its limit, and now and then
+        // as late as can be.
+        for stop in (1..=limit.min(5)).chain([limit]).chain(longest) {
             reflection.settings.limit = stop;
             let number = reflection
                 .check(decoder, library)
