@@ -5,7 +5,9 @@ use interface::{DecodeAnswer, Decoder, OwnLists};
 use rivals::{Plain, Tuned};
 use std::time::Instant;
 
-const ROUNDS: usize = 15;
+/// Rounds, and those of scenarios that take long.
+pub const ROUNDS: usize = 15;
+pub const FEW_ROUNDS: usize = 5;
 
 pub struct Contest {
     decoders: Vec<(&'static str, Box<dyn Decoder>)>,
@@ -52,12 +54,12 @@ impl Contest {
     }
 
     /// Checks that all decoders agree, then measures them in turn.
-    pub fn run(&mut self, scenario: &Scenario) -> ContestResult {
+    pub fn run(&mut self, scenario: &Scenario, rounds: usize) -> ContestResult {
         let mut result = self.agreed(scenario);
         let mut lent = lists(scenario);
         let frames = scenario.frames.len();
         let mut times = vec![vec![Vec::new(); frames]; self.decoders.len()];
-        for _ in 0..ROUNDS {
+        for _ in 0..rounds {
             for ((_, decoder), times) in self.decoders.iter().zip(&mut times) {
                 for (frame, times) in times.iter_mut().enumerate() {
                     let start = Instant::now();
@@ -71,7 +73,7 @@ impl Contest {
             for times in times {
                 times.sort_by(f64::total_cmp);
                 sums.0 += times[0];
-                sums.1 += times[ROUNDS / 2];
+                sums.1 += times[rounds / 2];
             }
             result.seconds.push(sums);
         }

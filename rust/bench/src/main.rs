@@ -10,7 +10,7 @@ mod report;
 mod scenario;
 mod texts;
 
-use contest::Contest;
+use contest::{Contest, FEW_ROUNDS, ROUNDS};
 use conversion::{Conversions, Task};
 use std::env;
 use std::process::ExitCode;
@@ -20,13 +20,22 @@ fn decoders() {
     report::settings();
     report::heading(contest.names());
     for scenario in scenario::all() {
-        let result = contest.run(&scenario);
+        let result = contest.run(&scenario, ROUNDS);
         report::line(&scenario, &result);
     }
     report::growth_heading(contest.names());
     for scenario in scenario::growing() {
-        let result = contest.run(&scenario);
+        let result = contest.run(&scenario, ROUNDS);
         report::growth_line(&scenario, &result);
+    }
+}
+
+fn longest() {
+    let mut contest = Contest::new();
+    report::longest_heading(contest.names());
+    for scenario in scenario::longest() {
+        let result = contest.run(&scenario, FEW_ROUNDS);
+        report::longest_line(&scenario, &result);
     }
 }
 
@@ -46,12 +55,14 @@ fn main() -> ExitCode {
     match env::args().nth(1).as_deref() {
         None => {
             decoders();
+            longest();
             conversions();
         }
         Some("decoders") => decoders(),
+        Some("longest") => longest(),
         Some("alist") => conversions(),
         Some(_) => {
-            eprintln!("usage: bench [decoders|alist]");
+            eprintln!("usage: bench [decoders|longest|alist]");
             return ExitCode::FAILURE;
         }
     }

@@ -61,7 +61,7 @@ pub fn line(scenario: &Scenario, result: &ContestResult) {
         scenario.code.bits,
         scenario.code.triples(),
         scenario.name,
-        scenario.decibels,
+        scenario.decibels.unwrap_or_default(),
         result.iterations as f64 / frames as f64,
         result.settled,
         result.right,
@@ -95,6 +95,31 @@ pub fn growth_line(scenario: &Scenario, result: &ContestResult) {
         numbers(times.clone().map(|least| 1e6 * least / frames), 9, 1),
         "",
         numbers(times.map(|least| per_triple(scenario, result, least)), 8, 2),
+    );
+}
+
+pub fn longest_heading(names: Vec<&str>) {
+    let ratios = ratio_names(&names);
+    let ratios: Vec<&str> = ratios.iter().map(String::as_str).collect();
+    println!();
+    println!(
+        "The longest accepted calls:\n   n     T frame                     k | ms a call: {} | {}",
+        columns(&names, 8),
+        columns(&ratios, 13),
+    );
+}
+
+pub fn longest_line(scenario: &Scenario, result: &ContestResult) {
+    let times = result.seconds.iter().map(|(least, _)| 1e3 * least);
+    println!(
+        "{:>4} {:>5} {:<22} {:>4} | {:10} {} | {}",
+        scenario.code.bits,
+        scenario.code.triples(),
+        scenario.name,
+        result.iterations,
+        "",
+        numbers(times, 8, 0),
+        ratios(result),
     );
 }
 

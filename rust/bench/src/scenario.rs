@@ -1,9 +1,11 @@
 //! Codes and frames to decode.
 
-use crate::places::regular;
-use compare::codes::{records, training_code, Code};
+use crate::places::{largest_code, regular};
+use compare::codes::{code_of, records, training_code, Code};
+use compare::draft::wild_costs;
 use compare::random::Random;
 use interface::{Channel, Library, Settings};
+use reference::run::MOST_ITERATIONS;
 use reference::SOUND;
 
 /// The scale from samples of size 1 to costs.
@@ -18,8 +20,8 @@ pub struct Scenario {
     pub name: &'static str,
     pub code: Code,
     pub records: Vec<u8>,
-    /// Signal to noise, in decibels a bit of information.
-    pub decibels: f64,
+    /// Signal to noise, in decibels a bit of information, where the frames are noise.
+    pub decibels: Option<f64>,
     pub settings: Settings,
     pub frames: Vec<Vec<i16>>,
 }
@@ -36,8 +38,20 @@ impl Scenario {
                 .map(|_| frame(&mut random, code.bits, noise))
                 .collect(),
             code,
-            decibels,
+            decibels: Some(decibels),
             settings: SETTINGS,
+        }
+    }
+
+    /// One frame, which does not settle within the most iterations that can be asked for.
+    fn longest(name: &'static str, code: Code, weight: u32, costs: Vec<i16>) -> Scenario {
+        Scenario {
+            name,
+            records: records(&code),
+            frames: vec![costs],
+            code,
+            decibels: None,
+            settings: Settings::new(weight, 0, MOST_ITERATIONS as u32, 0),
         }
     }
 }
@@ -76,4 +90,29 @@ pub fn growing() -> Vec<Scenario> {
         scenario
     };
     lengths.map(scenario).into()
+}
+
+/// Codes of as many triples as can be, whose frames take the most iterations.
+pub fn longest() -> Vec<Scenario> {
+    let mut random = Random::new(SEED);
+    let wild = |name, code: Code, random: &mut Random| {
+        let costs = wild_costs(random, code.bits, 32_767);
+        Scenario::longest(name, code, 65_535, costs)
+    };
+    vec![
+        wild("regular", regular(4_096), &mut random),
+        wild("a bit in all checks", largest_code(), &mut random),
+        unsettled_check("first check unsettled", 0),
+        unsettled_check("last check unsettled", 2_047),
+    ]
+}
+
+/// The three bits of one check, at this place, never settle, all others do at once: how
+/// long a total takes depends on the place.
+fn unsettled_check(name: &'static str, place: usize) -> Scenario {
+    let mut code = code_of(&mut Random::new(SEED), 4_093, 2_047, 8_191);
+    code.checks.insert(place, vec![4_093, 4_094, 4_095]);
+    code.bits = 4_096;
+    let costs = [vec![0; 4_093], vec![-20_000; 3]].concat();
+    Scenario::longest(name, code, 256, costs)
 }
