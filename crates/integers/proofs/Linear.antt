@@ -208,10 +208,6 @@ abs-mul (pos n) (negsuc m) = abs-neg (pos (n * suc m))
 abs-mul (negsuc n) (pos m) = abs-neg (pos (suc n * m))
 abs-mul (negsuc n) (negsuc m) = refl
 
-pub square-abs : (a : ℤ) → a *ℤ a ≡ pos (natAbs a * natAbs a)
-square-abs (pos n) = refl
-square-abs (negsuc n) = refl
-
 pub abs-add : (a b : ℤ) → natAbs (a +ℤ b) ≤ natAbs a + natAbs b
 abs-add a b = omega (arith, about a, about b, about-sum a b, about (a +ℤ b))
 

@@ -62,6 +62,10 @@ unsigned w n b t h = record { is = toZ-pos w (lt-of-le-of-lt h (ltb→lt b (2 ^ 
 pub param : (w : Width) (z : ℤ) (b : ℕ) → T (ltb b (2 ^ hbits w)) → natAbs z ≤ b → Worth (toZ w (ofZ w z)) z b
 param w z b t h = stored (record { is = refl; within = h }) w t
 
+-- and one of which only the width is known
+pub read : (w : Width) {z : ℤ} → SFits w z → Worth (toZ w (ofZ w z)) z (2 ^ hbits w)
+read w h = record { is = toZ-ofZ h; within = abs-fits h }
+
 pub literal : (z : ℤ) → Worth z z (natAbs z)
 literal z = record { is = refl; within = omega arith }
 

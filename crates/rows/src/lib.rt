@@ -127,11 +127,13 @@ pub fn renewed_rows(s: [i32; 4], sums: [i32; 4]) -> [i32; 4]
 
 // ---- the squares of the changes
 
-fn square(x: i64) -> u64
-    requires { ⌜ natAbs x ≤ 2 * mostRow ⌝ }
+// Of the size of x: in lanes a product of numbers without a sign is one instruction.
+fn square(x: i32) -> u64
+    requires { ⌜ natAbs x ≤ mostRow ⌝ }
     ensures { λ n. ⌜ n ≡ natAbs x * natAbs x ⌝ }
 {
-    (x * x) as u64
+    let magnitude = size(x) as u64;
+    magnitude * magnitude
 }
 
 // The square of the change from the part of a above 0 to that of b.
@@ -139,7 +141,7 @@ fn change(a: i32, b: i32) -> u64
     requires { ⌜ (natAbs a ≤ mostRow) × (natAbs b ≤ mostRow) ⌝ }
     ensures { λ n. ⌜ n ≡ squareOfChange (multiplier a) (multiplier b) ⌝ }
 {
-    square(slices::i32_to_i64(positive(b)) - slices::i32_to_i64(positive(a)))
+    square(positive(b) - positive(a))
 }
 
 // Of one side of row r: with 1 the change of its multiplier, with -1 that of its slack, which is the multiplier of the row's negative.

@@ -19,12 +19,6 @@ pub fn index(x: u16) -> usize
     x as usize
 }
 
-pub fn i32_to_i64(x: i32) -> i64
-    ensures { λ r. ⌜ r ≡ x ⌝ }
-{
-    x as i64
-}
-
 // ---- zeros
 
 pub fn clear_u16(l: &mut [u16])

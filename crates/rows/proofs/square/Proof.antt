@@ -1,22 +1,28 @@
 -- `rows::square` meets its contract. Assumes nothing.
-use Rattle.integers.proofs.Prelude.{ap, _*_, arith, pos, natAbs, _*ℤ_, w64, toZ, ofZ}
-use Rattle.integers.proofs.Machine.{Worth, fits, stored, param, also, times}
-use Rattle.integers.proofs.Linear.{square-abs}
+use Rattle.integers.proofs.Prelude.{_≡_, ap, _∙_, _+_, arith, needs, ℤ, pos, natAbs, w32, toZ, ofZ}
+use native.Mathlib.Nat.{mul-le-mul}
+use Rattle.integers.proofs.Machine.{param, read-back}
+use Rattle.integers.proofs.Linear.{about}
 use Rattle.model.specs.Limits.{mostRow}
+use Rattle.model.specs.Iteration.{slack, multiplier}
 use Rattle.rows.proofs.square.Statement.{statement}
 use Rattle.rows.proofs.square.Tie as tie
 
-value : (s : tie.Start) → Worth (toZ w64 (ofZ w64 (s .args .x)) *ℤ toZ w64 (ofZ w64 (s .args .x))) (pos (natAbs (s .args .x) * natAbs (s .args .x))) (2 * mostRow * (2 * mostRow))
-value s =
-    let x = param w64 (s .args .x) (2 * mostRow) tt (s .pre) in
-    also (times x x) (square-abs (s .args .x))
+-- the size is the magnitude
+magnitude : (c : tie.After-size) → toZ w32 (ofZ w32 (c .size .result)) ≡ pos (natAbs (c .before .args .x))
+magnitude c =
+    let s = c .before in
+    read-back w32 (c .size .ok) (c .size .ensures ∙ ap (λ (z : ℤ). pos (slack z + multiplier z)) (param w32 (s .args .x) mostRow tt (s .pre) .is)
+    ∙ ap pos (omega (arith, about (s .args .x))))
 
-cast-result : tie.Need-cast-result
-cast-result c = rw (stored (value c) w64 tt .is) (tt, record { fits = omega (arith, value c .within) })
+cast-magnitude : tie.Need-cast-magnitude
+cast-magnitude c = rw (magnitude c) (tt, record { fits = omega (arith, c .before .pre) })
+
+mul-result : tie.Need-mul-result
+mul-result c = rw (magnitude c) (record { fits = omega (arith, mul-le-mul (c .before .pre) (c .before .pre)) })
 
 returns : tie.Need-returns
-returns c = ap natAbs (stored (value c) w64 tt .is)
+returns c = rw (magnitude c)
 
 pub square-spec : {M : Type 1} → statement M
-square-spec =
-    tie.close (tie.spec (λ c. fits (value c) w64 tt) cast-result returns)
+square-spec = tie.close (tie.spec (λ c κs. search needs) cast-magnitude mul-result returns)

@@ -1,9 +1,8 @@
 -- `sums::add` meets its contract. Assumes nothing.
 use Rattle.integers.proofs.Prelude.{ap, _∙_, _+_, _^_, _<_, arith, needs, ℤ, pos, _+ℤ_, length, set, w32, w64, toZ, ofZ}
-use Rattle.integers.proofs.Machine.{Worth, fits, stored, param, plus}
+use Rattle.integers.proofs.Machine.{Worth, fits, stored, param, read, plus}
 use Rattle.lists.proofs.Tabulated.{length-tab, getD-tab}
 use Rattle.model.specs.Iteration.{at}
-use Rattle.slices.proofs.Wider.{read}
 use Rattle.sums.proofs.Sums.{increased}
 use Rattle.sums.proofs.add.Statement.{statement}
 use Rattle.sums.proofs.add.Tie as tie
