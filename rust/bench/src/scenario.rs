@@ -1,7 +1,7 @@
 //! Codes and frames to decode.
 
-use crate::places::{largest_code, regular};
-use compare::codes::{code_of, records, training_code, Code};
+use crate::places::regular;
+use compare::codes::{code_of, crowded_code, records, training_code, Code};
 use compare::draft::wild_costs;
 use compare::random::Random;
 use interface::{Channel, Library, Settings};
@@ -44,14 +44,15 @@ impl Scenario {
     }
 
     /// One frame, which does not settle within the most iterations that can be asked for.
-    fn longest(name: &'static str, code: Code, weight: u32, costs: Vec<i16>) -> Scenario {
+    fn longest(name: &'static str, code: Code, run: (u32, u32), costs: Vec<i16>) -> Scenario {
+        let (weight, ratio) = run;
         Scenario {
             name,
             records: records(&code),
             frames: vec![costs],
             code,
             decibels: None,
-            settings: Settings::new(weight, 0, MOST_ITERATIONS as u32, 0),
+            settings: Settings::new(weight, ratio, MOST_ITERATIONS as u32, 0),
         }
     }
 }
@@ -94,14 +95,15 @@ pub fn growing() -> Vec<Scenario> {
 
 /// Codes of as many triples as can be, whose frames take the most iterations.
 pub fn longest() -> Vec<Scenario> {
-    let mut random = Random::new(SEED);
-    let wild = |name, code: Code, random: &mut Random| {
-        let costs = wild_costs(random, code.bits, 32_767);
-        Scenario::longest(name, code, 65_535, costs)
+    let random = &mut Random::new(SEED);
+    let crowded = crowded_code(random, 4_096, 2_048, 6);
+    let mut wild = |name, code, ratio| {
+        let costs = wild_costs(random, 4_096, 32_767);
+        Scenario::longest(name, code, (65_535, ratio), costs)
     };
     vec![
-        wild("regular", regular(4_096), &mut random),
-        wild("a bit in all checks", largest_code(), &mut random),
+        wild("regular", regular(4_096), 1_023),
+        wild("a bit in all checks", crowded, 0),
         unsettled_check("first check unsettled", 0),
         unsettled_check("last check unsettled", 2_047),
     ]
@@ -114,5 +116,5 @@ fn unsettled_check(name: &'static str, place: usize) -> Scenario {
     code.checks.insert(place, vec![4_093, 4_094, 4_095]);
     code.bits = 4_096;
     let costs = [vec![0; 4_093], vec![-20_000; 3]].concat();
-    Scenario::longest(name, code, 256, costs)
+    Scenario::longest(name, code, (256, 0), costs)
 }

@@ -44,9 +44,13 @@ pub struct BytesAnswer {
 /// The settings of a run: W, A, K and X of document 01.
 #[derive(Clone, Copy, Debug, Default, PartialEq, Eq)]
 pub struct Settings {
+    /// W, 1 to 65,535: how much the costs weigh.
     pub weight: u32,
+    /// A, 0 to 1,023: the penalty that drives values away from the middle.
     pub ratio: u32,
+    /// K, 1 to 4,000: the most iterations.
     pub limit: u32,
+    /// X, any number: how little may change for the run to settle.
     pub tolerance: u32,
 }
 
