@@ -93,12 +93,12 @@ pub record Iterated (b : List ℕ) (o : Settings) (costs : List ℤ) (l : Lists)
 pub record Bounded (b : List ℕ) (o : Settings) (costs : List ℤ) (d : Decoded) : Type 0 where
   -- "always from −U to U"
   pub values : (v : ℕ) → v < variables (codeOf b) → natAbs (at (d .lists .values) v) ≤ unit
-  -- "s never leaves −65,536 .. 32,768 × K": after every k up to K, and in the list that is left
+  -- "s never leaves −65,536 .. 32,768 × K": after every k iterations, and in the list that is left after the last
   pub each : (k : ℕ) → RowsWithin k (iterateOf b o costs k .rows)
   pub left : RowsWithin (d .answer .k) (take (4 * triples (codeOf b)) (d .lists .rows))
   -- document 02, L2: "A row's s is now bounded by 131,072,000"
   pub rows : (i : ℕ) → i < 4 * triples (codeOf b) → natAbs (at (d .lists .rows) i) ≤ mostRow
-  -- S, and what is divided, in every iteration up to K
+  -- S of the last iteration, and what is divided in every one up to K
   pub sums : (v : ℕ) → v < variables (codeOf b) → natAbs (at (d .lists .sums) v) ≤ mostSum
   pub numerators : (k v : ℕ) → k < o .limit → natAbs (numerator (o .weight) (at (iterateOf b o costs (suc k) .sums) v) (at costs v)) ≤ mostNumerator
 

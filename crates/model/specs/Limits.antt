@@ -68,7 +68,7 @@ mostMultiplier n = 32768 * n
 abbrev pub mostRow : ℕ
 mostRow = mostMultiplier mostIterations
 
--- S: no variable is in more triples than a code has checks, and each has four rows
+-- S: no variable is in more triples than a code can have checks, and each triple has four rows
 abbrev pub mostSum : ℕ
 mostSum = mostChecks * (4 * mostRow)
 
