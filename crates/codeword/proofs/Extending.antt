@@ -1,10 +1,10 @@
 -- The extension of a word, an auxiliary at a time and a check at a time. Assumes nothing.
 use Rattle.integers.proofs.Prelude.{_≡_, refl, sym, ap, _∙_, List, [], _∷_, _++_, ℕ, zero, suc, _+_, _-_, _*_, _%_, _≤_, _<_, arith, add-one, add-two, decLt}
-use Rattle.integers.proofs.Prelude.{lt-ltb, le-ltb, length, getD, take, drop, set, length-append, take-append-drop, length-take-le, take-at, take-all}
+use Rattle.integers.proofs.Prelude.{lt-ltb, le-ltb, length, getD, take, drop, set, length-append, take-append-drop, length-take-le, take-all}
 use Rattle.integers.proofs.Prelude.{take-add, drop-cons}
 use Rattle.lists.specs.Tabulated.{written}
 use Rattle.lists.specs.Entries.{total}
-use Rattle.lists.proofs.Tabulated.{length-written, written-in}
+use Rattle.lists.proofs.Tabulated.{length-written, written-in, take-written}
 use Rattle.lists.proofs.Parts.{written-next, written-over}
 use Rattle.model.specs.Code.{turns, tripleCount, variables}
 use Rattle.model.specs.Records.{bitCount, checkCount, indices, afterCheck, checksIn, codeOf, judge}
@@ -137,7 +137,7 @@ module _ (b w : List ℕ) (judged : judge b ≡ 0) (word-long : length w ≡ cod
       filled-next t q next′ h r e is =
           let m = numbered-next b j rest next n h t next′ r e in
           let p = point-to b w j in
-          let begun : take next point ≡ p = ap (take next) filled ∙ take-at p (drop (length p) old) next (point-long j rest next n) in
+          let begun : take next point ≡ p = ap (take next) filled ∙ take-written p old next (point-long j rest next n) in
           let over = written-over (point-to b w (j + 1)) p old (omega (arith, point-long j rest next n, point-long (j + 1) t next′ m)) in
           (m, is ∙ rw (begun, ← point-next j rest next n) (ap (written (point-to b w (j + 1))) filled ∙ over))
 

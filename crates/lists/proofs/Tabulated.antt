@@ -1,6 +1,6 @@
 -- Lists given by their entries. Assumes nothing.
 use Rattle.integers.proofs.Prelude.{_≡_, refl, sym, ap, ap₂, _∙_, List, [], _∷_, _++_, map, append-nil, ℕ, zero, suc, _+_, _-_, _≤_, _<_, arith, add-one, ℤ}
-use Rattle.integers.proofs.Prelude.{length, getD, drop, set, length-append, length-drop, length-map, drop-of-length-le, List·getD-append, sets, drop-at}
+use Rattle.integers.proofs.Prelude.{length, getD, take, drop, set, length-append, length-drop, length-map, drop-of-length-le, List·getD-append, sets, take-at, drop-at}
 use Rattle.integers.proofs.Prelude.{getD-drop, getD-append-add, toZ, ofZ, toZ-ofZ}
 use mathlib.Core.Logic.{_≢_}
 use lib.ListN.{replicate}
@@ -115,6 +115,9 @@ module _ {ℓ} {A : Type ℓ} where
 
   pub length-written : (l old : List A) → length l ≤ length old → length (written l old) ≡ length old
   length-written l old h = simp (length-append, length-drop) (omega arith)
+
+  pub take-written : (l old : List A) (n : ℕ) → length l ≡ n → take n (written l old) ≡ l
+  take-written l old n e = take-at l (drop (length l) old) n e
 
   pub written-in : (l old : List A) (i : ℕ) (d : A) → i < length l → getD (written l old) i d ≡ getD l i d
   written-in l old i d h = List·getD-append l (drop (length l) old) d i h

@@ -1,9 +1,10 @@
 -- Import and export belong together: the text of a sound code is accepted and gives the code, an export gives its records back, and an import has its export.
 -- Assumes nothing.
 use Rattle.integers.proofs.Prelude.{_≡_, sym, ap, ap₂, _∙_, Bool, true, not, List, [], _∷_, ℕ, _≤_, arith, ltb-false, le-ltb}
-use Rattle.integers.proofs.Prelude.{length, drop, take-append-seam, take-at}
+use Rattle.integers.proofs.Prelude.{length, drop, take-append-seam}
 use mathlib.Core.Logic.{_↔_}
 use Rattle.lists.specs.Tabulated.{written}
+use Rattle.lists.proofs.Tabulated.{take-written}
 use Rattle.model.specs.Causes.{_if_, firstOf, short}
 use Rattle.model.specs.Code.{Code}
 use Rattle.model.specs.Records.{codeOf, judge, recordsOf}
@@ -142,6 +143,6 @@ import-trip s old a e h =
       same = same;
       again = λ old′ old″ fits room.
           ap (λ (b : List ℕ). result (exporter b old″))
-          (ap result (same old′ fits) ∙ take-at (result a) (drop (length (result a)) old′) (a .bytes) (omega (arith, ap length records)))
+          (ap result (same old′ fits) ∙ take-written (result a) old′ (a .bytes) (omega (arith, ap length records)))
           ∙ text old″ room .1;
     }

@@ -1,5 +1,6 @@
 -- How large the numbers of a call get. Assumes nothing.
-use Rattle.integers.proofs.Prelude.{_≡_, sym, subst, List, ℕ, zero, suc, _*_, _≤_, _<_, arith, ℤ, natAbs, length, drop, take-at}
+use Rattle.integers.proofs.Prelude.{_≡_, sym, subst, List, ℕ, zero, suc, _*_, _≤_, _<_, arith, ℤ, natAbs}
+use Rattle.lists.proofs.Tabulated.{take-written}
 use Rattle.quotient.specs.Quotient.{unit}
 use Rattle.model.specs.declared.Settings.{Settings}
 use Rattle.model.specs.Limits.{mostIterations, mostSum, mostNumerator}
@@ -65,7 +66,7 @@ module _ (b : List ℕ) (o : Settings) (costs : List ℤ) (l : Lists) (h : decod
       subst (Bounded b o costs) (sym (ran-is b o costs l h)) (record {
         values = λ v k. rw (in-list (end .last .values) (l .values) (variables code) v (long .values) k) (last-centred v);
         each = rows-after g o costs;
-        left = rw (take-at new (drop (length new) (l .rows)) (4 * triples code) (long .rows)) last-within;
+        left = rw (take-written new (l .rows) (4 * triples code) (long .rows)) last-within;
         rows = λ i k. rw (in-list new (l .rows) (4 * triples code) i (long .rows) k)
             (row-small (end .k) new (omega (arith, steps-range b o costs l h .1, accepted-settings b o costs l h .limit .1)) last-within i);
         sums = λ v k. rw (in-list (end .last .sums) (l .sums) (variables code) v (long .sums) k) (last-sum v);

@@ -1,10 +1,10 @@
 -- What each entry promises of a call follows from the equation with its definition. Assumes nothing.
 use Rattle.integers.proofs.Prelude.{_≡_, refl, sym, ap, subst, _∙_, Bool, true, false, not, _||_, List, [], _∷_, _++_, map, ℕ, zero, suc, _*_, _≤_, _<_}
-use Rattle.integers.proofs.Prelude.{arith, ltb-false, le-ltb, not-false, ltb, ℤ, pos, length, getD, take, drop, take-at}
+use Rattle.integers.proofs.Prelude.{arith, ltb-false, le-ltb, not-false, ltb, ℤ, pos, length, getD, take}
 use lib.Ieee.{Float, nan}
 use Rattle.lists.specs.Entries.{some}
 use Rattle.lists.specs.Tabulated.{written}
-use Rattle.lists.proofs.Tabulated.{over-in, over-map}
+use Rattle.lists.proofs.Tabulated.{over-in, over-map, take-written}
 use Rattle.lists.proofs.Entries.{some-at}
 use Rattle.model.specs.declared.Settings.{Settings}
 use Rattle.model.specs.declared.Channel.{Channel}
@@ -237,7 +237,7 @@ module _ (b w : List ℕ) where
     unfolding systemOf
     taken h =
         let x = answer-codeword b w no-room room-listed h in
-        sym (take-at (pointOf k w) (drop (length (pointOf k w)) p) (variables k) (point k (Accepted.accepted b (x .0)) w (x .2) .point .long))
+        sym (take-written (pointOf k w) p (variables k) (point k (Accepted.accepted b (x .0)) w (x .2) .point .long))
 
     pub extension-call : (a : Extended) → a ≡ extension b w p → ExtensionCall b w p a
     unfolding extension
@@ -274,7 +274,7 @@ module _ (b : List ℕ) (o : Settings) (costs : List ℤ) (l : Lists) (d : Decod
   -- the costs that the reflector wrote
   reflected-costs : (w : List ℕ) (old : List ℤ) (r : Costs) → ReflectorCall costs w old r → r .number ≡ 0 → take (length costs) (r .costs) ≡ reflect w costs
   reflected-costs w old r c h =
-      ap (take (length costs)) (c .reflected h) ∙ take-at (reflect w costs) (drop (length (reflect w costs)) old) (length costs) (length-reflect w costs)
+      ap (take (length costs)) (c .reflected h) ∙ take-written (reflect w costs) old (length costs) (length-reflect w costs)
 
   pub decoder-call : DecoderCall b o costs l d
   decoder-call = record {

@@ -1,9 +1,9 @@
 -- Two calls, the second with reflected costs. Assumes nothing.
 use Rattle.integers.proofs.Prelude.{_≡_, refl, sym, ap, ap₂, _∙_, Bool, false, not, List, [], _∷_, ℕ, zero, suc, _+_, _*_, _≤_, arith, eq-eqb, ne-eqb}
-use Rattle.integers.proofs.Prelude.{ℤ, pos, negsuc, natAbs, length, take, drop, take-at}
+use Rattle.integers.proofs.Prelude.{ℤ, pos, negsuc, natAbs, length, take}
 use Rattle.lists.specs.Entries.{some}
 use Rattle.lists.specs.Tabulated.{written}
-use Rattle.lists.proofs.Tabulated.{length-tab}
+use Rattle.lists.proofs.Tabulated.{length-tab, take-written}
 use Rattle.lists.proofs.Entries.{none-in-tab}
 use Rattle.model.specs.declared.Settings.{Settings}
 use Rattle.model.specs.Causes.{_if_, firstOf, accepted}
@@ -81,7 +81,7 @@ module _ (b w : List ℕ) (o : Settings) (costs : List ℤ) (l m : Lists) where
         (both .ends .count) (both .ends .settled)
 
     taken : (z : List ℤ) (old : List ℕ) → take (code .bits) (written (wordOf code z) old) ≡ wordOf code z
-    taken z old = take-at (wordOf code z) (drop (length (wordOf code z)) old) (code .bits) (outcome-claims code z .word .long)
+    taken z old = take-written (wordOf code z) old (code .bits) (outcome-claims code z .word .long)
 
     related : ReflectedCalls b o costs w m (decodedBy code end l) (decodedBy code end′ m)
     unfolding decodedBy systemOf

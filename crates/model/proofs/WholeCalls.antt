@@ -14,7 +14,7 @@ use Rattle.model.specs.Run.{changes, settledBy, start, after, runFrom, r
 use Rattle.model.specs.Words.{wordOf, firstUndecided, firstOdd, tested, outcome}
 use Rattle.model.specs.Calls.{outOfRange, unequal, forbidden, Lists, Decoded, noRoom, decoderCauseUpTo, decoderUpTo, decodedBy, decoder, reader}
 use Rattle.model.specs.Table.{by-hand}
-use Rattle.model.specs.WholeCalls.{listed, Room, upTo, WholeCalls, RunEdges, ChannelEdges}
+use Rattle.model.specs.WholeCalls.{listed, Room, listedSettings, WholeCalls, RunEdges, ChannelEdges}
 use Rattle.model.specs.Channel.{scaleInRange, floorInRange, inRange}
 use Rattle.model.proofs.Floats.{above-zero, below-zero}
 use Rattle.model.proofs.Causes.{in-range}
@@ -47,10 +47,10 @@ pub whole-calls : WholeCalls
 unfolding decoderUpTo decoderCauseUpTo reader decodedBy judge judgeHeader judgeChecks judgeCheck judgeIndices afterChecks covered codeOf twoBytes numbers checksIn queue triplesFrom systemOf sign rowSum share sumOf occurrences sumsOf countsOf valuesOf rowsOf iterate changes settledBy start after runFrom wordOf firstUndecided firstOdd tested outcome
 whole-calls = record {
   code = refl;
-  undecided = λ l r. called (upTo 2) (pos 0 ∷ pos 0 ∷ pos 0 ∷ []) l r refl refl refl;
-  odd = λ l r. called (upTo 2) by-hand l r refl refl refl;
-  word = λ l r. called (upTo 2) (pos 20000 ∷ pos 20000 ∷ pos 20000 ∷ []) l r refl refl refl;
-  longest = λ l r. called (upTo 4000) by-hand l r refl refl refl;
+  undecided = λ l r. called (listedSettings 2) (pos 0 ∷ pos 0 ∷ pos 0 ∷ []) l r refl refl refl;
+  odd = λ l r. called (listedSettings 2) by-hand l r refl refl refl;
+  word = λ l r. called (listedSettings 2) (pos 20000 ∷ pos 20000 ∷ pos 20000 ∷ []) l r refl refl refl;
+  longest = λ l r. called (listedSettings 4000) by-hand l r refl refl refl;
   too-long = λ l. refl;
 }
 

@@ -12,7 +12,7 @@ use Rattle.model.specs.declared.Settings.{Settings}
 use Rattle.model.specs.declared.Channel.the-variants.{Gaussian, Hard, Erasing}
 use Rattle.model.specs.Channel.{scaleInRange, floorInRange, inRange}
 use Rattle.model.specs.Calls.{InRange, outOfRange, Lists, HasRoom, decoder, reader}
-use Rattle.model.specs.Table.{−_, settings, by-hand}
+use Rattle.model.specs.Table.{−_, by-hand}
 
 -- "Code n = 3 with check (0,1,2)": its records
 abbrev pub listed : List ℕ
@@ -33,35 +33,35 @@ leaves l S c s w = record {
   word = w;
 }
 
--- W = 256, A = 0 and X = 0 with another K
-abbrev pub upTo : ℕ → Settings
-upTo limit = record { weight = 256; ratio = 0; limit = limit; tolerance = 0 }
+-- its settings, W = 256, A = 0 and X = 0, with this K
+abbrev pub listedSettings : ℕ → Settings
+listedSettings limit = record { weight = 256; ratio = 0; limit = limit; tolerance = 0 }
 
 pub record WholeCalls : Type 0 where
   pub code : reader listed ≡ record { number = 0; bits = 3; checks = 1; triples = 1 }
   -- "frames (0,0,0), (20000,20000,−8000), (20000,20000,20000) print" U 2 1 0, N 2 0 0, W 2 0 000
-  pub undecided : (l : Lists) → Room l → decoder listed (settings 256 0) (pos 0 ∷ pos 0 ∷ pos 0 ∷ []) l ≡ record {
+  pub undecided : (l : Lists) → Room l → decoder listed (listedSettings 2) (pos 0 ∷ pos 0 ∷ pos 0 ∷ []) l ≡ record {
     answer = record { number = 16; place = 0; k = 2; settled = 1 };
     lists = leaves l (pos 0 ∷ pos 0 ∷ pos 0 ∷ []) (pos 0 ∷ pos 0 ∷ pos 0 ∷ [])
         ((− 16384) ∷ (− 16384) ∷ (− 16384) ∷ (− 16384) ∷ []) (l .word);
   }
-  pub odd : (l : Lists) → Room l → decoder listed (settings 256 0) by-hand l ≡ record {
+  pub odd : (l : Lists) → Room l → decoder listed (listedSettings 2) by-hand l ≡ record {
     answer = record { number = 17; place = 0; k = 2; settled = 0 };
     lists = leaves l (pos 20000 ∷ pos 20000 ∷ (− 8000) ∷ []) ((− 10000) ∷ (− 10000) ∷ pos 4000 ∷ [])
         ((− 20384) ∷ (− 20384) ∷ pos 7616 ∷ (− 32384) ∷ []) (l .word);
   }
-  pub word : (l : Lists) → Room l → decoder listed (settings 256 0) (pos 20000 ∷ pos 20000 ∷ pos 20000 ∷ []) l ≡ record {
+  pub word : (l : Lists) → Room l → decoder listed (listedSettings 2) (pos 20000 ∷ pos 20000 ∷ pos 20000 ∷ []) l ≡ record {
     answer = record { number = 0; place = 0; k = 2; settled = 0 };
     lists = leaves l (pos 20000 ∷ pos 20000 ∷ pos 20000 ∷ []) ((− 10000) ∷ (− 10000) ∷ (− 10000) ∷ [])
         ((− 6384) ∷ (− 6384) ∷ (− 6384) ∷ (− 46384) ∷ []) (written (0 ∷ 0 ∷ 0 ∷ []) (l .word));
   }
   -- document 02, L2: "K goes to 4,000", which this run does not need, and "11 now starts at 4,001"
-  pub longest : (l : Lists) → Room l → decoder listed (upTo 4000) by-hand l ≡ record {
+  pub longest : (l : Lists) → Room l → decoder listed (listedSettings 4000) by-hand l ≡ record {
     answer = record { number = 0; place = 0; k = 12; settled = 1 };
     lists = leaves l (pos 49504 ∷ pos 49504 ∷ pos 81568 ∷ []) ((− 16384) ∷ (− 16384) ∷ (− 16384) ∷ [])
         (pos 0 ∷ pos 0 ∷ pos 16032 ∷ (− 65536) ∷ []) (written (0 ∷ 0 ∷ 0 ∷ []) (l .word));
   }
-  pub too-long : (l : Lists) → decoder listed (upTo 4001) by-hand l ≡ record { answer = record { number = 11; place = 0; k = 0; settled = 0 }; lists = l }
+  pub too-long : (l : Lists) → decoder listed (listedSettings 4001) by-hand l ≡ record { answer = record { number = 11; place = 0; k = 0; settled = 0 }; lists = l }
 
 pub record RunEdges : Type 0 where
   pub exactly : (o : Settings) → (outOfRange o ≡ false) ↔ InRange o

@@ -1,9 +1,9 @@
 -- The call that the frame program makes for a sound frame, and its line. Assumes nothing.
 use Rattle.integers.proofs.Prelude.{_≡_, refl, sym, ap, _∙_, Bool, true, false, List, _++_, append-nil, ℕ, _*_, _≤_, arith, le-ltb, eqb-true, eq-eqb, eqb, ℤ}
-use Rattle.integers.proofs.Prelude.{length, take, drop, take-at}
+use Rattle.integers.proofs.Prelude.{length, take}
 use lib.Seq.{drop-nil}
 use Rattle.lists.specs.Entries.{some}
-use Rattle.lists.proofs.Tabulated.{length-tab}
+use Rattle.lists.proofs.Tabulated.{length-tab, take-written}
 use Rattle.quotient.specs.Quotient.{quotient}
 use Rattle.model.specs.declared.Settings.{Settings}
 use Rattle.model.specs.Causes.{accepted}
@@ -49,7 +49,7 @@ line-left : (k : Code) (e : Ended) (l : Lists) → line (decodedBy k e l .answer
 unfolding decodedBy
 line-left k e l =
     let w = wordOf k (e .last .values) in
-    line-of (decodedBy k e l .answer) _ _ (λ (z : outcome k (e .last .values) .number ≡ 0). rw z (take-at w (drop (length w) (l .word)) (k .bits) (word-long k (e .last .values)) ∙ sym (ap (λ (r : List ℕ). w ++ r) (drop-nil (length w)) ∙ append-nil w)))
+    line-of (decodedBy k e l .answer) _ _ (λ (z : outcome k (e .last .values) .number ≡ 0). rw z (take-written w (l .word) (k .bits) (word-long k (e .last .values)) ∙ sym (ap (λ (r : List ℕ). w ++ r) (drop-nil (length w)) ∙ append-nil w)))
 
 -- ---- the call
 module _ (b : List ℕ) (o : Settings) (costs : List ℤ) (l : Lists) (held : HeldCode b)

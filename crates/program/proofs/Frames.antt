@@ -1,7 +1,8 @@
 -- What the records are that the frame program accepts, and the costs of a frame. Assumes nothing.
-use Rattle.integers.proofs.Prelude.{_≡_, _∙_, false, not, List, [], _∷_, ℕ, _+_, _≤_, ltb-false, eqb, ltb, ℤ, length, take, drop, length-map, take-at}
+use Rattle.integers.proofs.Prelude.{_≡_, _∙_, false, not, List, [], _∷_, ℕ, _+_, _≤_, ltb-false, eqb, ltb, ℤ, length, take, drop, length-map}
 use Rattle.lists.specs.Entries.{some}
 use Rattle.lists.specs.Tabulated.{written}
+use Rattle.lists.proofs.Tabulated.{take-written}
 use Rattle.model.specs.Causes.{_if_, short, outside, accepted}
 use Rattle.model.specs.Code.{tripleCount}
 use Rattle.model.specs.Records.{twoBytes, numbers, bitCount, indices, judgeHeader, judgeCheck}
@@ -63,7 +64,7 @@ unfolding costsOf
 length-costs n s = length-map (numbers n (drop 2 s)) twosComplement ∙ length-numbers n (drop 2 s)
 
 pub take-costs : (n : ℕ) (s : List ℕ) (old : List ℤ) → take n (written (costsOf n s) old) ≡ costsOf n s
-take-costs n s old = take-at (costsOf n s) (drop (length (costsOf n s)) old) n (length-costs n s)
+take-costs n s old = take-written (costsOf n s) old n (length-costs n s)
 
 -- what a sound frame leaves in a buffer of costs
 pub costs-left : (n : ℕ) (s : List ℕ) (old new : List ℤ) → judgeFrame n s ≡ 0 → new ≡ accepted (judgeWhole n s) (written (costsOf n s) old) old → take n new ≡ costsOf n s

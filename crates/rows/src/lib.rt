@@ -127,7 +127,7 @@ pub fn renewed_rows(s: [i32; 4], sums: [i32; 4]) -> [i32; 4]
 
 // ---- the squares of the changes
 
-// Of the size of x: in lanes a product of numbers without a sign is one instruction.
+// By the size of x: in lanes a product of numbers without a sign is one instruction.
 fn square(x: i32) -> u64
     requires { ⌜ natAbs x ≤ mostRow ⌝ }
     ensures { λ n. ⌜ n ≡ natAbs x * natAbs x ⌝ }

@@ -99,6 +99,17 @@ pub fn small_or_training_code(random: &mut Random) -> Code {
     }
 }
 
+/// Mostly tiny codes, small ones, and now and then a larger one or one that corrects errors.
+pub fn any_code(random: &mut Random) -> Code {
+    match random.below(40) {
+        0 => code_within(random, 300, 150, 1_000),
+        1 => training_code(),
+        2..=5 => regular_code(random, 24, 3, 6),
+        6..=20 => small_code(random),
+        _ => tiny_code(random),
+    }
+}
+
 /// A random code of these sizes in which each bit lies in some check.
 pub fn code_of(random: &mut Random, bits: usize, checks: usize, triples: usize) -> Code {
     let degrees = random_degrees(random, bits.min(32), checks, triples);

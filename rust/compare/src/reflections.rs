@@ -1,6 +1,6 @@
 //! Reflections of many runs, after every iteration.
 
-use crate::codes::{code_within, regular_code, small_code, tiny_code, training_code};
+use crate::codes::any_code;
 use crate::random::Random;
 use crate::reflection::Reflection;
 use interface::{Decoder, Library};
@@ -26,13 +26,7 @@ pub fn check_reflections(decoder: &dyn Decoder, library: &dyn Library) -> Result
     let mut met = Met::new();
     for seed in SEED..SEED + 1_500 {
         let mut random = Random::new(seed);
-        let code = match random.below(40) {
-            0 => code_within(&mut random, 300, 150, 1_000),
-            1 => training_code(),
-            2..=5 => regular_code(&mut random, 24, 3, 6),
-            6..=20 => small_code(&mut random),
-            _ => tiny_code(&mut random),
-        };
+        let code = any_code(&mut random);
         let mut reflection = Reflection::random(&mut random, code);
         let limit = reflection.settings.limit;
         let longest = random.once_in(30).then_some(MOST_ITERATIONS as u32);

@@ -2,7 +2,7 @@
 
 use crate::alist::{styled, text_of, Plan};
 use crate::alist_damage::{damage_bytes, damage_lists, damage_numbers, some_damage};
-use crate::codes::{code_within, records, small_code, tiny_code, training_code, Code};
+use crate::codes::{any_code, records, Code};
 use crate::damage::{apply, damages_of};
 use crate::draft::{Draft, Entry};
 use crate::random::Random;
@@ -37,12 +37,7 @@ pub fn check_round_trips(alist: &dyn Alist) -> Result<Met, String> {
     let mut met = Met::new();
     for seed in SEED..SEED + 1_500 {
         let mut random = Random::new(seed);
-        let code = match random.below(40) {
-            0 => code_within(&mut random, 300, 150, 1_000),
-            1 => training_code(),
-            2..=15 => small_code(&mut random),
-            _ => tiny_code(&mut random),
-        };
+        let code = any_code(&mut random);
         let at_seed = |what| format!("seed {seed:#x}: {what}");
         check_code(alist, &code).map_err(at_seed)?;
         check_style(alist, &mut random, &code).map_err(at_seed)?;

@@ -1,6 +1,7 @@
 -- `decoder::decode_accepted` meets its contract: the parts of the answer are those of the run. Assumes nothing.
-use Rattle.integers.proofs.Prelude.{_≡_, sym, ap, ap₂, _∙_, List, ℕ, arith, needs, ℤ, length, take, drop, take-at}
+use Rattle.integers.proofs.Prelude.{_≡_, sym, ap, ap₂, _∙_, List, ℕ, arith, needs, ℤ, length, take}
 use Rattle.lists.specs.Tabulated.{written}
+use Rattle.lists.proofs.Tabulated.{take-written}
 use Rattle.quotient.specs.Quotient.{quotient}
 use Rattle.model.specs.Calls.{Lists, Answer}
 use Rattle.model.specs.Causes as Causes
@@ -36,7 +37,7 @@ module _ (r : tie.After-run-system) where
   part-is : take (s .args .variables) (r .run-system .last .1 .1 .1 .1 .1 .1 .1 .1 .0) ≡ e .last .values
   part-is =
       ap (take (s .args .variables)) (r .run-system .ensures .1 .3)
-      ∙ take-at (e .last .values) (drop (length (e .last .values)) (s .args .values .now)) (s .args .variables) (r .run-system .ensures .1 .5)
+      ∙ take-written (e .last .values) (s .args .values .now) (s .args .variables) (r .run-system .ensures .1 .5)
 
   part-long : length (take (s .args .variables) (r .run-system .last .1 .1 .1 .1 .1 .1 .1 .1 .0)) ≡ s .args .variables
   part-long = ap length part-is ∙ r .run-system .ensures .1 .5

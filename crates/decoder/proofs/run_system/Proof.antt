@@ -1,7 +1,7 @@
 -- `decoder::run_system` meets its contract: the parts that are lent hold the code's system. Assumes nothing.
-use Rattle.integers.proofs.Prelude.{_≡_, sym, ap, ap₂, subst, _∙_, List, ℕ, _*_, needs, length, take, drop, length-take-le, take-at}
+use Rattle.integers.proofs.Prelude.{_≡_, sym, ap, ap₂, subst, _∙_, List, ℕ, _*_, needs, length, take, length-take-le}
 use Rattle.lists.proofs.Parts.{lent-back}
-use Rattle.lists.proofs.Tabulated.{length-tab}
+use Rattle.lists.proofs.Tabulated.{length-tab, take-written}
 use Rattle.quotient.specs.Quotient.{quotient}
 use Rattle.model.specs.Iteration.{occurrences, countsOf}
 use Rattle.model.proofs.Accepted.{accepted}
@@ -44,7 +44,7 @@ module _ (w : tie.After-write-system) where
   ts-is : ts ≡ systemOf k .members
   ts-is =
       ap (take (3 * s .args .total)) (w .write-system .ensures .0)
-      ∙ take-at (systemOf k .members) (drop (length (systemOf k .members)) (s .args .triples .now)) (3 * s .args .total) (members-long k sound ∙ ap (λ (t : ℕ). 3 * t) (sym (s .pre .0 .1)))
+      ∙ take-written (systemOf k .members) (s .args .triples .now) (3 * s .args .total) (members-long k sound ∙ ap (λ (t : ℕ). 3 * t) (sym (s .pre .0 .1)))
 
   length-counts : length (countsOf (systemOf k)) ≡ s .args .variables
   unfolding countsOf systemOf
@@ -53,7 +53,7 @@ module _ (w : tie.After-write-system) where
   cs-is : cs ≡ countsOf (systemOf k)
   cs-is =
       ap (take (s .args .variables)) (w .write-system .ensures .1)
-      ∙ take-at (countsOf (systemOf k)) (drop (length (countsOf (systemOf k))) (s .args .counts .now)) (s .args .variables) length-counts
+      ∙ take-written (countsOf (systemOf k)) (s .args .counts .now) (s .args .variables) length-counts
 
   n-is : n ≡ s .args .variables
   n-is = length-take-le (s .args .variables) (s .args .values .now) (s .pre .1 .1 .1 .1)

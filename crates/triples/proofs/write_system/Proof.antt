@@ -1,7 +1,7 @@
 -- `triples::write_system` meets its contract: the triples, then the counts of what is written. Assumes nothing.
-use Rattle.integers.proofs.Prelude.{_≡_, sym, ap, _∙_, List, ℕ, _*_, arith, needs, length, take, drop, take-at}
+use Rattle.integers.proofs.Prelude.{_≡_, sym, ap, _∙_, List, ℕ, _*_, arith, needs, length, take}
 use Rattle.lists.specs.Tabulated.{over, written}
-use Rattle.lists.proofs.Tabulated.{over-tab}
+use Rattle.lists.proofs.Tabulated.{over-tab, take-written}
 use Rattle.model.specs.Code.{Code}
 use Rattle.model.specs.Records.{codeOf}
 use Rattle.model.specs.Sound.{Sound}
@@ -38,7 +38,7 @@ module _ (w : tie.After-write-triples) where
   long = omega (arith, members-long k sound, s .pre .1 .0 .0)
 
   lent : take (3 * s .args .total) (w .write-triples .last .1 .0) ≡ systemOf k .members
-  lent = ap (take (3 * s .args .total)) (w .write-triples .ensures) ∙ take-at (systemOf k .members) (drop (length (systemOf k .members)) (s .args .triples .now)) (3 * s .args .total) long
+  lent = ap (take (3 * s .args .total)) (w .write-triples .ensures) ∙ take-written (systemOf k .members) (s .args .triples .now) (3 * s .args .total) long
 
 slice-aggregate-write-counts : tie.Need-slice-aggregate-write-counts
 slice-aggregate-write-counts c = let w = c .before .before .before in sym (ap length (lent w) ∙ long w)
