@@ -61,7 +61,10 @@ pub record WholeCalls : Type 0 where
     lists = leaves l (pos 49504 ∷ pos 49504 ∷ pos 81568 ∷ []) ((− 16384) ∷ (− 16384) ∷ (− 16384) ∷ [])
         (pos 0 ∷ pos 0 ∷ pos 16032 ∷ (− 65536) ∷ []) (written (0 ∷ 0 ∷ 0 ∷ []) (l .word));
   }
-  pub too-long : (l : Lists) → decoder listed (listedSettings 4001) by-hand l ≡ record { answer = record { number = 11; place = 0; k = 0; settled = 0 }; lists = l }
+  pub too-long : (l : Lists) → decoder listed (listedSettings 4001) by-hand l ≡ record {
+    answer = record { number = 11; place = 0; k = 0; settled = 0 };
+    lists = l;
+  }
 
 pub record RunEdges : Type 0 where
   pub exactly : (o : Settings) → (outOfRange o ≡ false) ↔ InRange o
