@@ -139,7 +139,8 @@ pub trait Decoder {
     fn decode(&self, code: &[u8], settings: Settings, costs: &[i16], lists: Lists) -> DecodeAnswer;
 }
 
-/// The entries of document 01: the decoder and the calls around it.
+/// The decoder and the calls around it: the entries of document 01, and the sum of
+/// words (document 02, L3).
 pub trait Library: Decoder {
     /// Reads code records.
     fn read(&self, code: &[u8]) -> CodeAnswer;
@@ -158,6 +159,9 @@ pub trait Library: Decoder {
 
     /// Extends a codeword to its point.
     fn extend(&self, code: &[u8], word: &[u8], point: &mut [u8]) -> WordAnswer;
+
+    /// The sum of two words modulo 2.
+    fn add_words(&self, word: &[u8], other: &[u8], sum: &mut [u8]) -> u32;
 }
 
 /// Codes as alist text (document 02, L1).

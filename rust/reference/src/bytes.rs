@@ -23,9 +23,7 @@ impl Reference {
             list.copy_from_slice(&bytes()[..list.len()]);
         }
         judged?;
-        if self.has(Fault::RestCleared) {
-            list.fill(0);
-        }
+        self.clear_rest(list);
         let bytes = bytes();
         list[..bytes.len()].copy_from_slice(&bytes);
         Ok(bytes.len())

@@ -34,14 +34,16 @@ faults! {
         SizesWithRefusal;
     ["split", "decode"]:
         LastTripleTurned, CountsOfRows;
-    ["split", "decode", "import", "export"]:
+    ["split", "decode", "import", "export", "reflect", "extend", "add_words"]:
         RestCleared;
     ["test", "extend"]:
         LastOddCheck, OddCheckFromOne;
     ["extend"]:
-        AuxiliaryOfLastTwo;
+        AuxiliaryOfLastTwo, AuxiliaryOfFirst, AuxiliaryIsOr;
     ["reflect"]:
-        NegatedAtZeros, NoCostsRefused;
+        NegatedAtZeros, NegatedAtNext, NoCostsRefused;
+    ["add_words"]:
+        SumIsOr, SumNotReduced, OtherWordNotJudged, NoEntriesRefused;
     ["gaussian"]:
         ProductNotRounded, HalfAddedAndFloored, InfiniteProductIsZero, SubnormalsFlushed;
     ["gaussian", "hard", "erasing"]:
@@ -113,6 +115,7 @@ const TOGETHER: &[(&[&str], &[Cause])] = &[
     (OF_RECORDS, &[BytesAfter, TooManyTriples, UnusedBit]),
     (OF_CHANNELS, &[Setting, Sample, ListTooShort]),
     (&["reflect"], &[Lengths, Cost, WordEntry, ListTooShort]),
+    (&["add_words"], &[Lengths, WordEntry, ListTooShort]),
     (&["test"], &[Lengths, WordEntry, NotCodeword]),
     (
         &["extend"],
@@ -175,6 +178,13 @@ impl Reference {
             i64::from(number as i16)
         } else {
             number
+        }
+    }
+
+    /// Clears a list that is to be written, with the fault that clears its rest.
+    pub(crate) fn clear_rest<T: Clone + Default>(self, list: &mut [T]) {
+        if self.has(Fault::RestCleared) {
+            list.fill(T::default());
         }
     }
 

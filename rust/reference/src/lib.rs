@@ -81,6 +81,10 @@ impl Library for Reference {
         let result = self.try_extend(code, word, point);
         result.err().unwrap_or_default()
     }
+
+    fn add_words(&self, word: &[u8], other: &[u8], sum: &mut [u8]) -> u32 {
+        number_of(self.try_add_words(word, other, sum))
+    }
 }
 
 impl Alist for Reference {

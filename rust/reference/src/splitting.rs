@@ -62,10 +62,8 @@ impl Reference {
 
     /// Writes triples and counts; entries beyond those used stay.
     pub(crate) fn write_split(self, split: &Split, triples: &mut [u16], counts: &mut [u16]) {
-        if self.has(Fault::RestCleared) {
-            triples.fill(0);
-            counts.fill(0);
-        }
+        self.clear_rest(triples);
+        self.clear_rest(counts);
         for (entry, &variable) in triples.iter_mut().zip(split.triples.iter().flatten()) {
             *entry = variable as u16;
         }

@@ -1,4 +1,5 @@
-//! Words and points: the codeword test, the extension and the reflector.
+//! Words and points: the codeword test, the extension, the reflector and the sum of
+//! two words.
 
 use crate::cause::Cause;
 use crate::fault::Fault;
@@ -32,9 +33,17 @@ impl Reference {
             if self.has(Fault::AuxiliaryOfLastTwo) {
                 [first, second] = [point.len() - 2, point.len() - 1];
             }
-            point.push((point[first] + point[second]) % 2);
+            point.push(self.auxiliary_of(point[first], point[second]));
         }
         point
+    }
+
+    fn auxiliary_of(self, first: u8, second: u8) -> u8 {
+        match self.fault {
+            Some(Fault::AuxiliaryOfFirst) => first,
+            Some(Fault::AuxiliaryIsOr) => first | second,
+            _ => (first + second) % 2,
+        }
     }
 
     /// The codeword test and, with the room for its point, what the extension
@@ -76,6 +85,7 @@ impl Reference {
     ) -> Result<(), WordAnswer> {
         let code = self.try_test(code, word, Some(point.len()))?;
         let made = self.point_of(&self.split_code(&code), word);
+        self.clear_rest(point);
         point[..made.len()].copy_from_slice(&made);
         Ok(())
     }
@@ -93,12 +103,41 @@ impl Reference {
             (Cause::WordEntry, !is_binary(word)),
             (Cause::ListTooShort, result.len() < costs.len()),
         ])?;
+        self.clear_rest(result);
         let negated = u8::from(!self.has(Fault::NegatedAtZeros));
+        let next = usize::from(self.has(Fault::NegatedAtNext));
         for place in 0..costs.len() {
-            result[place] = if word[place] == negated {
+            result[place] = if word.get(place + next) == Some(&negated) {
                 -costs[place]
             } else {
                 costs[place]
+            };
+        }
+        Ok(())
+    }
+
+    pub(crate) fn try_add_words(
+        self,
+        word: &[u8],
+        other: &[u8],
+        sum: &mut [u8],
+    ) -> Result<(), Cause> {
+        let refused = self.has(Fault::NoEntriesRefused) && word.is_empty();
+        let judged = !self.has(Fault::OtherWordNotJudged);
+        self.judge(&[
+            (Cause::Lengths, word.len() != other.len() || refused),
+            (
+                Cause::WordEntry,
+                !is_binary(word) || judged && !is_binary(other),
+            ),
+            (Cause::ListTooShort, sum.len() < word.len()),
+        ])?;
+        self.clear_rest(sum);
+        for (entry, (&one, &two)) in sum.iter_mut().zip(word.iter().zip(other)) {
+            *entry = match self.fault {
+                Some(Fault::SumIsOr) => one | two,
+                Some(Fault::SumNotReduced) => one + two,
+                _ => (one + two) % 2,
             };
         }
         Ok(())

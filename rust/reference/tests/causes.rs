@@ -168,6 +168,20 @@ fn the_reflector_in_order() {
 }
 
 #[test]
+fn the_sum_of_words_in_order() {
+    let mut short = [77; 1];
+    let mut number = |word: &[u8], other: &[u8]| SOUND.add_words(word, other, &mut short);
+    assert_eq!(number(&[2, 0], &[0, 2, 0]), 12);
+    assert_eq!(number(&[0, 0], &[1]), 12);
+    assert_eq!(number(&[0], &[]), 12);
+    assert_eq!(number(&[0, 2], &[0, 0]), 15);
+    assert_eq!(number(&[1, 1], &[1, 255]), 15);
+    assert_eq!(number(&[1, 1], &[0, 1]), 10);
+    assert_eq!(number(&[], &[]), 0);
+    assert_eq!(short, [77]);
+}
+
+#[test]
 fn the_channel_in_order() {
     let mut short = [77; 1];
     for setting in [

@@ -1,4 +1,4 @@
-//! Edges of the records, the run and the channel front.
+//! Edges of the records, the run, the channel front and words.
 
 mod common;
 
@@ -136,6 +136,48 @@ fn the_reflector_refuses_the_lowest_cost_everywhere() {
     let mut result = [0; 2];
     assert_eq!(SOUND.reflect(&[-32_767, 32_767], &[1, 1], &mut result), 0);
     assert_eq!(result, [32_767, -32_767]);
+}
+
+#[test]
+fn sums_of_words() {
+    let (word, other) = ([0, 0, 1, 1], [0, 1, 0, 1]);
+    let mut sum = [77; 6];
+    assert_eq!(SOUND.add_words(&word, &other, &mut sum), 0);
+    assert_eq!(sum, [0, 1, 1, 0, 77, 77]);
+    let mut exact = [77; 4];
+    assert_eq!(SOUND.add_words(&other, &other, &mut exact), 0);
+    assert_eq!(exact, [0; 4]);
+}
+
+#[test]
+fn reflections_compose() {
+    let costs = [-32_767, -1, 0, 32_767];
+    let (word, other) = ([0, 0, 1, 1], [0, 1, 0, 1]);
+    let [mut first, mut second, mut once] = [[77; 4]; 3];
+    assert_eq!(SOUND.reflect(&costs, &word, &mut first), 0);
+    assert_eq!(first, [-32_767, -1, 0, -32_767]);
+    assert_eq!(SOUND.reflect(&first, &other, &mut second), 0);
+    assert_eq!(second, [-32_767, 1, 0, 32_767]);
+    assert_eq!(SOUND.reflect(&costs, &[0, 1, 1, 0], &mut once), 0);
+    assert_eq!(once, second);
+}
+
+#[test]
+fn the_extension_of_a_sum() {
+    // The auxiliary 5 has the sum of the bits 0 and 1, then 6 that of the bits 2 and 3.
+    let five = one_check(5);
+    let point_of = |word: &[u8]| {
+        let mut point = [77; 7];
+        assert_eq!(SOUND.extend(&five, word, &mut point).number, 0);
+        point
+    };
+    let (point, other) = (point_of(&[1, 0, 1, 0, 0]), point_of(&[1, 1, 1, 0, 1]));
+    assert_eq!(point, [1, 0, 1, 0, 0, 1, 1]);
+    assert_eq!(other, [1, 1, 1, 0, 1, 0, 1]);
+    let mut sum = [77; 7];
+    assert_eq!(SOUND.add_words(&point, &other, &mut sum), 0);
+    assert_eq!(sum, [0, 1, 0, 0, 1, 1, 0]);
+    assert_eq!(point_of(&[0, 1, 0, 0, 1]), sum);
 }
 
 fn cost(setting: Channel, sample: f32) -> i16 {

@@ -64,6 +64,15 @@ extern "C" {
         point_len: usize,
     ) -> WordAnswer;
 
+    pub fn widagbe_add_words(
+        word: *const u8,
+        word_len: usize,
+        other: *const u8,
+        other_len: usize,
+        sum: *mut u8,
+        sum_len: usize,
+    ) -> u32;
+
     pub fn widagbe_decode(
         code: *const u8,
         code_len: usize,

@@ -76,6 +76,10 @@ impl Library for Widagbe {
     fn extend(&self, code: &[u8], word: &[u8], point: &mut [u8]) -> WordAnswer {
         call! { widagbe_extend([code], [word], [mut point]) }
     }
+
+    fn add_words(&self, word: &[u8], other: &[u8], sum: &mut [u8]) -> u32 {
+        call! { widagbe_add_words([word], [other], [mut sum]) }
+    }
 }
 
 impl Alist for Widagbe {
