@@ -31,6 +31,11 @@ pub enum Case {
         word: Vec<u8>,
         room: usize,
     },
+    AddWords {
+        word: Vec<u8>,
+        other: Vec<u8>,
+        room: usize,
+    },
     Decode(DecodeCase),
     Import {
         text: Vec<u8>,
@@ -71,6 +76,7 @@ impl Case {
             Case::Reflect { .. } => "reflect",
             Case::Test { .. } => "test",
             Case::Extend { .. } => "extend",
+            Case::AddWords { .. } => "add_words",
             Case::Decode(_) => "decode",
             Case::Import { .. } => "import",
             Case::Export { .. } => "export",

@@ -50,7 +50,7 @@ impl Codewords {
 
     /// A codeword with random entries outside the pivots.
     pub fn random(&self, random: &mut Random) -> Vec<u8> {
-        let mut word: Vec<u8> = (0..self.bits).map(|_| random.below(2) as u8).collect();
+        let mut word = random.word(self.bits);
         for &pivot in &self.pivots {
             word[pivot] = 0;
         }

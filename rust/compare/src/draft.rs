@@ -114,9 +114,7 @@ fn random_word(random: &mut Random, codewords: &Codewords) -> Vec<u8> {
             let place = random.below(word.len());
             word[place] ^= 1;
         }
-        1 => word
-            .iter_mut()
-            .for_each(|entry| *entry = random.below(2) as u8),
+        1 => word = random.word(word.len()),
         _ => (),
     }
     word

@@ -158,7 +158,7 @@ pub fn converted(alist: &dyn Alist, case: &Case) -> Option<Outcome> {
     }
 }
 
-/// What a case leaves with a library; nothing unless it is a call of document 01.
+/// What a case leaves with a library; nothing unless it is a call of `Library`.
 pub fn called(library: &dyn Library, case: &Case) -> Option<Outcome> {
     Some(match case {
         Case::Read { code } => {
@@ -200,6 +200,11 @@ pub fn called(library: &dyn Library, case: &Case) -> Option<Outcome> {
             let mut point = bytes(*room);
             let answer = library.extend(code, word, point.list());
             Outcome::of_word(answer).with(point.seen("point"))
+        }
+        Case::AddWords { word, other, room } => {
+            let mut sum = bytes(*room);
+            let number = library.add_words(word, other, sum.list());
+            Outcome::new(number, &[]).with(sum.seen("sum"))
         }
         Case::Decode(case) => decode(library, case),
         _ => return None,

@@ -38,6 +38,11 @@ impl Random {
         items[self.below(items.len())]
     }
 
+    /// A word: so many entries 0 or 1.
+    pub fn word(&mut self, length: usize) -> Vec<u8> {
+        (0..length).map(|_| self.below(2) as u8).collect()
+    }
+
     pub fn shuffle<T>(&mut self, items: &mut [T]) {
         for last in (1..items.len()).rev() {
             items.swap(last, self.below(last + 1));

@@ -12,7 +12,7 @@ use std::collections::BTreeMap;
 
 /// Every entry with all the numbers it can give; of the frame program the kinds of
 /// lines, and nothing for the end without one.
-const KINDS: [(&str, &str); 13] = [
+const KINDS: [(&str, &str); 14] = [
     ("read", "0,1,2,3,4,5,6,7,8,9"),
     ("split", "0,1,2,3,4,5,6,7,8,9,10"),
     ("gaussian", "0,10,11,14"),
@@ -21,6 +21,7 @@ const KINDS: [(&str, &str); 13] = [
     ("reflect", "0,10,12,13,15"),
     ("test", "0,1,2,3,4,5,6,7,8,9,12,15,17"),
     ("extend", "0,1,2,3,4,5,6,7,8,9,10,12,15,17"),
+    ("add_words", "0,10,12,15"),
     ("decode", "0,1,2,3,4,5,6,7,8,9,10,11,12,13,16,17"),
     ("import", "0,3,4,6,7,8,10,18,19"),
     ("export", "0,1,2,3,4,5,6,7,8,9,10"),

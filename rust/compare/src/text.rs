@@ -141,6 +141,7 @@ cases! {
     "reflect": costs, word, room => { Case::Reflect { costs, word, room } }
     "test": code, word => { Case::Test { code, word } }
     "extend": code, word, room => { Case::Extend { code, word, room } }
+    "add_words": word, other, room => { Case::AddWords { word, other, room } }
     "decode": code, settings, costs, room =>
         { Case::Decode(DecodeCase { code, settings, costs, room }) }
     "import": text, room => { Case::Import { text, room } }

@@ -7,8 +7,17 @@ use compare::reflections::assert_reflects;
 use compare::round_trips::assert_round_trips;
 use widagbe::Widagbe;
 
-const ENTRIES: [&str; 9] = [
-    "read", "split", "gaussian", "hard", "erasing", "reflect", "test", "extend", "decode",
+const ENTRIES: [&str; 10] = [
+    "read",
+    "split",
+    "gaussian",
+    "hard",
+    "erasing",
+    "reflect",
+    "test",
+    "extend",
+    "add_words",
+    "decode",
 ];
 
 const CONVERSIONS: [&str; 3] = ["import", "export", "export_size"];

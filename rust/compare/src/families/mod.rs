@@ -99,7 +99,7 @@ pub fn all() -> Vec<Family> {
     families
 }
 
-/// The families of document 01's calls.
+/// The families of `Library`'s calls.
 pub fn calls() -> Vec<Family> {
     let mut families = records::families();
     families.extend(words::families());

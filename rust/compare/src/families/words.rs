@@ -1,4 +1,4 @@
-//! The codeword test, the extension and the reflector.
+//! The codeword test, the extension, the reflector and the sum of words.
 
 use super::Family;
 use crate::case::Case;
@@ -14,6 +14,11 @@ pub fn families() -> Vec<Family> {
         Family::random("test and extension, large codes", 10, large_word),
         Family::listed("reflector at the edges", reflector_edges),
         Family::random("reflector", 2_000, reflected),
+        Family::listed("sums at the edges", sum_edges),
+        Family::listed("sums with one wrong entry", sums_with_a_wrong_entry),
+        Family::listed("sums of every length up to 300", sums_of_every_length),
+        Family::random("sums of words", 2_000, short_sum),
+        Family::random("sums of long words", 100, long_sum),
     ]
 }
 
@@ -84,7 +89,7 @@ fn reflected(random: &mut Random) -> Case {
     costs
         .iter_mut()
         .for_each(|cost| *cost = (*cost).max(-32_767));
-    let mut word: Vec<u8> = (0..length).map(|_| random.below(2) as u8).collect();
+    let mut word = random.word(length);
     let mut room = length + random.below(3);
     for _ in 0..random.below(3) {
         match random.below(4) {
@@ -96,4 +101,85 @@ fn reflected(random: &mut Random) -> Case {
         }
     }
     Case::Reflect { costs, word, room }
+}
+
+/// Lengths that agree or do not, entries 0 or 1 or others, lists too short or not, each
+/// with each.
+fn sum_edges() -> Vec<Case> {
+    const ENTRIES: [u8; 4] = [0, 1, 2, 255];
+    let mut cases = Vec::new();
+    for (one, two) in ENTRIES
+        .iter()
+        .flat_map(|&one| ENTRIES.map(|two| (one, two)))
+    {
+        for (word, other) in (0..4).flat_map(|word| (0..4).map(move |other| (word, other))) {
+            for room in 0..5 {
+                cases.push(Case::AddWords {
+                    word: vec![one; word],
+                    other: vec![two; other],
+                    room,
+                });
+            }
+        }
+    }
+    cases
+}
+
+/// An entry 2 or 255 at each place of either word.
+fn sums_with_a_wrong_entry() -> Vec<Case> {
+    let mut random = Random::new(15);
+    let mut cases = Vec::new();
+    for length in [1, 2, 7, 16, 17, 33, 64, 67, 130] {
+        for place in 0..length {
+            for (wrong, entry) in [(0, 2), (0, 255), (1, 2), (1, 255)] {
+                let mut words = [random.word(length), random.word(length)];
+                words[wrong][place] = entry;
+                let [word, other] = words;
+                let room = length;
+                cases.push(Case::AddWords { word, other, room });
+            }
+        }
+    }
+    cases
+}
+
+fn sums_of_every_length() -> Vec<Case> {
+    let mut random = Random::new(16);
+    let case = |length| Case::AddWords {
+        word: random.word(length),
+        other: random.word(length),
+        room: length + length % 3,
+    };
+    (0..=300).map(case).collect()
+}
+
+fn short_sum(random: &mut Random) -> Case {
+    let length = random.below(70);
+    sum_of(random, length)
+}
+
+fn long_sum(random: &mut Random) -> Case {
+    let length = random.between(1_000, 5_000);
+    sum_of(random, length)
+}
+
+fn sum_of(random: &mut Random, length: usize) -> Case {
+    let mut words = [random.word(length), random.word(length)];
+    let mut room = length + random.below(3);
+    for _ in 0..random.below(3) {
+        let word = &mut words[random.below(2)];
+        match random.below(4) {
+            0 => word.push(0),
+            1 => drop(word.pop()),
+            2 => room = random.below(length + 1),
+            _ => {
+                let place = random.below(length + 1);
+                if let Some(entry) = word.get_mut(place) {
+                    *entry = random.between(2, 255) as u8;
+                }
+            }
+        }
+    }
+    let [word, other] = words;
+    Case::AddWords { word, other, room }
 }
