@@ -44,17 +44,27 @@ impl Reflection {
     /// Runs both ways, with a library's reflector and extension; the outcome's
     /// number, or what is not reflected.
     pub fn check(&self, decoder: &dyn Decoder, library: &dyn Library) -> Result<u32, String> {
-        let code = records(&self.code);
         let mut costs = vec![0; self.costs.len()];
-        let mut point = vec![7; self.code.variables()];
         if library.reflect(&self.costs, &self.codeword, &mut costs) != 0 {
             return Err("the reflector refuses".into());
         }
-        if library.extend(&code, &self.codeword, &mut point).number != 0 {
+        self.check_costs(decoder, library, &costs)
+    }
+
+    /// The same with reflected costs that are given.
+    pub fn check_costs(
+        &self,
+        decoder: &dyn Decoder,
+        library: &dyn Library,
+        costs: &[i16],
+    ) -> Result<u32, String> {
+        let mut point = vec![7; self.code.variables()];
+        let extended = library.extend(&records(&self.code), &self.codeword, &mut point);
+        if extended.number != 0 {
             return Err("the extension refuses".into());
         }
         let first = self.run(decoder, &self.costs);
-        let second = self.run(decoder, &costs);
+        let second = self.run(decoder, costs);
         compare_runs(&first, &second, &point)?;
         Ok(first.answer.number)
     }

@@ -5,6 +5,7 @@ use crate::alist_damage::{damage_bytes, damage_lists, damage_numbers, some_damag
 use crate::codes::{any_code, records, Code};
 use crate::damage::{apply, damages_of};
 use crate::draft::{Draft, Entry};
+use crate::lent::{accepted, written};
 use crate::random::Random;
 use interface::{Alist, BytesAnswer};
 use std::collections::BTreeMap;
@@ -54,34 +55,20 @@ pub fn check_round_trips(alist: &dyn Alist) -> Result<Met, String> {
     Ok(met)
 }
 
-/// What a call wrote to a list of this length, or its number. A refusal tells no
-/// bytes, and the entries beyond those told stay.
-fn written(
+/// The bytes that a call wrote to a list of this length, or its number.
+fn bytes_written(
     room: usize,
     call: impl FnOnce(&mut [u8]) -> BytesAnswer,
 ) -> Result<Result<Vec<u8>, u32>, String> {
-    const FILL: u8 = 0xAB;
-    let mut list = vec![FILL; room];
-    let BytesAnswer { number, bytes } = call(&mut list);
-    if bytes > room || (number != 0 && bytes != 0) {
-        return Err(format!("number {number} with {bytes} bytes"));
-    }
-    if list[bytes..].iter().any(|&entry| entry != FILL) {
-        return Err(format!(
-            "number {number}, and an entry past byte {bytes} changed"
-        ));
-    }
-    list.truncate(bytes);
-    Ok(if number == 0 { Ok(list) } else { Err(number) })
-}
-
-fn accepted(result: Result<Vec<u8>, u32>) -> Result<Vec<u8>, String> {
-    result.map_err(|number| format!("refused with {number}"))
+    written(room, 0xAB, |list| {
+        let BytesAnswer { number, bytes } = call(list);
+        (number, bytes)
+    })
 }
 
 /// The records of a text; the text's own length is room enough.
 fn imported(alist: &dyn Alist, text: &[u8]) -> Result<Vec<u8>, String> {
-    accepted(written(text.len(), |list| alist.import(text, list))?)
+    accepted(bytes_written(text.len(), |list| alist.import(text, list))?)
 }
 
 /// The text of records, in a list of exactly the size that is told before.
@@ -90,7 +77,7 @@ fn exported(alist: &dyn Alist, code: &[u8]) -> Result<Vec<u8>, String> {
     if number != 0 {
         return Err(format!("the size is refused with {number}"));
     }
-    let text = accepted(written(bytes, |list| alist.export(code, list))?)?;
+    let text = accepted(bytes_written(bytes, |list| alist.export(code, list))?)?;
     if text.len() != bytes {
         return Err(format!("{} bytes written, {bytes} told before", text.len()));
     }
@@ -124,7 +111,7 @@ fn check_style(alist: &dyn Alist, random: &mut Random, code: &Code) -> Result<()
 /// Exports what it imports in a form that stays. Never says that the text's own
 /// length is too short. Hands back the import's number.
 fn check_text(alist: &dyn Alist, text: &[u8]) -> Result<u32, String> {
-    let code = match written(text.len(), |list| alist.import(text, list))? {
+    let code = match bytes_written(text.len(), |list| alist.import(text, list))? {
         Err(10) => return Err("the text's own length is too short".into()),
         Err(number) => return Ok(number),
         Ok(code) => code,
@@ -147,7 +134,7 @@ fn check_refusal(alist: &dyn Alist, random: &mut Random, code: Code) -> Result<u
     }
     let (code, room) = (&draft.records, draft.text_room);
     let size = alist.export_size(code);
-    let number = match written(room, |list| alist.export(code, list))? {
+    let number = match bytes_written(room, |list| alist.export(code, list))? {
         Ok(text) if text.len() != size.bytes => return Err("another size".into()),
         Ok(_) => 0,
         Err(number) => number,

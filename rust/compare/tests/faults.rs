@@ -2,10 +2,13 @@
 //! which its fault shows.
 
 use compare::case::Case;
+use compare::chains::check_chains;
 use compare::families::{all, Effort};
 use compare::outcome::{outcome, Outcome};
+use compare::random::Random;
 use compare::reflections::check_reflections;
 use compare::round_trips::check_round_trips;
+use compare::sums::check_laws;
 use reference::cause::Cause;
 use reference::fault::{self, Fault};
 use reference::{Reference, SOUND};
@@ -112,5 +115,55 @@ fn round_trips_catch_what_breaks_them() {
         Fault::OneByteMoreNeeded,
     ] {
         assert!(check_round_trips(&with(fault)).is_err(), "{fault:?}");
+    }
+}
+
+#[test]
+fn chains_catch_what_breaks_them() {
+    for (fault, what) in [
+        (Fault::NegatedAtZeros, "chain: a word of zeros put in"),
+        (Fault::MadeNegative, "chain: the chain backwards"),
+        (Fault::NegatedAtNext, "chain: entry"),
+        (Fault::NoCostsRefused, "chain: refused with 12"),
+        (Fault::RestCleared, "chain: number 0, and an entry past"),
+        (Fault::SumIsOr, "chain: one reflection by the sum"),
+        (Fault::SumNotReduced, "chain: refused with 15"),
+        (Fault::NoEntriesRefused, "chain: refused with 12"),
+        (Fault::OtherWordNotJudged, "sums: number 0 where 15 is due"),
+        (
+            Fault::Overlooked(Cause::Lengths),
+            "chain: number 0 where 12 is due",
+        ),
+        (
+            Fault::Overlooked(Cause::WordEntry),
+            "chain: number 0 where 15 is due",
+        ),
+        (
+            Fault::Exchanged(Cause::Lengths, Cause::WordEntry),
+            "chain: number 15 where 12 is due",
+        ),
+        (Fault::AuxiliaryIsOr, "points: the point of the sum"),
+        (Fault::AuxiliaryOfFirst, "run: "),
+        (Fault::AuxiliaryOfLastTwo, "run: "),
+        (Fault::QuotientFloored, "run: "),
+        (Fault::SameWordEachTime, "run: "),
+        (Fault::WordWrittenAlways, "run: "),
+    ] {
+        let found = check_chains(&with(fault)).unwrap_err();
+        println!("{fault:?}: {found}");
+        assert!(found.contains(what), "{fault:?}: {found}");
+    }
+}
+
+#[test]
+fn laws_of_sums_catch_what_breaks_them() {
+    for (fault, what) in [
+        (Fault::SumIsFirst, "in the other order"),
+        (Fault::SumWhereEqual, "with the word of zeros"),
+        (Fault::SumIsOr, "with itself"),
+        (Fault::SumNotReduced, "refused with 15"),
+    ] {
+        let found = check_laws(&with(fault), &mut Random::new(1), 20).unwrap_err();
+        assert!(found.contains(what), "{fault:?}: {found}");
     }
 }

@@ -1,5 +1,6 @@
 //! The compiled library against the reference.
 
+use compare::chains::assert_chains;
 use compare::comparison::compare;
 use compare::families::{calls, conversions, Effort};
 use compare::outcome::{called, converted};
@@ -40,6 +41,11 @@ fn import_and_export_equal_the_reference() {
 #[test]
 fn the_library_reflects() {
     assert_reflects(&Widagbe, &Widagbe);
+}
+
+#[test]
+fn chains_of_the_library() {
+    assert_chains(&Widagbe);
 }
 
 #[test]

@@ -1,6 +1,7 @@
-//! What the reference alone must have: reflection, and points that are exactly
-//! the codewords' points.
+//! What the reference alone must have: reflection, chains of reflections, and points
+//! that are exactly the codewords' points.
 
+use compare::chains::assert_chains;
 use compare::codes::tiny_code;
 use compare::random::Random;
 use compare::reflections::assert_reflects;
@@ -11,6 +12,11 @@ use reference::SOUND;
 #[test]
 fn the_reference_reflects() {
     assert_reflects(&SOUND, &SOUND);
+}
+
+#[test]
+fn chains_of_the_reference() {
+    assert_chains(&SOUND);
 }
 
 /// Whether all four sums of each triple are at most U at the centred values.

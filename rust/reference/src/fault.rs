@@ -41,9 +41,9 @@ faults! {
     ["extend"]:
         AuxiliaryOfLastTwo, AuxiliaryOfFirst, AuxiliaryIsOr;
     ["reflect"]:
-        NegatedAtZeros, NegatedAtNext, NoCostsRefused;
+        NegatedAtZeros, NegatedAtNext, MadeNegative, NoCostsRefused;
     ["add_words"]:
-        SumIsOr, SumNotReduced, OtherWordNotJudged, NoEntriesRefused;
+        SumIsOr, SumIsFirst, SumWhereEqual, SumNotReduced, OtherWordNotJudged, NoEntriesRefused;
     ["gaussian"]:
         ProductNotRounded, HalfAddedAndFloored, InfiniteProductIsZero, SubnormalsFlushed;
     ["gaussian", "hard", "erasing"]:

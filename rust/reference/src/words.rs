@@ -106,11 +106,11 @@ impl Reference {
         self.clear_rest(result);
         let negated = u8::from(!self.has(Fault::NegatedAtZeros));
         let next = usize::from(self.has(Fault::NegatedAtNext));
-        for place in 0..costs.len() {
-            result[place] = if word.get(place + next) == Some(&negated) {
-                -costs[place]
-            } else {
-                costs[place]
+        for (place, &cost) in costs.iter().enumerate() {
+            result[place] = match word.get(place + next) == Some(&negated) {
+                true if self.has(Fault::MadeNegative) => -cost.abs(),
+                true => -cost,
+                false => cost,
             };
         }
         Ok(())
@@ -136,6 +136,8 @@ impl Reference {
         for (entry, (&one, &two)) in sum.iter_mut().zip(word.iter().zip(other)) {
             *entry = match self.fault {
                 Some(Fault::SumIsOr) => one | two,
+                Some(Fault::SumIsFirst) => one,
+                Some(Fault::SumWhereEqual) => u8::from(one == two),
                 Some(Fault::SumNotReduced) => one + two,
                 _ => (one + two) % 2,
             };

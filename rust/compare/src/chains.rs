@@ -1,0 +1,138 @@
+//! Many chains of reflections, on a library alone: of any words, and of codewords with their
+//! points and the runs of the reflected costs.
+
+use crate::chain::{Chain, MOST_WORDS};
+use crate::codes::{any_code, records, Code};
+use crate::codewords::Codewords;
+use crate::lent::ensure;
+use crate::random::Random;
+use crate::reflection::Reflection;
+use crate::sums::{check_laws, check_refusals, point_of, sum_of};
+use interface::Library;
+use std::collections::BTreeMap;
+
+const SEED: u64 = 0x4348_4149;
+
+/// What must happen in some chain of any words.
+const EVENTS: [&str; 7] = [
+    "no costs",
+    "1,000 costs or more",
+    "cost -32,767",
+    "cost 32,767",
+    "word of zeros",
+    "equal words with a 1",
+    "words with a 1 and a sum of zeros",
+];
+
+/// How often each of these was met.
+#[derive(Debug, Default)]
+pub struct Met {
+    /// Chains of any words, by how many there are.
+    chains: BTreeMap<usize, u64>,
+    events: BTreeMap<&'static str, u64>,
+    /// Chains of codewords, by how many there are.
+    codewords: BTreeMap<usize, u64>,
+    /// Outcomes of runs, where the sum of the codewords is not all 0.
+    outcomes: BTreeMap<u32, u64>,
+}
+
+/// Fails unless every chain holds, with chains of each length and each event often enough.
+pub fn assert_chains(library: &dyn Library) {
+    let met = check_chains(library).unwrap();
+    println!("{met:?}");
+    for lengths in [&met.chains, &met.codewords] {
+        assert!(lengths.keys().copied().eq(0..=MOST_WORDS));
+        assert!(lengths.values().all(|&count| count >= 100));
+    }
+    let often = |event| met.events.get(event).is_some_and(|&count| count >= 100);
+    assert!(EVENTS.into_iter().all(often));
+    assert!(met.outcomes.keys().eq(&[0, 16, 17]));
+    assert!(met.outcomes.values().all(|&count| count >= 100));
+}
+
+/// Checks chains, sums and points; what was met, or a failure.
+pub fn check_chains(library: &dyn Library) -> Result<Met, String> {
+    let mut met = Met::default();
+    for seed in SEED..SEED + 6_000 {
+        let mut random = Random::new(seed);
+        let at_seed = |what| format!("seed {seed:#x}: {what}");
+        check_words(library, &mut random, &mut met).map_err(at_seed)?;
+        check_codewords(library, &mut random, &mut met).map_err(at_seed)?;
+    }
+    Ok(met)
+}
+
+/// Checks a chain of any words, and sums of words of its length.
+fn check_words(library: &dyn Library, random: &mut Random, met: &mut Met) -> Result<(), String> {
+    let chain = Chain::random(random);
+    *met.chains.entry(chain.words.len()).or_default() += 1;
+    for (event, happens) in EVENTS.into_iter().zip(events(&chain)) {
+        *met.events.entry(event).or_default() += u64::from(happens);
+    }
+    chain.check(library, random).map_err(of("chain"))?;
+    check_laws(library, random, chain.costs.len()).map_err(of("sums"))?;
+    check_refusals(library, random, chain.costs.len()).map_err(of("sums"))
+}
+
+/// Says what failed.
+fn of(part: &'static str) -> impl Fn(String) -> String {
+    move |what| format!("{part}: {what}")
+}
+
+/// Which of the events a chain has.
+fn events(chain: &Chain) -> [bool; EVENTS.len()] {
+    let Chain { costs, words } = chain;
+    let ones: Vec<&Vec<u8>> = words.iter().filter(|word| word.contains(&1)).collect();
+    let mut places = 0..costs.len();
+    let even = places.all(|place| ones.iter().filter(|word| word[place] == 1).count() % 2 == 0);
+    [
+        costs.is_empty(),
+        costs.len() >= 1_000,
+        costs.contains(&-32_767),
+        costs.contains(&32_767),
+        !costs.is_empty() && ones.len() < words.len(),
+        (1..ones.len()).any(|place| ones[..place].contains(&ones[place])),
+        !ones.is_empty() && even,
+    ]
+}
+
+/// Checks a chain of codewords: its points, and its run against the first one.
+fn check_codewords(
+    library: &dyn Library,
+    random: &mut Random,
+    met: &mut Met,
+) -> Result<(), String> {
+    let code = any_code(random);
+    let codewords = Codewords::of(&code);
+    let mut reflection = Reflection::random(random, code);
+    let costs = reflection.costs.clone();
+    let chain = Chain::over(random, costs, |random| codewords.random(random));
+    *met.codewords.entry(chain.words.len()).or_default() += 1;
+    chain.check(library, random).map_err(of("chain"))?;
+    let (end, sum) = (chain.end(library)?, chain.sum(library)?);
+    check_points(library, &reflection.code, &chain.words, &sum).map_err(of("points"))?;
+    reflection.codeword = sum;
+    let run = reflection.check_costs(library, library, &end);
+    let number = run.map_err(of("run"))?;
+    if reflection.codeword.contains(&1) {
+        *met.outcomes.entry(number).or_default() += 1;
+    }
+    Ok(())
+}
+
+/// Checks that the sum of codewords is a codeword, and its point the sum of their points.
+fn check_points(
+    library: &dyn Library,
+    code: &Code,
+    codewords: &[Vec<u8>],
+    sum: &[u8],
+) -> Result<(), String> {
+    let (variables, code) = (code.variables(), records(code));
+    let tested = library.test(&code, sum).number == 0;
+    ensure(tested, "the sum of codewords is no codeword")?;
+    let point = |word: &Vec<u8>| point_of(library, &code, variables, word);
+    let points: Vec<Vec<u8>> = codewords.iter().map(point).collect::<Result<_, String>>()?;
+    let extended = point_of(library, &code, variables, sum)?;
+    let equal = extended == sum_of(library, variables, &points)?;
+    ensure(equal, "the point of the sum is not the sum of the points")
+}
