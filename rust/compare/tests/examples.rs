@@ -1,4 +1,4 @@
-//! C programs over the header: the example prints what is stored, as the Rust
+//! C programs over the header: each example prints what is stored, as the Rust
 //! example does, and a program of every call prints what Rust is answered.
 
 use std::env;
@@ -30,6 +30,12 @@ fn the_c_example_prints_what_is_stored() {
 fn the_c_example_of_alist_text_prints_what_is_stored() {
     let expected = include_str!("../../../examples/alist/expected.txt");
     assert_eq!(run_c("../../examples/c/alist.c", "-std=c99"), expected);
+}
+
+#[test]
+fn the_c_example_of_a_chain_prints_what_is_stored() {
+    let expected = include_str!("../../../examples/chain-expected.txt");
+    assert_eq!(run_c("../../examples/c/chain.c", "-std=c99"), expected);
 }
 
 #[test]
@@ -124,6 +130,10 @@ fn calls() -> String {
     let answer = Widagbe.extend(&CODE, &codeword, &mut point);
     line(&mut text, "extend", &[answer.number as usize, answer.place]);
     line(&mut text, "", &point);
+    let mut sum = vec![0; n + 1];
+    let number = Widagbe.add_words(&codeword, &other, &mut sum);
+    line(&mut text, "add_words", &[number]);
+    line(&mut text, "", &sum);
 
     let mut lists = OwnLists::exact(n + 1, v + 1, t, 0);
     lists.triples.push(0);

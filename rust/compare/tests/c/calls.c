@@ -60,6 +60,9 @@ int main(void)
     answer = widagbe_extend(LIST(code), LIST(codeword), LIST(point));
     printf("extend %" PRIu32 " %zu\n", answer.number, answer.place);
     SHOW(point);
+    uint8_t sum[N + 1] = {0};
+    printf("add_words %" PRIu32 "\n", widagbe_add_words(LIST(codeword), LIST(other), LIST(sum)));
+    SHOW(sum);
 
     int64_t sums[V + 1] = {0};
     int16_t values[V + 1] = {0};
