@@ -4,10 +4,10 @@
 use crate::chain::{Chain, MOST_WORDS};
 use crate::codes::{any_code, records, Code};
 use crate::codewords::Codewords;
-use crate::lent::ensure;
+use crate::lent::{accepted, ensure, filled};
 use crate::random::Random;
 use crate::reflection::Reflection;
-use crate::sums::{check_laws, check_refusals, point_of, sum_of};
+use crate::sums::{check_laws, check_refusals, sum_of};
 use interface::Library;
 use std::collections::BTreeMap;
 
@@ -130,9 +130,12 @@ fn check_points(
     let (variables, code) = (code.variables(), records(code));
     let tested = library.test(&code, sum).number == 0;
     ensure(tested, "the sum of codewords is no codeword")?;
-    let point = |word: &Vec<u8>| point_of(library, &code, variables, word);
-    let points: Vec<Vec<u8>> = codewords.iter().map(point).collect::<Result<_, String>>()?;
-    let extended = point_of(library, &code, variables, sum)?;
-    let equal = extended == sum_of(library, variables, &points)?;
+    let point_of = |word: &[u8]| {
+        let call = |list: &mut [u8]| library.extend(&code, word, list).number;
+        accepted(filled(variables, 0xAB, call)?)
+    };
+    let points = codewords.iter().map(|word| point_of(word));
+    let points: Vec<Vec<u8>> = points.collect::<Result<_, String>>()?;
+    let equal = point_of(sum)? == sum_of(library, variables, &points)?;
     ensure(equal, "the point of the sum is not the sum of the points")
 }

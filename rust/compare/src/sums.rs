@@ -4,12 +4,9 @@ use crate::lent::{accepted, ensure, filled, refused};
 use crate::random::Random;
 use interface::Library;
 
-/// An entry that no sum has.
-const FILL: u8 = 0xAB;
-
 /// The sum of two words, or the number.
 fn add(library: &dyn Library, word: &[u8], other: &[u8]) -> Result<Result<Vec<u8>, u32>, String> {
-    filled(word.len(), FILL, |list| {
+    filled(word.len(), 0xAB, |list| {
         library.add_words(word, other, list)
     })
 }
@@ -22,18 +19,6 @@ fn added(library: &dyn Library, word: &[u8], other: &[u8]) -> Result<Vec<u8>, St
 pub fn sum_of(library: &dyn Library, length: usize, words: &[Vec<u8>]) -> Result<Vec<u8>, String> {
     let mut words = words.iter();
     words.try_fold(vec![0; length], |sum, word| added(library, &sum, word))
-}
-
-/// The point of a codeword.
-pub fn point_of(
-    library: &dyn Library,
-    code: &[u8],
-    variables: usize,
-    word: &[u8],
-) -> Result<Vec<u8>, String> {
-    accepted(filled(variables, FILL, |list| {
-        library.extend(code, word, list).number
-    })?)
 }
 
 /// Checks the laws of a sum on random words of this length.
