@@ -20,6 +20,7 @@ pub mod Paper
 pub mod PaperSystem
 pub mod Points
 pub mod Demand3
+pub mod Composition
 pub mod Told
 pub mod WordClaims
 pub mod Worked
