@@ -21,7 +21,7 @@ use Rattle.model.proofs.Rows.{two}
 use Rattle.model.proofs.Demand3.{total-sum, sum-entry}
 
 -- ---- sums of words
-length-sum : (w u : List ℕ) → length (sumOfWords w u) ≡ length w
+pub length-sum : (w u : List ℕ) → length (sumOfWords w u) ≡ length w
 unfolding sumOfWords
 length-sum w u = length-tab (length w) (λ i. (bitAt w i + bitAt u i) % 2)
 
@@ -101,9 +101,9 @@ module _ (n : ℕ) where
   pub zero-reflects : (costs : List ℤ) → reflect (zeroWord n) costs ≡ costs
   zero-reflects costs = reflected-is (zeroWord n) costs costs refl (λ i. rw (zero-at n i))
 
-  chain : (ws : List (List ℕ)) (costs : List ℤ) → Each (Bits n) ws → chained ws costs ≡ reflect (sumOfAll n ws) costs
-  chain [] costs h = sym (zero-reflects costs)
-  chain (w ∷ ws) costs h = chain ws (reflect w costs) (h .1) ∙ two-words costs w (sumOfAll n ws) (h .0) (all-bits n ws (h .1))
+  pub chain-is : (ws : List (List ℕ)) (costs : List ℤ) → Each (Bits n) ws → chained ws costs ≡ reflect (sumOfAll n ws) costs
+  chain-is [] costs h = sym (zero-reflects costs)
+  chain-is (w ∷ ws) costs h = chain-is ws (reflect w costs) (h .1) ∙ two-words costs w (sumOfAll n ws) (h .0) (all-bits n ws (h .1))
 
 pub composes : (costs : List ℤ) → Composes costs
 composes costs =
@@ -114,7 +114,7 @@ composes costs =
       order = λ w u a b. two-words n costs w u a b ∙ ap by (sums n .order w u a b) ∙ sym (two-words n costs u w b a);
       zero-word = zero-reflects n costs;
       twice = λ w a. two-words n costs w w a a ∙ ap by (sums n .twice w a) ∙ zero-reflects n costs;
-      chains = λ ws h. chain n ws costs h;
+      chains = λ ws h. chain-is n ws costs h;
     }
 
 -- ---- codewords and their points
@@ -178,3 +178,13 @@ module _ (k : Code) where
 
 pub extends : (k : Code) → Sound k → Extends k
 extends k s = record { zero-word = zero-codeword k; codeword = sum-codeword k; sum = λ w u a b. extension-sum k w u a b s }
+
+-- ---- chains of codewords
+module _ (k : Code) where
+  pub words-of : (ws : List (List ℕ)) → Each (Codeword k) ws → Each (Bits (k .bits)) ws
+  words-of [] h = tt
+  words-of (w ∷ ws) h = (h .0 .word, words-of ws (h .1))
+
+  pub all-codewords : (ws : List (List ℕ)) → Each (Codeword k) ws → Codeword k (sumOfAll (k .bits) ws)
+  all-codewords [] h = zero-codeword k
+  all-codewords (w ∷ ws) h = sum-codeword k w (sumOfAll (k .bits) ws) (h .0) (all-codewords ws (h .1))

@@ -23,6 +23,8 @@ pub mod Demand3
 pub mod Composition
 pub mod Told
 pub mod WordClaims
+pub mod ComposedCalls
+pub mod WordCalls
 pub mod Worked
 pub mod WholeCalls
 pub mod Floats
