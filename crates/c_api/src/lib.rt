@@ -3,7 +3,7 @@
 ghost use mathlib.Core.Path.{_≡_};
 ghost use Rattle.model.specs.declared.Settings.{Settings};
 ghost use Rattle.model.specs.Calls.{readingTold, verdictTold, listsOf, decodingTold};
-ghost use Rattle.model.specs.Promises.{ReaderCall, SplitterCall, FrontCall, ReflectorCall, TestCall, ExtensionCall, DecoderCall};
+ghost use Rattle.model.specs.Promises.{ReaderCall, SplitterCall, FrontCall, ReflectorCall, AdderCall, TestCall, ExtensionCall, DecoderCall};
 ghost use Rattle.model.specs.AlistPromises.{ImportCall, ExportCall, SizeCall};
 ghost use Rattle.c_api.specs.Answers.{codeAnswer, wordAnswer, decodeAnswer};
 use model::Channel;
@@ -203,6 +203,13 @@ pub extern "C" fn widagbe_reflect(costs: &[i16], word: &[u8], result: &mut [i16]
 }
 
 // ---- words
+
+#[no_mangle]
+pub extern "C" fn widagbe_add_words(word: &[u8], other: &[u8], sum: &mut [u8]) -> u32
+    ensures { λ r. ⌜ AdderCall (now (word .entry)) (now (other .entry)) (now (sum .entry)) (record { number = r; word = now (sum .exit) }) ⌝ }
+{
+    adder::add(word, other, sum)
+}
 
 #[no_mangle]
 pub extern "C" fn widagbe_test(code: &[u8], word: &[u8]) -> WordAnswer

@@ -12,7 +12,8 @@ use Rattle.model.specs.Told.{verdictKind}
 use Rattle.model.specs.Promises.{TestCall, ExtensionCall}
 use Rattle.model.proofs.Causes.{first-in, clear, unless}
 use Rattle.model.proofs.Order.{listed}
-use Rattle.model.proofs.Promises.{word-refuses, test-call, extension-call}
+use Rattle.model.proofs.WordCalls.{word-refuses}
+use Rattle.model.proofs.Promises.{test-call, extension-call}
 
 -- ---- the causes of both calls: the code, the word, then l
 abbrev pub word-cause : ℕ → List ℕ → ℕ

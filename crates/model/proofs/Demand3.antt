@@ -21,7 +21,7 @@ use Rattle.model.specs.Reflection.{negatedIf, reflect, sumOfWords}
 use Rattle.model.specs.Claims.{Reflection, Demand3}
 use Rattle.model.proofs.Accepted.{accepted}
 use Rattle.model.proofs.Points.{totals-bits, point-begins, point-even, point-binary, points}
-use Rattle.model.proofs.Reflection.{turned-zero, unique, injective, opposite, begun, each, ends}
+use Rattle.model.proofs.Reflection.{turned-zero, reflect-at, unique, injective, opposite, begun, each, ends}
 
 -- ---- from values to word
 turned-undecided : (b : ℕ) (z : ℤ) → eqb (natAbs (negatedIf b z)) 0 ≡ eqb (natAbs z) 0
@@ -39,11 +39,11 @@ turned-bit (suc b) (pos (suc n)) h e = rw (lt-ltb 0 (suc n) (omega arith)) (omeg
 turned-bit (suc b) (negsuc n) h e = rw (lt-ltb 0 (suc n) (omega arith)) (omega arith)
 
 -- parities of a sum of words
-total-sum : (x y : ℕ → ℕ) (c : List ℕ) → total (λ i. (x i + y i) % 2) c % 2 ≡ (total x c + total y c) % 2
+pub total-sum : (x y : ℕ → ℕ) (c : List ℕ) → total (λ i. (x i + y i) % 2) c % 2 ≡ (total x c + total y c) % 2
 total-sum x y [] = refl
 total-sum x y (i ∷ c) = omega (arith, total-sum x y c)
 
-sum-entry : (w u : List ℕ) (i : ℕ) → i < length w → bitAt (sumOfWords w u) i ≡ (bitAt w i + bitAt u i) % 2
+pub sum-entry : (w u : List ℕ) (i : ℕ) → i < length w → bitAt (sumOfWords w u) i ≡ (bitAt w i + bitAt u i) % 2
 unfolding sumOfWords
 sum-entry w u i h = getD-tab (length w) (λ i. (bitAt w i + bitAt u i) % 2) i 0 h
 
@@ -95,17 +95,13 @@ module _ (k : Code) (s : Sound k) (w : List ℕ) (c : Codeword k w) where
 
   -- ---- the costs
   costs-turned : (costs : List ℤ) → length costs ≡ k .bits → (v : ℕ) → at (reflect w costs) v ≡ negatedIf (bitAt (pointOf k w) v) (at costs v)
-  unfolding reflect
-  costs-turned costs h v = by (decLt v (k .bits))
+  costs-turned costs h v = reflect-at w costs v ∙ by (decLt v (k .bits))
     where
-      f : ℕ → ℤ
-      f i = negatedIf (bitAt w i) (at costs i)
-
-      by : Dec (v < k .bits) → at (tab (length costs) f) v ≡ negatedIf (bitAt (pointOf k w) v) (at costs v)
-      by (yes l) = getD-tab (length costs) f v (pos 0) (omega arith) ∙ rw (point-begins k s w (c .word .long) v l)
+      by : Dec (v < k .bits) → negatedIf (bitAt w v) (at costs v) ≡ negatedIf (bitAt (pointOf k w) v) (at costs v)
+      by (yes l) = rw (point-begins k s w (c .word .long) v l)
       by (no l) =
           let none : at costs v ≡ pos 0 = List·getD-eq-default costs (pos 0) (omega arith) in
-          List·getD-eq-default (tab (length costs) f) (pos 0) (omega (arith, length-tab (length costs) f)) ∙ rw none (sym (turned-zero (bitAt (pointOf k w) v)))
+          rw none (turned-zero (bitAt w v) ∙ sym (turned-zero (bitAt (pointOf k w) v)))
 
   reflection : Reflection k w
   reflection =

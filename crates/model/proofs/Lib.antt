@@ -20,8 +20,11 @@ pub mod Paper
 pub mod PaperSystem
 pub mod Points
 pub mod Demand3
+pub mod Composition
 pub mod Told
 pub mod WordClaims
+pub mod ComposedCalls
+pub mod WordCalls
 pub mod Worked
 pub mod WholeCalls
 pub mod Floats

@@ -233,15 +233,19 @@ module _ (k : Code) (s : Sound k) where
   pub point-binary : (w : List ℕ) → Codeword k w → (i : ℕ) → bitAt (pointOf k w) i < 2
   point-binary w c = extend-binary (systemOf k .members) w (c .word .binary)
 
+  -- a list of 0 and 1 meets the system where it is even on every triple
+  pub even-point : (p : List ℕ) → Bits (systemOf k .variables) p → Even (bitAt p) (systemOf k .members) (systemOf k .triples) → Point (systemOf k) p
+  even-point p b e = record { point = b; meets = λ t r h l. even-meets _ _ _ (b .binary _) (b .binary _) (b .binary _) (e t h) r l }
+
   pub point : (w : List ℕ) → Codeword k w → Point (systemOf k) (pointOf k w)
   unfolding systemOf
-  point w c = record {
-    point = record {
-      long = checks-grow (k .bits) some-bit (k .checks) (k .bits) (omega arith) (s .checks) w (c .word .long) .0;
-      binary = point-binary w c;
-    };
-    meets = λ t r h l. even-meets _ _ _ (point-binary w c _) (point-binary w c _) (point-binary w c _) (point-even w c t h) r l;
-  }
+  point w c =
+      even-point (pointOf k w)
+      (record {
+        long = checks-grow (k .bits) some-bit (k .checks) (k .bits) (omega arith) (s .checks) w (c .word .long) .0;
+        binary = point-binary w c;
+      })
+      (point-even w c)
 
   pub begins : (w : List ℕ) → Codeword k w → take (k .bits) (pointOf k w) ≡ w
   unfolding systemOf

@@ -1,5 +1,5 @@
 -- What each entry promises of a call follows from the equation with its definition. Assumes nothing.
-use Rattle.integers.proofs.Prelude.{_≡_, refl, sym, ap, subst, _∙_, Bool, true, false, not, _||_, List, [], _∷_, _++_, map, ℕ, zero, suc, _*_, _≤_, _<_}
+use Rattle.integers.proofs.Prelude.{_≡_, refl, sym, ap, ap₂, subst, _∙_, Bool, true, false, not, _||_, List, [], _∷_, _++_, map, ℕ, zero, suc, _*_, _≤_, _<_}
 use Rattle.integers.proofs.Prelude.{arith, ltb-false, le-ltb, not-false, ltb, ℤ, pos, length, getD, take}
 use lib.Ieee.{Float, nan}
 use Rattle.lists.specs.Entries.{some}
@@ -12,11 +12,12 @@ use Rattle.model.specs.Causes.{_if_, firstOf, short, accepted}
 use Rattle.model.specs.Code.{Code, triples, variables}
 use Rattle.model.specs.Records.{codeOf, judge, recordCauses}
 use Rattle.model.specs.RecordClaims.{Bytes}
+use Rattle.model.specs.Sound.{Sound}
 use Rattle.model.specs.Splitting.{systemOf}
 use Rattle.model.specs.Iteration.{at}
 use Rattle.model.specs.Words.{firstOdd, Outcome, tested}
 use Rattle.model.specs.Points.{Codeword, pointOf}
-use Rattle.model.specs.Reflection.{reflect}
+use Rattle.model.specs.Reflection.{reflect, sumOfWords}
 use Rattle.model.specs.Channel.{finite, inRange, product, costOf}
 use Rattle.model.specs.Calls.{unequal, forbidden, notBinary, ReaderAnswer, reader, Split, splitter, wordCauses, codewordTest}
 use Rattle.model.specs.Calls.{Extended, extensionCauses, extension, Lists, Decoded, noRoom, decoderCause, decoder, Costs, frontCauses, channelFront, reflectorCauses, reflector}
@@ -24,21 +25,26 @@ use Rattle.model.specs.Order.{oddCauses, Ordered, oneToNine}
 use Rattle.model.specs.Told.{Refuses}
 use Rattle.model.specs.ChannelClaims.{Costed, ofSingles}
 use Rattle.model.specs.WordClaims.{Tested, PointOf}
+use Rattle.model.specs.Composition.{zeroWord, sumOfAll, chained, Each, Added, adderCauses, adder, handedOn}
 use Rattle.model.specs.DecoderClaims.{Refused, Ran, Iterated, Bounded, AsBefore, Small, ReflectedCalls}
-use Rattle.model.specs.Promises.{ReaderCall, SplitterCall, FrontCall, ReflectorCall, TestCall, ExtensionCall, DecoderCall}
+use Rattle.model.specs.Promises.{ReaderCall, SplitterCall, FrontCall, ReflectorCall, AdderCall, TestCall, ExtensionCall, DecoderCall}
 use Rattle.model.proofs.Causes.{stays, clear, unless, first-in}
 use Rattle.model.proofs.Accepted as Accepted
 use Rattle.model.proofs.Order.{Listed, listed, both, whole, follow, ordered, refuses, after-records, records-ordered, word-order}
 use Rattle.model.proofs.RecordClaims.{record-claims}
 use Rattle.model.proofs.WordClaims.{tested-is, test-claims, point-claims, word-bits, bits-pass}
-use Rattle.model.proofs.Points.{point, points}
+use Rattle.model.proofs.WordCalls.{answer-odd, answer-place, none-listed, test-is, test-exactly}
+use Rattle.model.proofs.WordCalls.{no-room, room-listed, extension-is, extension-exactly, point-taken}
+use Rattle.model.proofs.Points.{points}
 use Rattle.model.proofs.ChannelClaims.{channel-claims, negated-call}
 use Rattle.model.proofs.PaperSystem.{published}
 use Rattle.model.proofs.Demand3 as Demand3
 use Rattle.model.proofs.DecoderCalls as Calls
 use Rattle.model.proofs.Courses.{iterated}
 use Rattle.model.proofs.BoundedCalls.{bounded}
-use Rattle.model.proofs.ReflectedCalls.{length-reflect, reflected-calls}
+use Rattle.model.proofs.Composition.{zero-bits, sum-bits, length-sum, sums, length-reflect, chain-is, composes, sum-codeword, extends, words-of, all-codewords}
+use Rattle.model.proofs.ComposedCalls.{reflector-is, reflector-took, composed-calls, chain-bits, handed-on, adder-exactly}
+use Rattle.model.proofs.ReflectedCalls.{reflected-calls}
 
 -- ---- the reader
 pub reader-call : (b : List ℕ) (a : ReaderAnswer) → Bytes b → a ≡ reader b → ReaderCall b a
@@ -107,88 +113,53 @@ module _ (setting : Channel) (samples : List Float) (old : List ℤ) (singles : 
       })
 
 -- ---- the reflector
-pub reflector-call : (costs : List ℤ) (w : List ℕ) (old : List ℤ) (a : Costs) → a ≡ reflector costs w old → ReflectorCall costs w old a
+pub reflector-call : (costs : List ℤ) (w : List ℕ) (old : List ℤ) (a : Costs) → (reflector costs w old .number ≡ 0 → Small costs) → a ≡ reflector costs w old
+    → ReflectorCall costs w old a
 unfolding reflector
-reflector-call costs w old a meets =
+reflector-call costs w old a small meets =
     let T : List ℕ = 10 ∷ 12 ∷ 13 ∷ 15 ∷ [] in
     let causes : List (ℕ × Bool)
     = (12, unequal w (length costs)) ∷ (13, some forbidden costs) ∷ (15, some notBinary w) ∷ (10, short (length costs) old) ∷ [] in
+    let took = reflector-took costs w old in
+    let taken : reflector costs w old .number ≡ 0 → take (length costs) (reflector costs w old .costs) ≡ reflect w costs
+    = λ h. rw h (take-written (reflect w costs) old (length costs) (length-reflect w costs)) in
     subst (ReflectorCall costs w old) (sym meets) (record {
       equation = refl;
       order = ordered (reflectorCauses costs w old) T _ (listed T causes refl) refl;
       follows = follow causes refl;
+      exactly = (λ h. (let x = took h in (small h, x .0, x .1)), λ t. ap (λ (x : Costs). x .number) (reflector-is costs w old (t .0) (t .1) (t .2)));
       refused = λ c h. rw h;
       reflected = λ h. rw h;
+      composes = composes costs;
+      composed = λ h u out c second. composed-calls costs (small h) w (took h .0) u out c (second ∙ ap (λ (x : List ℤ). reflector x u out) (taken h));
+      chain = λ h l each u out c last.
+          let more = sumOfAll (length costs) (map (λ x. x .0) l) in
+          let handed = ap (λ (x : List ℤ). handedOn x l) (taken h) ∙ handed-on costs (small h) l each w (took h .0) in
+          composed-calls costs (small h) (sumOfWords w more) (sum-bits (length costs) w more (took h .0) (chain-bits costs (small h) l each)) u out c
+          (last ∙ ap (λ (x : List ℤ). reflector x u out) handed);
+      zero-word = λ h out room.
+          reflector-is costs (zeroWord (length costs)) out (small h) (zero-bits (length costs)) room
+          ∙ ap (λ (x : List ℤ). record { number = 0; costs = written x out }) (composes costs .zero-word);
     })
 
--- ---- the codeword test and the extension: after the causes of the code, of the word and l, the word is tested
-module _ (b w l : List ℕ) (known : Listed (oneToNine ++ (10 ∷ 12 ∷ 15 ∷ [])) l) where
-  abbrev word-causes : List ℕ
-  word-causes = judge b ∷ (wordCauses (codeOf b .bits) w ++ l)
+-- ---- the sum of two words
+pub adder-call : (w u old : List ℕ) (a : Added) → a ≡ adder w u old → AdderCall w u old a
+unfolding adder
+adder-call w u old a meets =
+    let T : List ℕ = 10 ∷ 12 ∷ 15 ∷ [] in
+    let causes : List (ℕ × Bool) = (12, unequal u (length w)) ∷ (15, some notBinary w || some notBinary u) ∷ (10, short (length w) old) ∷ [] in
+    subst (AdderCall w u old) (sym meets) (record {
+      equation = refl;
+      order = ordered (adderCauses w u old) T _ (listed T causes refl) refl;
+      follows = follow causes refl;
+      exactly = adder-exactly w u old;
+      refused = λ c h. rw h;
+      summed = λ h. rw h;
+      taken = λ h. rw h (take-written (sumOfWords w u) old (length w) (length-sum w u));
+      sums = sums (length w);
+    })
 
-  -- the number of a refusal is a refusal's
-  pub word-refuses : (c : ℕ) → firstOf word-causes ≡ suc c → Refuses (suc c)
-  word-refuses c e =
-      let T = oneToNine ++ (10 ∷ 12 ∷ 15 ∷ []) in
-      refuses (recordCauses b ++ (wordCauses (codeOf b .bits) w ++ l)) T c refl
-      (subst (Ordered (recordCauses b ++ (wordCauses (codeOf b .bits) w ++ l)) T) e
-      (after-records (10 ∷ 12 ∷ 15 ∷ []) b (wordCauses (codeOf b .bits) w ++ l) (firstOf word-causes)
-      (both T (wordCauses (codeOf b .bits) w) l (listed T ((12, unequal w (codeOf b .bits)) ∷ (15, some notBinary w) ∷ []) refl) known) refl))
-
-  -- where none of the causes holds
-  module _ (h : firstOf word-causes ≡ 0) where
-    after-code : (judge b ≡ 0) × (firstOf (wordCauses (codeOf b .bits) w ++ l) ≡ 0)
-    after-code = by (judge b) refl h
-      where
-        by : (j : ℕ) → judge b ≡ j → firstOf (j ∷ (wordCauses (codeOf b .bits) w ++ l)) ≡ 0 → (judge b ≡ 0) × (firstOf (wordCauses (codeOf b .bits) w ++ l) ≡ 0)
-        by zero e h = (e, h)
-        by (suc j) e h = absurd (omega arith)
-
-    after-word : (firstOf (wordCauses (codeOf b .bits) w) ≡ 0) × (firstOf l ≡ 0)
-    after-word = by (firstOf (wordCauses (codeOf b .bits) w)) refl (first-in (wordCauses (codeOf b .bits) w) l ∙ after-code .1)
-      where
-        by : (c : ℕ) → firstOf (wordCauses (codeOf b .bits) w) ≡ c → firstOf (c ∷ l) ≡ 0 → (firstOf (wordCauses (codeOf b .bits) w) ≡ 0) × (firstOf l ≡ 0)
-        by zero e h = (e, h)
-        by (suc c) e h = absurd (omega arith)
-
-    word-tested : Tested (codeOf b) w
-    word-tested = test-claims (codeOf b) w (word-bits (codeOf b .bits) w (after-word .0))
-
-  -- and a codeword of an accepted code passes them
-  codeword-passes : judge b ≡ 0 → Codeword (codeOf b) w → firstOf word-causes ≡ firstOf l
-  codeword-passes j c = rw j (bits-pass (codeOf b .bits) w l (c .word))
-
-  codeword-tested : Codeword (codeOf b) w → tested (codeOf b) w .number ≡ 0
-  codeword-tested c = test-claims (codeOf b) w (c .word) .codeword .1 c
-
-  -- the answer
-  abbrev answer : Outcome
-  answer = accepted (firstOf word-causes) (tested (codeOf b) w) (record { number = firstOf word-causes; place = 0 })
-
-  answer-is : (P : Outcome → Type 0) → ((c : ℕ) → Refuses (suc c) → P (record { number = suc c; place = 0 })) → (firstOf word-causes ≡ 0 → P (tested (codeOf b) w)) → P answer
-  answer-is P refused tests = by (firstOf word-causes) refl
-    where
-      by : (c : ℕ) → firstOf word-causes ≡ c → P (accepted c (tested (codeOf b) w) (record { number = c; place = 0 }))
-      by zero e = tests e
-      by (suc c) e = refused c (word-refuses c e)
-
-  answer-codeword : answer .number ≡ 0 → (judge b ≡ 0) × (firstOf l ≡ 0) × Codeword (codeOf b) w
-  answer-codeword =
-      answer-is (λ x. x .number ≡ 0 → (judge b ≡ 0) × (firstOf l ≡ 0) × Codeword (codeOf b) w) (λ c r h. absurd (omega arith))
-      (λ e h. (after-code e .0, after-word e .1, word-tested e .codeword .0 h))
-
-  codeword-answer : judge b ≡ 0 → firstOf l ≡ 0 → Codeword (codeOf b) w → answer .number ≡ 0
-  codeword-answer j e c = rw (codeword-passes j c, e) (codeword-tested c)
-
-  answer-odd : answer .number ≡ 17 → (answer ≡ tested (codeOf b) w) × Tested (codeOf b) w
-  answer-odd =
-      answer-is (λ x. x .number ≡ 17 → (x ≡ tested (codeOf b) w) × Tested (codeOf b) w) (λ c r h. absurd (omega arith)) (λ e h. (refl, word-tested e))
-
-  answer-place : (answer .number ≡ 17 → ⊥) → answer .place ≡ 0
-  answer-place =
-      answer-is (λ x. (x .number ≡ 17 → ⊥) → x .place ≡ 0) (λ c r h. refl)
-      (λ e. tested-is (codeOf b) w (λ x. (x .number ≡ 17 → ⊥) → x .place ≡ 0) (λ k h. absurd (h refl)) (λ k h. refl))
-
+-- ---- the codeword test and the extension
 module _ (b w : List ℕ) where
   abbrev k : Code
   k = codeOf b
@@ -200,68 +171,50 @@ module _ (b w : List ℕ) where
   unfolding codewordTest
   test-call a meets =
       let T = oneToNine ++ (12 ∷ 15 ∷ 17 ∷ []) in
-      let none = listed (oneToNine ++ (10 ∷ 12 ∷ 15 ∷ [])) [] refl in
       let causes : List (ℕ × Bool) = (12, unequal w (k .bits)) ∷ (15, some notBinary w) ∷ (17, odd-there) ∷ [] in
       subst (TestCall b w) (sym meets) (record {
         equation = refl;
         order = after-records (12 ∷ 15 ∷ 17 ∷ []) b (wordCauses (k .bits) w ++ oddCauses k w) _
             (listed T causes refl) (word-order k w (judge b ∷ wordCauses (k .bits) w));
         follows = follow (whole b ++ causes) refl;
-        codeword = (
-          λ h. (let x = answer-codeword b w [] none h in (x .0, x .2)),
-          λ c. codeword-answer b w [] none (c .0) refl (c .1),
-        );
-        odd = answer-odd b w [] none;
-        place = answer-place b w [] none;
+        codeword = test-exactly b w;
+        odd = answer-odd b w [] none-listed;
+        place = answer-place b w [] none-listed;
+        sum = λ h u g.
+            let x = test-exactly b w .0 h in
+            test-is b (sumOfWords w u) (x .0) (sum-codeword k w u (x .1) (test-exactly b u .0 g .1));
       })
 
   module _ (p : List ℕ) where
-    abbrev no-room : List ℕ
-    no-room = 10 if short (variables k) p ∷ []
-
-    room-listed : Listed (oneToNine ++ (10 ∷ 12 ∷ 15 ∷ [])) no-room
-    room-listed = listed (oneToNine ++ (10 ∷ 12 ∷ 15 ∷ [])) ((10, short (variables k) p) ∷ []) refl
-
-    room : firstOf no-room ≡ 0 → variables k ≤ length p
-    room e = ltb-false (length p) (variables k) (unless 9 (short (variables k) p) (clear no-room e .0))
-
-    no-cause : variables k ≤ length p → firstOf no-room ≡ 0
-    no-cause h = rw (le-ltb (length p) (variables k) h)
-
-    written-point : answer b w no-room room-listed .number ≡ 0 → extension b w p .point ≡ written (pointOf k w) p
-    unfolding extension
-    written-point h = rw h
-
-    -- the entries of the variables, of what was written
-    taken : answer b w no-room room-listed .number ≡ 0 → pointOf k w ≡ take (variables k) (written (pointOf k w) p)
-    unfolding systemOf
-    taken h =
-        let x = answer-codeword b w no-room room-listed h in
-        sym (take-written (pointOf k w) p (variables k) (point k (Accepted.accepted b (x .0)) w (x .2) .point .long))
-
     pub extension-call : (a : Extended) → a ≡ extension b w p → ExtensionCall b w p a
     unfolding extension
     extension-call a meets =
         let T = oneToNine ++ (10 ∷ 12 ∷ 15 ∷ 17 ∷ []) in
         let causes : List (ℕ × Bool) = (12, unequal w (k .bits)) ∷ (15, some notBinary w) ∷ (10, short (variables k) p) ∷ (17, odd-there) ∷ [] in
-        let code : answer b w no-room room-listed .number ≡ 0 → (judge b ≡ 0) × (firstOf no-room ≡ 0) × Codeword k w
-        = answer-codeword b w no-room room-listed in
+        let took = extension-exactly b w p .0 in
+        let sound : extension b w p .outcome .number ≡ 0 → Sound k = λ h. Accepted.accepted b (took h .0) in
         subst (ExtensionCall b w p) (sym meets) (record {
           equation = refl;
           order = after-records (10 ∷ 12 ∷ 15 ∷ 17 ∷ []) b (extensionCauses k w p ++ oddCauses k w) _
               (listed T causes refl) (word-order k w (judge b ∷ extensionCauses k w p));
           follows = follow (whole b ++ causes) refl;
-          codeword = (
-            λ h. (code h .0, room (code h .1), code h .2),
-            λ c. codeword-answer b w no-room room-listed (c .0) (no-cause (c .1)) (c .2),
-          );
-          filled = written-point;
-          point = λ h.
-              subst (PointOf k w) (taken h ∙ ap (take (variables k)) (sym (written-point h))) (point-claims k (Accepted.accepted b (code h .0)) w (code h .2));
-          only = λ h x q f. points k (Accepted.accepted b (code h .0)) .only w x q f ∙ taken h ∙ ap (take (variables k)) (sym (written-point h));
-          odd = answer-odd b w no-room room-listed;
-          place = answer-place b w no-room room-listed;
+          codeword = extension-exactly b w p;
+          filled = λ h. rw h;
+          point = λ h. subst (PointOf k w) (point-taken b w p h) (point-claims k (sound h) w (took h .2));
+          only = λ h x q f. points k (sound h) .only w x q f ∙ point-taken b w p h;
+          odd = answer-odd b w (no-room b p) (room-listed b p);
+          place = answer-place b w (no-room b p) (room-listed b p);
           untouched = stays _ (written (pointOf k w) p) p;
+          extends = λ j. extends k (Accepted.accepted b j);
+          sum = λ h u q c other g out space d third.
+              let a = took h .2 in
+              let told = ap (λ (x : Extended). x .outcome .number) (sym other) ∙ g in
+              let e = extension-exactly b u q .0 told .2 in
+              third
+              ∙ extension-is b (sumOfWords w u) out (took h .0) space (sum-codeword k w u a e)
+              ∙ ap (λ (x : List ℕ). record { outcome = record { number = 0; place = 0 }; point = written x out })
+              (extends k (sound h) .sum w u a e
+              ∙ ap₂ sumOfWords (point-taken b w p h) (point-taken b u q told ∙ ap (λ (x : Extended). take (variables k) (x .point)) (sym other)));
         })
 
 -- ---- the decoder
@@ -270,6 +223,13 @@ module _ (b : List ℕ) (o : Settings) (costs : List ℤ) (l : Lists) (d : Decod
   reflected : decoderCause b o costs l ≡ 0 → (w : List ℕ) → Codeword (codeOf b) w → (m : Lists) → noRoom (codeOf b) m ≡ false
       → (e : Decoded) → e ≡ decoder b o (reflect w costs) m → ReflectedCalls b o costs w m d e
   reflected h w c m room e again = rw (meets, again) (reflected-calls b w o costs l m h (small h) room c)
+
+  -- a chain is one reflection, by a codeword
+  chain : decoderCause b o costs l ≡ 0 → (ws : List (List ℕ)) → Each (Codeword (codeOf b)) ws → (m : Lists) → noRoom (codeOf b) m ≡ false
+      → (e : Decoded) → e ≡ decoder b o (chained ws costs) m → ReflectedCalls b o costs (sumOfAll (codeOf b .bits) ws) m d e
+  chain h ws each m room e again =
+      reflected h (sumOfAll (codeOf b .bits) ws) (all-codewords (codeOf b) ws each) m room e
+      (again ∙ ap (λ (x : List ℤ). decoder b o x m) (chain-is (codeOf b .bits) ws costs (words-of (codeOf b) ws each)))
 
   -- the costs that the reflector wrote
   reflected-costs : (w : List ℕ) (old : List ℤ) (r : Costs) → ReflectorCall costs w old r → r .number ≡ 0 → take (length costs) (r .costs) ≡ reflect w costs
@@ -289,6 +249,7 @@ module _ (b : List ℕ) (o : Settings) (costs : List ℤ) (l : Lists) (d : Decod
     published = λ h. published b (Calls.sound b o costs l h) o costs (Calls.settings-allowed b o costs l h);
     demand-3 = Demand3.demand-3 b;
     reflected = reflected;
+    chain = chain;
     end-to-end = λ ended w t test passed old r call done m room e again.
         reflected (Calls.ended-ran b o costs l (d .answer .number) (ap (λ (x : Decoded). x .answer .number) meets) ended) w (test .codeword .0 passed .1) m room e
         (again ∙ ap (λ (x : List ℤ). decoder b o x m) (reflected-costs w old r call done));

@@ -19,26 +19,11 @@ use Rattle.model.specs.Calls.{outOfRange, unequal, forbidden, Lists, noR
 use Rattle.model.specs.Claims.{ReflectedRun}
 use Rattle.model.specs.DecoderClaims.{runOf, Small, ReflectedCalls}
 use Rattle.model.proofs.Demand3.{demand-3}
+use Rattle.model.proofs.Composition.{length-reflect}
+use Rattle.model.proofs.ComposedCalls.{reflect-allowed}
 use Rattle.model.proofs.WordClaims.{outcome-claims}
 use Rattle.model.proofs.DecoderCalls.{sound, settings-allowed, costs-fit, ran-is}
 use Rattle.model.proofs.Courses.{last-long, in-list}
-
--- a cost that is negated is none of the forbidden ones either
-turned-allowed : (b : ℕ) (z : ℤ) → natAbs z ≤ 32767 → forbidden (negatedIf b z) ≡ false
-turned-allowed zero (pos n) h = refl
-turned-allowed zero (negsuc n) h = ne-eqb (suc n) 32768 (λ q. omega arith)
-turned-allowed (suc b) (pos zero) h = refl
-turned-allowed (suc b) (pos (suc n)) h = ne-eqb (suc n) 32768 (λ q. omega arith)
-turned-allowed (suc b) (negsuc n) h = refl
-
-reflected-allowed : (w : List ℕ) (costs : List ℤ) → Small costs → some forbidden (reflect w costs) ≡ false
-unfolding reflect
-reflected-allowed w costs small =
-    none-in-tab forbidden (length costs) (λ i. negatedIf (bitAt w i) (at costs i)) (λ i l. turned-allowed (bitAt w i) (at costs i) (small i))
-
-pub length-reflect : (w : List ℕ) (costs : List ℤ) → length (reflect w costs) ≡ length costs
-unfolding reflect
-length-reflect w costs = length-tab (length costs) (λ i. negatedIf (bitAt w i) (at costs i))
 
 no-cause : (j : ℕ) (s t u v : Bool) → j ≡ 0 → s ≡ false → t ≡ false → u ≡ false → v ≡ false → firstOf (j ∷ 11 if s ∷ 12 if t ∷ 13 if u ∷ 10 if v ∷ []) ≡ 0
 no-cause j s t u v a b c d e = rw (a, b, c, d, e)
@@ -67,7 +52,7 @@ module _ (b w : List ℕ) (o : Settings) (costs : List ℤ) (l m : Lists) where
         (sound b o costs l h)
         (settings-allowed b o costs l h)
         (ap not (eq-eqb (length (reflect w costs)) (code .bits) (length-reflect w costs ∙ fits)))
-        (reflected-allowed w costs small)
+        (reflect-allowed w costs small)
         room
 
     both : ReflectedRun code o costs w (o .limit) 0 (start sys) (start sys)

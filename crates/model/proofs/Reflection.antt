@@ -1,6 +1,6 @@
 -- A point that is even on every triple reflects the run. Assumes nothing.
 use Rattle.integers.proofs.Prelude.{_≡_, refl, sym, ap, ap₂, _∙_, Bool, true, false, List, [], _∷_, ℕ, zero, suc, _+_, _*_, _%_, _<_, arith, eqb-true, eqb, ℤ}
-use Rattle.integers.proofs.Prelude.{pos, natAbs, negℤ, _+ℤ_, _*ℤ_, getD}
+use Rattle.integers.proofs.Prelude.{pos, natAbs, negℤ, _+ℤ_, _*ℤ_, length, getD}
 use lib.Dec.{lit<}
 use lib.IntN.{negℤ-negℤ}
 use Rattle.integers.specs.Parts.{up}
@@ -8,12 +8,13 @@ use Rattle.integers.specs.Sum.{sumℕ, sumℤ}
 use Rattle.integers.proofs.Linear.{split, toℕ, neg-*ℤ}
 use Rattle.integers.proofs.Sums.{sumℕ-same, sumℤ-same, sumℤ-neg, sumℤ-pos}
 use Rattle.lists.specs.Tabulated.{tab}
+use Rattle.lists.proofs.Tabulated.{tab-getD}
 use Rattle.model.specs.declared.Settings.{Settings}
 use Rattle.model.specs.Splitting.{System, member}
 use Rattle.model.specs.Iteration.{at, row, sign, rowSum, sumAt, slack, multiplier, share, _when_, sumOf, numerator, renewed, State, sumsOf, valueOf, valuesOf, rowsOf, iterate}
 use Rattle.model.specs.Run.{squareOfChange, changes, settledBy, start, after, Ended, runFrom}
 use Rattle.model.specs.Words.{bitAt}
-use Rattle.model.specs.Reflection.{negatedIf, Opposite, Reflected}
+use Rattle.model.specs.Reflection.{negatedIf, reflect, Opposite, Reflected}
 use Rattle.model.proofs.Rows.{four, three, even-cases, none, row-renewed}
 
 -- ---- turning
@@ -37,6 +38,13 @@ turned-tab : (b n : ℕ) (f g : ℕ → ℤ) (v : ℕ) → g v ≡ negatedIf b (
 turned-tab b zero f g v e = sym (turned-zero b)
 turned-tab b (suc n) f g zero e = e
 turned-tab b (suc n) f g (suc v) e = turned-tab b n (λ k. f (suc k)) (λ k. g (suc k)) v e
+
+-- every entry of reflected costs, also past the end
+pub reflect-at : (w : List ℕ) (costs : List ℤ) (i : ℕ) → at (reflect w costs) i ≡ negatedIf (bitAt w i) (at costs i)
+unfolding reflect
+reflect-at w costs i =
+    turned-tab (bitAt w i) (length costs) (at costs) (λ i. negatedIf (bitAt w i) (at costs i)) i refl
+    ∙ ap (λ (l : List ℤ). negatedIf (bitAt w i) (at l i)) (tab-getD costs (pos 0))
 
 -- ---- where the rows of an even triple go
 -- row q has the signs of row r, turned at the three positions

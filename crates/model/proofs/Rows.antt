@@ -18,7 +18,7 @@ four P a b c d (suc (suc (suc (suc r)))) h = absurd (omega arith)
 pub three : (P : ℕ → Type 0) → P 0 → P 1 → P 2 → (p : ℕ) → p < 3 → P p
 three P a b c p h = four (λ i. i < 3 → P i) (λ _. a) (λ _. b) (λ _. c) (λ l. absurd (omega arith)) p (omega arith) h
 
-two : (P : ℕ → Type 0) → P 0 → P 1 → (b : ℕ) → b < 2 → P b
+pub two : (P : ℕ → Type 0) → P 0 → P 1 → (b : ℕ) → b < 2 → P b
 two P x y zero h = x
 two P x y (suc zero) h = y
 two P x y (suc (suc b)) h = absurd (omega arith)

@@ -2,7 +2,7 @@
 use Rattle.integers.proofs.Prelude.{_≡_, refl, sym, ap, subst, _∙_, Bool, true, false, cond, List, [], _∷_, _++_, ℕ, zero, suc, _+_, _*_, _%_, _≤_, _<_}
 use Rattle.integers.proofs.Prelude.{arith, decLt, ltb-true, ltb-false, lt-ltb, le-ltb, eqb-true, eqb-false, eq-eqb, not-false, T, eqb, ltb, ℤ, pos, negsuc}
 use Rattle.integers.proofs.Prelude.{natAbs, ltZ, _<ℤ_, length, getD, take, List·getD-append, List·getD-eq-default, getD-append-add}
-use mathlib.Core.Logic.{_⊎_, inl, inr}
+use mathlib.Core.Logic.{_↔_, _⊎_, inl, inr}
 use Rattle.lists.specs.Tabulated.{tab}
 use Rattle.lists.specs.Entries.{total, some, first}
 use Rattle.lists.proofs.Tabulated.{length-tab, getD-tab}
@@ -172,20 +172,21 @@ module _ (k : Code) (s : Sound k) (w : List ℕ) (c : Codeword k w) where
   point-claims = record { point = point k s w c; begins = begins k s w c; auxiliaries = auxiliary }
 
 -- ---- the causes of a word
--- a word that is accepted has entries 0 and 1
-pub word-bits : (n : ℕ) (w : List ℕ) → firstOf (wordCauses n w) ≡ 0 → Bits n w
-word-bits n w h =
-    let x = clear (wordCauses n w) h in
-    let none = unless 14 (some notBinary w) (x .1 .0) in
-    record { long = eqb-true _ _ (not-false _ (unless 11 (unequal w n) (x .0))); binary = λ i. by none i (decLt i (length w)) }
+-- the words of n bits are those that pass both tests
+pub bits-tested : (n : ℕ) (w : List ℕ) → Bits n w ↔ ((unequal w n ≡ false) × (some notBinary w ≡ false))
+bits-tested n w = (
+  λ b. (rw (eq-eqb (length w) n (b .long)), none-in notBinary w 0 (λ i k. le-ltb 1 (bitAt w i) (omega (arith, b .binary i)))),
+  λ t. record { long = eqb-true _ _ (not-false _ (t .0)); binary = λ i. by (t .1) i (decLt i (length w)) },
+)
   where
     by : some notBinary w ≡ false → (i : ℕ) → Dec (i < length w) → bitAt w i < 2
     by h i (yes l) = omega (arith, ltb-false 1 (bitAt w i) (some-at notBinary w i 0 h l))
     by h i (no l) = let e : bitAt w i ≡ 0 = List·getD-eq-default w 0 (omega arith) in omega arith
 
+-- a word that is accepted
+pub word-bits : (n : ℕ) (w : List ℕ) → firstOf (wordCauses n w) ≡ 0 → Bits n w
+word-bits n w h = let x = clear (wordCauses n w) h in bits-tested n w .1 (unless 11 (unequal w n) (x .0), unless 14 (some notBinary w) (x .1 .0))
+
 -- and the other way round
 pub bits-pass : (n : ℕ) (w l : List ℕ) → Bits n w → firstOf (wordCauses n w ++ l) ≡ firstOf l
-bits-pass n w l b =
-    let long : unequal w n ≡ false = rw (eq-eqb (length w) n (b .long)) in
-    let passes : some notBinary w ≡ false = none-in notBinary w 0 (λ i k. le-ltb 1 (bitAt w i) (omega (arith, b .binary i))) in
-    rw (long, passes)
+bits-pass n w l b = let t = bits-tested n w .0 b in rw (t .0, t .1)

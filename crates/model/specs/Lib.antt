@@ -31,6 +31,7 @@ pub mod ChannelClaims
 pub mod WordClaims
 pub mod Told
 pub mod Order
+pub mod Composition
 pub mod DecoderClaims
 pub mod Promises
 pub mod AlistPromises

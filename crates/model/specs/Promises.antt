@@ -20,8 +20,8 @@ use Rattle.model.specs.Sound.{Sound}
 use Rattle.model.specs.Splitting.{systemOf}
 use Rattle.model.specs.Iteration.{at, countsOf}
 use Rattle.model.specs.Words.{Outcome, tested}
-use Rattle.model.specs.Points.{Codeword, Point, pointOf}
-use Rattle.model.specs.Reflection.{reflect}
+use Rattle.model.specs.Points.{Bits, Codeword, Point, pointOf}
+use Rattle.model.specs.Reflection.{reflect, sumOfWords}
 use Rattle.model.specs.Channel.{product, costOf}
 use Rattle.model.specs.Calls.{ReaderAnswer, reader, Split, splitterCauses, splitter, wordCauses, codewordTest, Extended, extensionCauses, extension}
 use Rattle.model.specs.Calls.{Lists, Decoded, noRoom, decoderCauses, decoderCause, decoder, Costs, frontCauses, channelFront, reflectorCauses, reflector}
@@ -29,7 +29,8 @@ use Rattle.model.specs.Order.{oddCauses, runCauses, Follows, Ordered, on
 use Rattle.model.specs.WordClaims.{Tested, PointOf}
 use Rattle.model.specs.ChannelClaims.{Costed}
 use Rattle.model.specs.Claims.{Demand3}
-use Rattle.model.specs.DecoderClaims.{runOf, Refused, Ran, Iterated, Bounded, AsBefore, Published, ReflectedCalls}
+use Rattle.model.specs.DecoderClaims.{runOf, Refused, Ran, Iterated, Bounded, AsBefore, Published, Small, ReflectedCalls}
+use Rattle.model.specs.Composition.{zeroWord, sumOfAll, chained, Each, Added, adderCauses, adder, Sums, Composes, Extends, ComposedCalls, handedOn}
 
 -- ---- the reader: a is what it tells of the bytes b
 pub record ReaderCall (b : List ℕ) (a : ReaderAnswer) : Type 0 where
@@ -70,8 +71,32 @@ pub record ReflectorCall (costs : List ℤ) (w : List ℕ) (old : List ℤ) (a :
   pub equation : a ≡ reflector costs w old
   pub order : Ordered (reflectorCauses costs w old) (10 ∷ 12 ∷ 13 ∷ 15 ∷ []) (a .number)
   pub follows : Follows 0 (reflectorCauses costs w old)
+  pub exactly : (a .number ≡ 0) ↔ (Small costs × Bits (length costs) w × (length costs ≤ length old))
   pub refused : (c : ℕ) → a .number ≡ suc c → a .costs ≡ old
   pub reflected : a .number ≡ 0 → a .costs ≡ written (reflect w costs) old
+  -- document 02, L3, of the definitions
+  pub composes : Composes costs
+  -- of this call and a second one with the costs that it wrote, which gave c
+  pub composed : a .number ≡ 0 → (u : List ℕ) (out : List ℤ) (c : Costs) → c ≡ reflector (take (length costs) (a .costs)) u out → ComposedCalls costs w u out c
+  -- of a chain of calls: this one, those of l, and a last one, which gave c as if this one had been with the sum of all words before
+  pub chain : a .number ≡ 0 → (l : List (List ℕ × List ℤ)) → Each (λ x. Bits (length costs) (x .0) × (length costs ≤ length (x .1))) l
+      → (u : List ℕ) (out : List ℤ) (c : Costs) → c ≡ reflector (handedOn (take (length costs) (a .costs)) l) u out
+      → ComposedCalls costs (sumOfWords w (sumOfAll (length costs) (map (λ x. x .0) l))) u out c
+  -- and of a call with the zero word
+  pub zero-word : a .number ≡ 0 → (out : List ℤ) → length costs ≤ length out
+      → reflector costs (zeroWord (length costs)) out ≡ record { number = 0; costs = written costs out }
+
+-- ---- the sum of two words: a is its number and the list that was old
+pub record AdderCall (w u old : List ℕ) (a : Added) : Type 0 where
+  pub equation : a ≡ adder w u old
+  pub order : Ordered (adderCauses w u old) (10 ∷ 12 ∷ 15 ∷ []) (a .number)
+  pub follows : Follows 0 (adderCauses w u old)
+  pub exactly : (a .number ≡ 0) ↔ (Bits (length w) w × Bits (length w) u × (length w ≤ length old))
+  pub refused : (c : ℕ) → a .number ≡ suc c → a .word ≡ old
+  pub summed : a .number ≡ 0 → a .word ≡ written (sumOfWords w u) old
+  -- what is handed on is the sum
+  pub taken : a .number ≡ 0 → take (length w) (a .word) ≡ sumOfWords w u
+  pub sums : Sums (length w)
 
 -- ---- the codeword test: a is what it tells of the word w
 pub record TestCall (b w : List ℕ) (a : Outcome) : Type 0 where
@@ -83,6 +108,8 @@ pub record TestCall (b w : List ℕ) (a : Outcome) : Type 0 where
   -- 17: "not a codeword, with the first such check"; no other number has a place
   pub odd : a .number ≡ 17 → (a ≡ tested (codeOf b) w) × Tested (codeOf b) w
   pub place : (a .number ≡ 17 → ⊥) → a .place ≡ 0
+  -- the sum of two codewords is one: where the word u passes too, so does the sum
+  pub sum : a .number ≡ 0 → (u : List ℕ) → codewordTest b u .number ≡ 0 → codewordTest b (sumOfWords w u) ≡ record { number = 0; place = 0 }
 
 -- ---- the extension: a is what it tells of the word w, and the list that was p
 pub record ExtensionCall (b w p : List ℕ) (a : Extended) : Type 0 where
@@ -100,6 +127,15 @@ pub record ExtensionCall (b w p : List ℕ) (a : Extended) : Type 0 where
   pub odd : a .outcome .number ≡ 17 → (a .outcome ≡ tested (codeOf b) w) × Tested (codeOf b) w
   pub place : (a .outcome .number ≡ 17 → ⊥) → a .outcome .place ≡ 0
   pub untouched : (a .outcome .number ≡ 0 → ⊥) → a .point ≡ p
+  -- document 02, L3, of the code
+  pub extends : judge b ≡ 0 → Extends (codeOf b)
+  -- and of three calls: this one, an accepted one with u, which gave c, and one with the sum, in a list with the room, which gave d
+  pub sum : a .outcome .number ≡ 0 → (u q : List ℕ) (c : Extended) → c ≡ extension b u q → c .outcome .number ≡ 0
+      → (out : List ℕ) → variables (codeOf b) ≤ length out → (d : Extended) → d ≡ extension b (sumOfWords w u) out
+      → d ≡ record {
+        outcome = record { number = 0; place = 0 };
+        point = written (sumOfWords (take (variables (codeOf b)) (a .point)) (take (variables (codeOf b)) (c .point))) out;
+      }
 
 -- ---- the decoder: d is its answer and the lists that were l
 pub record DecoderCall (b : List ℕ) (o : Settings) (costs : List ℤ) (l : Lists) (d : Decoded) : Type 0 where
@@ -119,6 +155,9 @@ pub record DecoderCall (b : List ℕ) (o : Settings) (costs : List ℤ) (l : Lis
   pub demand-3 : judge b ≡ 0 → Demand3 (codeOf b)
   pub reflected : decoderCause b o costs l ≡ 0 → (w : List ℕ) → Codeword (codeOf b) w → (m : Lists) → noRoom (codeOf b) m ≡ false
       → (e : Decoded) → e ≡ decoder b o (reflect w costs) m → ReflectedCalls b o costs w m d e
+  -- of this call and one with the costs of a chain, which gave e: it is as if they were reflected once, by the sum of the chain's codewords
+  pub chain : decoderCause b o costs l ≡ 0 → (ws : List (List ℕ)) → Each (Codeword (codeOf b)) ws → (m : Lists) → noRoom (codeOf b) m ≡ false
+      → (e : Decoded) → e ≡ decoder b o (chained ws costs) m → ReflectedCalls b o costs (sumOfAll (codeOf b .bits) ws) m d e
   -- end to end, by the answers alone: this call ended with 0, 16 or 17, the codeword test of w with t, the reflector in the list old with r, and a second
   -- call with the costs that the reflector wrote with e
   pub end-to-end : (d .answer .number ≡ 0) ⊎ ((d .answer .number ≡ 16) ⊎ (d .answer .number ≡ 17))

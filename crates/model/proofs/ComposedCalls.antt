@@ -1,0 +1,148 @@
+-- Calls of the reflector and of the adder: which are accepted, and what a chain of them gives. Assumes nothing.
+use Rattle.integers.proofs.Prelude.{_≡_, refl, sym, ap, subst, _∙_, false, _||_, List, [], _∷_, map, ℕ, zero, suc, _≤_, arith, ltb-false, le-ltb, eq-eqb, ne-eqb}
+use Rattle.integers.proofs.Prelude.{ℤ, pos, negsuc, natAbs, length, take}
+use mathlib.Core.Logic.{_↔_}
+use Rattle.integers.proofs.Linear.{abs-neg}
+use Rattle.lists.specs.Tabulated.{written}
+use Rattle.lists.specs.Entries.{some}
+use Rattle.lists.proofs.Tabulated.{take-written}
+use Rattle.lists.proofs.Entries.{none-in}
+use Rattle.model.specs.Limits.{mostCost}
+use Rattle.model.specs.Causes.{firstOf}
+use Rattle.model.specs.Iteration.{at}
+use Rattle.model.specs.Words.{bitAt}
+use Rattle.model.specs.Points.{Bits}
+use Rattle.model.specs.Reflection.{negatedIf, reflect, sumOfWords}
+use Rattle.model.specs.Calls.{unequal, forbidden, notBinary, Costs, reflectorCauses, reflector}
+use Rattle.model.specs.DecoderClaims.{Small}
+use Rattle.model.specs.Composition.{sumOfAll, Each, Added, adderCauses, adder, ComposedCalls, handedOn}
+use Rattle.model.proofs.Causes.{clear, unless, or-false}
+use Rattle.model.proofs.Reflection.{reflect-at}
+use Rattle.model.proofs.Composition.{sum-bits, sums, all-bits, length-reflect, composes}
+use Rattle.model.proofs.WordClaims.{bits-tested}
+
+-- ---- costs
+turned-size : (b : ℕ) (z : ℤ) → natAbs (negatedIf b z) ≡ natAbs z
+turned-size zero z = refl
+turned-size (suc b) z = abs-neg z
+
+allowed : (z : ℤ) → natAbs z ≤ mostCost → forbidden z ≡ false
+allowed (pos n) h = refl
+allowed (negsuc n) h = ne-eqb (suc n) 32768 (λ q. omega arith)
+
+small-allowed : (costs : List ℤ) → Small costs → some forbidden costs ≡ false
+small-allowed costs small = none-in forbidden costs (pos 0) (λ i l. allowed (at costs i) (small i))
+
+reflect-small : (w : List ℕ) (costs : List ℤ) → Small costs → Small (reflect w costs)
+reflect-small w costs small i = rw (reflect-at w costs i, turned-size (bitAt w i) (at costs i)) (small i)
+
+-- reflected costs are allowed where the costs are
+pub reflect-allowed : (w : List ℕ) (costs : List ℤ) → Small costs → some forbidden (reflect w costs) ≡ false
+reflect-allowed w costs small = small-allowed (reflect w costs) (reflect-small w costs small)
+
+-- ---- a call of the reflector that is accepted
+pub reflector-is : (costs : List ℤ) (w : List ℕ) (old : List ℤ) → Small costs → Bits (length costs) w → length costs ≤ length old
+    → reflector costs w old ≡ record { number = 0; costs = written (reflect w costs) old }
+unfolding reflector
+reflector-is costs w old small b room =
+    let t = bits-tested (length costs) w .0 b in
+    rw (t .0, small-allowed costs small, t .1, le-ltb (length old) (length costs) room)
+
+pub reflector-took : (costs : List ℤ) (w : List ℕ) (old : List ℤ) → reflector costs w old .number ≡ 0 → Bits (length costs) w × (length costs ≤ length old)
+unfolding reflector
+reflector-took costs w old h =
+    let x = clear (reflectorCauses costs w old) h in (
+      bits-tested (length costs) w .1 (unless 11 (unequal w (length costs)) (x .0), unless 14 (some notBinary w) (x .1 .1 .0)),
+      ltb-false (length old) (length costs) (unless 9 _ (x .1 .1 .1 .0)),
+    )
+
+-- ---- calls with costs that calls before wrote
+module _ (costs : List ℤ) (small : Small costs) where
+  abbrev n : ℕ
+  n = length costs
+
+  -- what such a call takes to be a word and room enough
+  second-took : (w u : List ℕ) (out : List ℤ) → reflector (reflect w costs) u out .number ≡ 0 → Bits n u × (n ≤ length out)
+  second-took w u out h = subst (λ (m : ℕ). Bits m u × (m ≤ length out)) (length-reflect w costs) (reflector-took (reflect w costs) u out h)
+
+  second-is : (w u : List ℕ) (out : List ℤ) → Bits n w → Bits n u → n ≤ length out
+      → reflector (reflect w costs) u out ≡ record { number = 0; costs = written (reflect u (reflect w costs)) out }
+  second-is w u out a b room =
+      let long = sym (length-reflect w costs) in
+      reflector-is (reflect w costs) u out (reflect-small w costs small) (subst (λ (m : ℕ). Bits m u) long b) (subst (λ (m : ℕ). m ≤ length out) long room)
+
+  -- the costs that an accepted call hands on
+  taken : (w : List ℕ) (old : List ℤ) → take n (written (reflect w costs) old) ≡ reflect w costs
+  taken w old = take-written (reflect w costs) old n (length-reflect w costs)
+
+  module _ (w : List ℕ) (a : Bits n w) where
+    pub composed-calls : (u : List ℕ) (out : List ℤ) (c : Costs) → c ≡ reflector (reflect w costs) u out → ComposedCalls costs w u out c
+    composed-calls u out c meets =
+        let told : List ℤ → Costs = λ l. record { number = 0; costs = written l out } in
+        let took : c .number ≡ 0 → Bits n u × (n ≤ length out) = λ h. second-took w u out (ap (λ (x : Costs). x .number) (sym meets) ∙ h) in
+        let is : c .number ≡ 0 → c ≡ told (reflect u (reflect w costs)) = λ h. meets ∙ second-is w u out a (took h .0) (took h .1) in
+        record {
+          exactly = (took, λ t. ap (λ (x : Costs). x .number) (meets ∙ second-is w u out a (t .0) (t .1)));
+          sum = λ h. is h ∙ ap told (composes costs .sum w u a (took h .0))
+              ∙ sym (reflector-is costs (sumOfWords w u) out small (sum-bits n w u a (took h .0)) (took h .1));
+          order = λ h old room d other.
+              let first = other ∙ reflector-is costs u old small (took h .0) room in
+              let handed = ap (λ (x : Costs). take n (x .costs)) first ∙ taken u old in (
+                ap (λ (x : Costs). x .number) first,
+                is h ∙ ap told (composes costs .order w u a (took h .0)) ∙ sym (second-is u w out (took h .0) a (took h .1))
+                    ∙ ap (λ (x : List ℤ). reflector x w out) (sym handed),
+              );
+          twice = λ h e. ap (λ (x : Costs). x .costs) (is h) ∙ rw (e, composes costs .twice w a);
+        }
+
+  -- ---- a chain of calls
+  abbrev Accepted : List (List ℕ × List ℤ) → Type 0
+  Accepted l = Each (λ x. Bits n (x .0) × (n ≤ length (x .1))) l
+
+  abbrev words : List (List ℕ × List ℤ) → List (List ℕ)
+  words l = map (λ x. x .0) l
+
+  words-bits : (l : List (List ℕ × List ℤ)) → Accepted l → Each (Bits n) (words l)
+  words-bits [] h = tt
+  words-bits (x ∷ l) h = (h .0 .0, words-bits l (h .1))
+
+  pub chain-bits : (l : List (List ℕ × List ℤ)) → Accepted l → Bits n (sumOfAll n (words l))
+  chain-bits l h = all-bits n (words l) (words-bits l h)
+
+  -- one call, and what a chain hands on that begins with the word w
+  handed : (w u : List ℕ) (old : List ℤ) → Bits n w → Bits n u → n ≤ length old
+      → take (length (reflect w costs)) (reflector (reflect w costs) u old .costs) ≡ reflect (sumOfWords w u) costs
+  handed w u old a b room =
+      let first = reflect w costs in
+      ap (λ (x : Costs). take (length first) (x .costs)) (second-is w u old a b room)
+      ∙ take-written (reflect u first) old (length first) (length-reflect u first)
+      ∙ composes costs .sum w u a b
+
+  pub handed-on : (l : List (List ℕ × List ℤ)) → Accepted l → (w : List ℕ) → Bits n w
+      → handedOn (reflect w costs) l ≡ reflect (sumOfWords w (sumOfAll n (words l))) costs
+  handed-on [] h w a = ap (λ (x : List ℕ). reflect x costs) (sym (sums n .zero-word w a))
+  handed-on (x ∷ l) h w a =
+      let b = h .0 .0 in
+      ap (λ (y : List ℤ). handedOn y l) (handed w (x .0) (x .1) a b (h .0 .1))
+      ∙ handed-on l (h .1) (sumOfWords w (x .0)) (sum-bits n w (x .0) a b)
+      ∙ ap (λ (y : List ℕ). reflect y costs) (sums n .grouping w (x .0) (sumOfAll n (words l)) a b (chain-bits l (h .1)))
+
+-- ---- a call of the adder that is accepted
+pub adder-exactly : (w u old : List ℕ) → (adder w u old .number ≡ 0) ↔ (Bits (length w) w × Bits (length w) u × (length w ≤ length old))
+unfolding adder
+adder-exactly w u old = (took, passes)
+  where
+    took : firstOf (adderCauses w u old) ≡ 0 → Bits (length w) w × Bits (length w) u × (length w ≤ length old)
+    took h =
+        let x = clear (adderCauses w u old) h in
+        let binary = or-false (some notBinary w) (some notBinary u) (unless 14 _ (x .1 .0)) in (
+          bits-tested (length w) w .1 (rw (eq-eqb (length w) (length w) refl), binary .0),
+          bits-tested (length w) u .1 (unless 11 (unequal u (length w)) (x .0), binary .1),
+          ltb-false (length old) (length w) (unless 9 _ (x .1 .1 .0)),
+        )
+
+    passes : Bits (length w) w × Bits (length w) u × (length w ≤ length old) → firstOf (adderCauses w u old) ≡ 0
+    passes t =
+        let a = bits-tested (length w) w .0 (t .0) in
+        let b = bits-tested (length w) u .0 (t .1) in
+        rw (b .0, a .1, b .1, le-ltb (length old) (length w) (t .2))
