@@ -31,19 +31,6 @@ pub sumℕ-zero : (n : ℕ) (f : ℕ → ℕ) → ((k : ℕ) → k < n → f k �
 sumℕ-zero zero f h = refl
 sumℕ-zero (suc n) f h = rw (sumℕ-zero n f (λ k l. h k (omega arith)), h n (omega arith))
 
--- a term, and each beginning, is at most the whole
-pub sumℕ-begin : (n m : ℕ) (f : ℕ → ℕ) → m ≤ n → sumℕ m f ≤ sumℕ n f
-sumℕ-begin zero zero f h = omega arith
-sumℕ-begin zero (suc m) f h = absurd (omega arith)
-sumℕ-begin (suc n) m f h = by (sumℕ-begin n m f) (decLt n m)
-  where
-    by : (m ≤ n → sumℕ m f ≤ sumℕ n f) → Dec (n < m) → sumℕ m f ≤ sumℕ (suc n) f
-    by ih (yes l) = let e : m ≡ suc n = omega arith in rw e (omega arith)
-    by ih (no l) = omega (arith, ih (omega arith))
-
-pub sumℕ-term : (n k : ℕ) (f : ℕ → ℕ) → k < n → f k ≤ sumℕ n f
-sumℕ-term n k f h = omega (arith, sumℕ-begin n (suc k) f h)
-
 pub sumℕ-bound : (n u : ℕ) (f : ℕ → ℕ) → ((k : ℕ) → k < n → f k ≤ u) → sumℕ n f ≤ n * u
 sumℕ-bound zero u f h = omega arith
 sumℕ-bound (suc n) u f h = omega (arith, sumℕ-bound n u f (λ k l. h k (omega arith)), h n (omega arith))

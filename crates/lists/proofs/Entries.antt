@@ -121,11 +121,7 @@ some-every {A = A} f g (x ∷ l) h k = by (f x) refl (g x) refl h k (some-every 
     by false p true q h k more = more h k
     by s p false q h k more = absurd (subst T (sym k) tt)
 
--- none of a tabulated list passes, or all do
-pub none-in-tab : {A : Type 0} (f : A → Bool) (n : ℕ) (g : ℕ → A) → ((i : ℕ) → i < n → f (g i) ≡ false) → some f (tab n g) ≡ false
-none-in-tab f zero g h = refl
-none-in-tab f (suc n) g h = rw (h 0 (omega arith)) (none-in-tab f n (λ i. g (suc i)) (λ i l. h (suc i) (omega arith)))
-
+-- all of a tabulated list pass
 pub every-in-tab : {A : Type 0} (f : A → Bool) (n : ℕ) (g : ℕ → A) → ((i : ℕ) → i < n → f (g i) ≡ true) → every f (tab n g) ≡ true
 every-in-tab f zero g h = refl
 every-in-tab f (suc n) g h = rw (h 0 (omega arith)) (every-in-tab f n (λ i. g (suc i)) (λ i l. h (suc i) (omega arith)))

@@ -1,5 +1,5 @@
 -- How often a list names a number, and what it means that columns and rows agree. Assumes nothing.
-use Rattle.integers.proofs.Prelude.{_≡_, refl, sym, ap, _∙_, Bool, true, false, _||_, List, [], _∷_, _++_, map, ℕ, zero, suc, _+_, _≤_, _<_, arith}
+use Rattle.integers.proofs.Prelude.{_≡_, refl, sym, ap, _∙_, Bool, true, false, _||_, List, [], _∷_, map, ℕ, zero, suc, _+_, _≤_, _<_, arith}
 use Rattle.integers.proofs.Prelude.{decLt, leb-true, leb-false, ltb-true, eqb-true, eq-eqb, ne-eqb, eqb, ltb, leb, length, getD, take}
 use Rattle.integers.proofs.Prelude.{List·getD-eq-default}
 use mathlib.Core.Logic.{_↔_, _⊎_, inl, inr}
@@ -10,7 +10,7 @@ use Rattle.lists.specs.Tabulated.{tab}
 use Rattle.lists.specs.Entries.{every, some}
 use Rattle.lists.proofs.Tests.{and-left, and-right, and-both, fails, eqb-sym}
 use Rattle.lists.proofs.Tabulated.{length-tab, getD-tab}
-use Rattle.lists.proofs.Entries.{every-at, every-in, every-in-tab, total-append, total-same}
+use Rattle.lists.proofs.Entries.{every-at, every-in, every-in-tab, total-same}
 use Rattle.model.specs.Causes.{_if_}
 use Rattle.model.specs.Sound.{Rising}
 use Rattle.model.specs.Alist.{filled, allFilled, listed, times, upTo, agree}
@@ -18,9 +18,6 @@ use Rattle.model.specs.AlistClaims.{SamePlaces}
 use Rattle.model.proofs.TripleRule.{is, is-range, is-rising}
 
 -- ---- how often
-pub times-append : (x : ℕ) (l k : List ℕ) → times x (l ++ k) ≡ times x l + times x k
-times-append x l k = total-append (λ y. 1 if eqb x y) l k
-
 pub times-suc : (x : ℕ) (l : List ℕ) → times (suc x) (map suc l) ≡ times x l
 times-suc x [] = refl
 times-suc x (y ∷ l) = rw (eqb·suc-suc x y, times-suc x l)

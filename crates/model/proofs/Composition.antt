@@ -9,7 +9,7 @@ use Rattle.lists.proofs.Tabulated.{length-tab}
 use Rattle.lists.proofs.Entries.{total-same}
 use Rattle.model.specs.Code.{Code}
 use Rattle.model.specs.Sound.{Sound}
-use Rattle.model.specs.Splitting.{systemOf}
+use Rattle.model.specs.Splitting.{systemOf, member}
 use Rattle.model.specs.Iteration.{at}
 use Rattle.model.specs.Words.{bitAt}
 use Rattle.model.specs.Points.{Bits, Codeword, Point, pointOf}
@@ -157,7 +157,9 @@ module _ (k : Code) where
       both = entry (systemOf k .variables) p q (point k s w a .point) (point k s u b .point)
 
       even : Even (bitAt (sumOfWords p q)) (systemOf k .members) (systemOf k .triples)
-      even t h = rw (both _, both _, both _) (even-sum (bitAt p) (bitAt q) _ _ _ (point-even k s w a t h) (point-even k s u b t h))
+      even t h =
+          let m : ℕ → ℕ = member (systemOf k .members) t in
+          rw (both (m 0), both (m 1), both (m 2)) (even-sum (bitAt p) (bitAt q) (m 0) (m 1) (m 2) (point-even k s w a t h) (point-even k s u b t h))
 
       sum-point : Point (systemOf k) (sumOfWords p q)
       sum-point = even-point k s (sumOfWords p q) (sum-bits (systemOf k .variables) p q (point k s w a .point) (point k s u b .point)) even

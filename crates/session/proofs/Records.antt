@@ -191,9 +191,6 @@ module _ (buffer : List ℕ) (long : length buffer ≡ 10260) (st : State) (came
     bits-in : bitCount head ≡ bitCount buffer
     bits-in = rw head-is (two-take 2 from buffer (omega (arith, sizes .0)))
 
-    opened-there : Opened (bitCount buffer) t three
-    opened-there = rw (← two-take 2 (st .at) buffer (omega (arith, sizes .0))) (due-indices .opened)
-
     -- the record: the bytes kept of it, and those that came
     pub check-is : take (st .at + came - from) (drop from buffer) ≡ three ++ bytes
     check-is =
