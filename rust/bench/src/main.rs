@@ -1,5 +1,5 @@
 //! Measures whole calls side by side: decoders, from code records and costs to the
-//! word and every lent list, and import and export of alist texts. Run it with
+//! word and every lent list; import and export of alist texts; and calls on words. Run it with
 //! `--release`; with the feature `library` the compiled library takes part.
 
 mod contest;
@@ -9,11 +9,13 @@ mod refused;
 mod report;
 mod scenario;
 mod texts;
+mod words;
 
 use contest::{Contest, FEW_ROUNDS, ROUNDS};
 use conversion::{Conversions, Task};
 use std::env;
 use std::process::ExitCode;
+use words::Words;
 
 fn decoders() {
     let mut contest = Contest::new();
@@ -51,18 +53,30 @@ fn conversions() {
     }
 }
 
+fn words() {
+    let words = Words::new();
+    report::words_heading(words.names());
+    for call in [words::Call::Reflect, words::Call::AddWords] {
+        for length in words::LENGTHS {
+            report::words_line(call, length, &words.run(call, length));
+        }
+    }
+}
+
 fn main() -> ExitCode {
     match env::args().nth(1).as_deref() {
         None => {
             decoders();
             longest();
             conversions();
+            words();
         }
         Some("decoders") => decoders(),
         Some("longest") => longest(),
         Some("alist") => conversions(),
+        Some("words") => words(),
         Some(_) => {
-            eprintln!("usage: bench [decoders|longest|alist]");
+            eprintln!("usage: bench [decoders|longest|alist|words]");
             return ExitCode::FAILURE;
         }
     }

@@ -3,6 +3,7 @@
 use crate::contest::ContestResult;
 use crate::conversion::{Call, Task};
 use crate::scenario::{Scenario, SCALE, SETTINGS};
+use crate::words;
 
 pub fn settings() {
     println!(
@@ -157,5 +158,23 @@ pub fn conversion_line(task: &Task, seconds: &[f64]) {
             2
         ),
         numbers([seconds[0] / seconds[1]].into_iter(), 17, 2),
+    );
+}
+
+pub fn words_heading(names: Vec<&str>) {
+    println!();
+    println!(
+        "Calls on words; the least time of interleaved rounds:\ncall      entries | ns a call: {}",
+        columns(&names, 9),
+    );
+}
+
+pub fn words_line(call: words::Call, length: usize, seconds: &[f64]) {
+    let times = seconds.iter().map(|seconds| 1e9 * seconds);
+    println!(
+        "{:<9} {length:>7} | {:10} {}",
+        format!("{call:?}"),
+        "",
+        numbers(times, 9, 1),
     );
 }

@@ -1,11 +1,12 @@
 //! Rivals to measure against. Two decoders: a plain one, as a good engineer would
 //! first write it, and one tuned for x86-64. One for import and export, with as much
-//! memory as it likes.
+//! memory as it likes. The reflector and the sum of two words.
 
 mod plain;
 #[cfg(target_arch = "x86_64")]
 mod tuned;
 mod vectors;
+mod words;
 
 pub use plain::Plain;
 #[cfg(not(target_arch = "x86_64"))]
@@ -13,3 +14,4 @@ pub use plain::Plain as Tuned;
 #[cfg(target_arch = "x86_64")]
 pub use tuned::Tuned;
 pub use vectors::Vectors;
+pub use words::{add_words, reflect};
