@@ -169,7 +169,9 @@ uint32_t widagbe_channel_erasing(float floor, float weight,
                                  int16_t *costs, size_t costs_len);
 
 /*
- * Costs, negated where the word has 1.
+ * Costs, negated where the word has 1. Reflecting the result by another word is reflecting the costs by the sum of both words
+ * (widagbe_add_words), and is accepted where both words have the costs' length; the zero word changes nothing, and the same word
+ * twice restores the costs.
  *   word     costs_len entries, each 0 or 1
  *   result   costs_len entries
  * Numbers: 0, 10, 12, 13, 15. No costs at all are accepted.
@@ -181,8 +183,20 @@ uint32_t widagbe_reflect(const int16_t *costs, size_t costs_len,
 /*
  * ---- Words
  *
- * A word has one entry 0 or 1 for each bit. It is a codeword when its sum over each check is even.
+ * A word has one entry 0 or 1 for each bit. It is a codeword when its sum over each check is even. The sum of two codewords is a
+ * codeword, and its point is the sum of their points.
  */
+
+/*
+ * Adds two words of the same length, bit by bit modulo 2.
+ *   word     any number of entries, each 0 or 1
+ *   other    word_len entries, each 0 or 1
+ *   sum      word_len entries
+ * Numbers: 0, 10, 12, 15. Words of length 0 are accepted.
+ */
+uint32_t widagbe_add_words(const uint8_t *word, size_t word_len,
+                           const uint8_t *other, size_t other_len,
+                           uint8_t *sum, size_t sum_len);
 
 /* number 17: place is the first check with an odd sum, from 0. */
 typedef struct {

@@ -40,6 +40,10 @@ pub enum Example {
     Erasing,
     // costs, word, room
     Reflecting,
+    // word, other word, room
+    Adding,
+    // costs, word, other word: two reflections, the sum of the words, one reflection by it
+    Chaining,
     // settings, costs, room of all six lists
     Decoding(u8),
 }
@@ -60,6 +64,8 @@ pub fn run(label: &[u8], x: &[u8], y: &[u8], z: &[u8], example: Example) {
         Example::Hard => front(Channel::Hard(first_real(x)), y, z),
         Example::Erasing => front(Channel::Erasing(erasure(x)), y, z),
         Example::Reflecting => reflecting(x, y, z),
+        Example::Adding => adding(x, y, z),
+        Example::Chaining => chaining(x, y, z),
         Example::Decoding(mark) => decoding(x, y, z, mark),
     }
     text(b"\n");
@@ -259,7 +265,8 @@ fn cost(x: usize) -> i16 {
     stream::twos_complement(x % 65536)
 }
 
-fn costs(x: [usize; 8]) -> [i16; 8] {
+// Eight costs, and nines behind them.
+fn costs(x: [usize; 8]) -> [i16; 16] {
     [
         cost(x[0]),
         cost(x[1]),
@@ -269,17 +276,64 @@ fn costs(x: [usize; 8]) -> [i16; 8] {
         cost(x[5]),
         cost(x[6]),
         cost(x[7]),
+        9,
+        9,
+        9,
+        9,
+        9,
+        9,
+        9,
+        9,
     ]
+}
+
+// Reflects the first `n` costs to a list of `m` entries; the list.
+fn reflected(costs: [i16; 16], n: usize, word: &[u8], m: usize) -> [i16; 16]
+    requires { ⌜ n ≤ 16 ⌝ }
+    requires { ⌜ m ≤ 16 ⌝ }
+{
+    let mut result = [9i16; 16];
+    let cause = reflector::reflect(&costs[0..n], word, &mut result[0..m]);
+    written(cause, result, m);
+    result
 }
 
 fn reflecting(given: &[u8], word: &[u8], rooms: &[u8]) {
     let mut x = [0usize; 8];
     let n = numbers(given, 10, &mut x);
-    let all = costs(x);
-    let m = room(rooms);
-    let mut result = [9i16; 16];
-    let cause = reflector::reflect(&all[0..n], word, &mut result[0..m]);
-    written(cause, result, m);
+    reflected(costs(x), n, word, room(rooms));
+}
+
+// ---- sums of words, and chains
+
+// Adds two words to a list of `m` entries; the list.
+fn added(word: &[u8], other: &[u8], m: usize) -> [u8; 16]
+    requires { ⌜ m ≤ 16 ⌝ }
+{
+    let mut sum = [9u8; 16];
+    let cause = adder::add(word, other, &mut sum[0..m]);
+    let mut lists = nines();
+    lists.word = sum;
+    number(cause as usize);
+    list(b", word", lists, Which::Word, m);
+    sum
+}
+
+fn adding(word: &[u8], other: &[u8], rooms: &[u8]) {
+    added(word, other, room(rooms));
+}
+
+fn chaining(given: &[u8], word: &[u8], other: &[u8]) {
+    let mut x = [0usize; 8];
+    let n = numbers(given, 10, &mut x);
+    text(b" first");
+    let first = reflected(costs(x), n, word, n);
+    text(b"; second");
+    reflected(first, n, other, n);
+    text(b"; sum");
+    let sum = added(word, other, n);
+    text(b"; by the sum");
+    reflected(costs(x), n, &sum[0..n], n);
 }
 
 // ---- decoder

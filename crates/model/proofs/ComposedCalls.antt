@@ -1,5 +1,5 @@
 -- Calls of the reflector and of the adder: which are accepted, and what a chain of them gives. Assumes nothing.
-use Rattle.integers.proofs.Prelude.{_≡_, refl, sym, ap, subst, _∙_, false, _||_, List, [], _∷_, map, ℕ, zero, suc, _≤_, arith, ltb-false, le-ltb, eq-eqb, ne-eqb}
+use Rattle.integers.proofs.Prelude.{_≡_, refl, sym, ap, subst, _∙_, false, List, [], _∷_, map, ℕ, zero, suc, _≤_, arith, ltb-false, le-ltb, eq-eqb, ne-eqb}
 use Rattle.integers.proofs.Prelude.{ℤ, pos, negsuc, natAbs, length, take}
 use mathlib.Core.Logic.{_↔_}
 use Rattle.integers.proofs.Linear.{abs-neg}
@@ -15,7 +15,7 @@ use Rattle.model.specs.Points.{Bits}
 use Rattle.model.specs.Reflection.{negatedIf, reflect, sumOfWords}
 use Rattle.model.specs.Calls.{unequal, forbidden, notBinary, Costs, reflectorCauses, reflector}
 use Rattle.model.specs.DecoderClaims.{Small}
-use Rattle.model.specs.Composition.{sumOfAll, Each, Added, adderCauses, adder, ComposedCalls, handedOn}
+use Rattle.model.specs.Composition.{sumOfAll, Each, adderCauses, adder, ComposedCalls, handedOn}
 use Rattle.model.proofs.Causes.{clear, unless, or-false}
 use Rattle.model.proofs.Reflection.{reflect-at}
 use Rattle.model.proofs.Composition.{sum-bits, sums, all-bits, length-reflect, composes}

@@ -2,7 +2,7 @@
 use Rattle.integers.proofs.Prelude.{_≡_, refl, sym, ap, ap₂, _∙_, List, [], _∷_, ℕ, zero, suc, _+_, _%_, _<_, arith, decLt, ℤ, pos, negℤ, length, getD, take}
 use Rattle.integers.proofs.Prelude.{List·getD-eq-default, length-take-le, getD-take}
 use lib.IntN.{negℤ-negℤ}
-use lib.ListN.{replicate, length-replicate}
+use lib.ListN.{length-replicate}
 use lib.Seq.{ext-getD}
 use Rattle.lists.specs.Entries.{total}
 use Rattle.lists.proofs.Tabulated.{length-tab}

@@ -2,9 +2,8 @@
 use Rattle.integers.proofs.Prelude.{_≡_, refl, sym, ap, _∙_, Bool, true, false, cond, List, [], _∷_, ℕ, zero, suc, _+_, _%_, _≤_, _<_, arith, decLt}
 use Rattle.integers.proofs.Prelude.{ltb-false, lt-ltb, eqb-false, eqb, ltb, ℤ, pos, negsuc, natAbs, ltZ, length, getD, List·getD-eq-default}
 use Rattle.integers.proofs.Linear.{abs-neg}
-use Rattle.lists.specs.Tabulated.{tab}
 use Rattle.lists.specs.Entries.{total}
-use Rattle.lists.proofs.Tabulated.{length-tab, getD-tab, tab-same}
+use Rattle.lists.proofs.Tabulated.{getD-tab, tab-same}
 use Rattle.lists.proofs.Entries.{first-same, first-before}
 use Rattle.quotient.specs.Quotient.{quotient}
 use Rattle.quotient.specs.Quotient.Laws.{quotient-odd}

@@ -1,6 +1,6 @@
 -- What each entry promises of a call follows from the equation with its definition. Assumes nothing.
-use Rattle.integers.proofs.Prelude.{_≡_, refl, sym, ap, ap₂, subst, _∙_, Bool, true, false, not, _||_, List, [], _∷_, _++_, map, ℕ, zero, suc, _*_, _≤_, _<_}
-use Rattle.integers.proofs.Prelude.{arith, ltb-false, le-ltb, not-false, ltb, ℤ, pos, length, getD, take}
+use Rattle.integers.proofs.Prelude.{_≡_, refl, sym, ap, ap₂, subst, _∙_, Bool, true, false, not, _||_, List, [], _∷_, _++_, map, ℕ, zero, suc, _*_, _<_}
+use Rattle.integers.proofs.Prelude.{not-false, ltb, ℤ, pos, length, getD, take}
 use lib.Ieee.{Float, nan}
 use Rattle.lists.specs.Entries.{some}
 use Rattle.lists.specs.Tabulated.{written}
@@ -8,14 +8,13 @@ use Rattle.lists.proofs.Tabulated.{over-in, over-map, take-written}
 use Rattle.lists.proofs.Entries.{some-at}
 use Rattle.model.specs.declared.Settings.{Settings}
 use Rattle.model.specs.declared.Channel.{Channel}
-use Rattle.model.specs.Causes.{_if_, firstOf, short, accepted}
+use Rattle.model.specs.Causes.{short, accepted}
 use Rattle.model.specs.Code.{Code, triples, variables}
 use Rattle.model.specs.Records.{codeOf, judge, recordCauses}
 use Rattle.model.specs.RecordClaims.{Bytes}
 use Rattle.model.specs.Sound.{Sound}
-use Rattle.model.specs.Splitting.{systemOf}
 use Rattle.model.specs.Iteration.{at}
-use Rattle.model.specs.Words.{firstOdd, Outcome, tested}
+use Rattle.model.specs.Words.{firstOdd, Outcome}
 use Rattle.model.specs.Points.{Codeword, pointOf}
 use Rattle.model.specs.Reflection.{reflect, sumOfWords}
 use Rattle.model.specs.Channel.{finite, inRange, product, costOf}
@@ -24,15 +23,15 @@ use Rattle.model.specs.Calls.{Extended, extensionCauses, extension, List
 use Rattle.model.specs.Order.{oddCauses, Ordered, oneToNine}
 use Rattle.model.specs.Told.{Refuses}
 use Rattle.model.specs.ChannelClaims.{Costed, ofSingles}
-use Rattle.model.specs.WordClaims.{Tested, PointOf}
+use Rattle.model.specs.WordClaims.{PointOf}
 use Rattle.model.specs.Composition.{zeroWord, sumOfAll, chained, Each, Added, adderCauses, adder, handedOn}
 use Rattle.model.specs.DecoderClaims.{Refused, Ran, Iterated, Bounded, AsBefore, Small, ReflectedCalls}
 use Rattle.model.specs.Promises.{ReaderCall, SplitterCall, FrontCall, ReflectorCall, AdderCall, TestCall, ExtensionCall, DecoderCall}
-use Rattle.model.proofs.Causes.{stays, clear, unless, first-in}
+use Rattle.model.proofs.Causes.{stays, clear, unless}
 use Rattle.model.proofs.Accepted as Accepted
-use Rattle.model.proofs.Order.{Listed, listed, both, whole, follow, ordered, refuses, after-records, records-ordered, word-order}
+use Rattle.model.proofs.Order.{listed, whole, follow, ordered, refuses, after-records, records-ordered, word-order}
 use Rattle.model.proofs.RecordClaims.{record-claims}
-use Rattle.model.proofs.WordClaims.{tested-is, test-claims, point-claims, word-bits, bits-pass}
+use Rattle.model.proofs.WordClaims.{point-claims}
 use Rattle.model.proofs.WordCalls.{answer-odd, answer-place, none-listed, test-is, test-exactly}
 use Rattle.model.proofs.WordCalls.{no-room, room-listed, extension-is, extension-exactly, point-taken}
 use Rattle.model.proofs.Points.{points}

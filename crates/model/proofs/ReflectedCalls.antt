@@ -1,16 +1,14 @@
 -- Two calls, the second with reflected costs. Assumes nothing.
-use Rattle.integers.proofs.Prelude.{_≡_, refl, sym, ap, ap₂, _∙_, Bool, false, not, List, [], _∷_, ℕ, zero, suc, _+_, _*_, _≤_, arith, eq-eqb, ne-eqb}
-use Rattle.integers.proofs.Prelude.{ℤ, pos, negsuc, natAbs, length, take}
+use Rattle.integers.proofs.Prelude.{_≡_, sym, ap, ap₂, _∙_, Bool, false, not, List, [], _∷_, ℕ, _+_, _*_, arith, eq-eqb}
+use Rattle.integers.proofs.Prelude.{ℤ, length, take}
 use Rattle.lists.specs.Entries.{some}
 use Rattle.lists.specs.Tabulated.{written}
-use Rattle.lists.proofs.Tabulated.{length-tab, take-written}
-use Rattle.lists.proofs.Entries.{none-in-tab}
+use Rattle.lists.proofs.Tabulated.{take-written}
 use Rattle.model.specs.declared.Settings.{Settings}
 use Rattle.model.specs.Causes.{_if_, firstOf, accepted}
 use Rattle.model.specs.Code.{Code, triples, variables}
 use Rattle.model.specs.Records.{codeOf, judge}
 use Rattle.model.specs.Splitting.{System, systemOf}
-use Rattle.model.specs.Iteration.{at}
 use Rattle.model.specs.Run.{start, Ended}
 use Rattle.model.specs.Words.{bitAt, wordOf, Outcome, outcome}
 use Rattle.model.specs.Points.{Codeword, pointOf}
