@@ -13,7 +13,8 @@ pub fn families() -> Vec<Family> {
         Family::random("test and extension, small codes", 1_000, small_word),
         Family::random("test and extension, large codes", 10, large_word),
         Family::listed("reflector at the edges", reflector_edges),
-        Family::random("reflector", 2_000, reflected),
+        Family::random("reflector", 2_000, short_reflection),
+        Family::random("reflector, many costs", 100, long_reflection),
         Family::listed("sums at the edges", sum_edges),
         Family::listed("sums with one wrong entry", sums_with_a_wrong_entry),
         Family::listed("sums of every length up to 300", sums_of_every_length),
@@ -83,8 +84,17 @@ fn reflector_edges() -> Vec<Case> {
     cases
 }
 
-fn reflected(random: &mut Random) -> Case {
-    let length = random.below(40);
+fn short_reflection(random: &mut Random) -> Case {
+    let length = random.below(70);
+    reflection_of(random, length)
+}
+
+fn long_reflection(random: &mut Random) -> Case {
+    let length = random.between(1_000, 5_000);
+    reflection_of(random, length)
+}
+
+fn reflection_of(random: &mut Random, length: usize) -> Case {
     let mut costs: Vec<i16> = (0..length).map(|_| random.any() as i16).collect();
     costs
         .iter_mut()
