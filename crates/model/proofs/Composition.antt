@@ -1,5 +1,5 @@
 -- Reflections compose, and extensions add up. Assumes nothing.
-use Rattle.integers.proofs.Prelude.{_≡_, refl, sym, ap, ap₂, _∙_, List, [], _∷_, ℕ, zero, suc, _+_, _%_, _<_, arith, decLt, ℤ, pos, negℤ, length, getD, take}
+use Rattle.integers.proofs.Prelude.{_≡_, refl, sym, ap, ap₂, _∙_, List, [], _∷_, _++_, ℕ, zero, suc, _+_, _%_, _<_, arith, decLt, ℤ, pos, negℤ, length, getD, take}
 use Rattle.integers.proofs.Prelude.{List·getD-eq-default, length-take-le, getD-take}
 use lib.IntN.{negℤ-negℤ}
 use lib.ListN.{length-replicate}
@@ -57,20 +57,38 @@ module _ (n : ℕ) where
     same-words : ((i : ℕ) → bitAt w i ≡ bitAt u i) → w ≡ u
     same-words h = ext-getD 0 w u (a .long ∙ sym (b .long)) (λ i l. h i)
 
-  pub sums : Sums n
-  sums = record {
-    word = sum-bits;
-    order = λ w u a b. same-words (sumOfWords w u) (sumOfWords u w) (sum-bits w u a b) (sum-bits u w b a)
-        (λ i. entry w u a b i ∙ omega arith ∙ sym (entry u w b a i));
-    grouping = λ w u v a b c. same-words _ _ (sum-bits _ v (sum-bits w u a b) c) (sum-bits w _ a (sum-bits u v b c))
-        (λ i. omega (arith, entry _ v (sum-bits w u a b) c i, entry w u a b i, entry w _ a (sum-bits u v b c) i, entry u v b c i));
-    zero-word = λ w a. same-words _ w (sum-bits w _ a zero-bits) a (λ i. omega (arith, entry w _ a zero-bits i, zero-at n i, a .binary i));
-    twice = λ w a. same-words _ _ (sum-bits w w a a) zero-bits (λ i. omega (arith, entry w w a a i, zero-at n i));
-  }
-
   pub all-bits : (ws : List (List ℕ)) → Each (Bits n) ws → Bits n (sumOfAll n ws)
   all-bits [] h = zero-bits
   all-bits (w ∷ ws) h = sum-bits w (sumOfAll n ws) (h .0) (all-bits ws (h .1))
+
+  order : (w u : List ℕ) → Bits n w → Bits n u → sumOfWords w u ≡ sumOfWords u w
+  order w u a b =
+      same-words (sumOfWords w u) (sumOfWords u w) (sum-bits w u a b) (sum-bits u w b a) (λ i. omega (arith, entry w u a b i, entry u w b a i))
+
+  grouping : (w u v : List ℕ) → Bits n w → Bits n u → Bits n v → sumOfWords (sumOfWords w u) v ≡ sumOfWords w (sumOfWords u v)
+  grouping w u v a b c =
+      let wu = sum-bits w u a b in
+      let uv = sum-bits u v b c in
+      same-words _ _ (sum-bits _ v wu c) (sum-bits w _ a uv) (λ i. omega (arith, entry _ v wu c i, entry w u a b i, entry w _ a uv i, entry u v b c i))
+
+  -- two words change places
+  exchange : (ws vs : List (List ℕ)) (w u : List ℕ) → Bits n w → Bits n u → Each (Bits n) vs
+      → sumOfAll n (ws ++ (w ∷ u ∷ vs)) ≡ sumOfAll n (ws ++ (u ∷ w ∷ vs))
+  exchange [] vs w u a b h =
+      let rest = sumOfAll n vs in
+      let c = all-bits vs h in
+      sym (grouping w u rest a b c) ∙ ap (λ (x : List ℕ). sumOfWords x rest) (order w u a b) ∙ grouping u w rest b a c
+  exchange (x ∷ ws) vs w u a b h = ap (sumOfWords x) (exchange ws vs w u a b h)
+
+  pub sums : Sums n
+  sums = record {
+    word = sum-bits;
+    order = order;
+    grouping = grouping;
+    zero-word = λ w a. same-words _ w (sum-bits w _ a zero-bits) a (λ i. omega (arith, entry w _ a zero-bits i, zero-at n i, a .binary i));
+    twice = λ w a. same-words _ _ (sum-bits w w a a) zero-bits (λ i. omega (arith, entry w w a a i, zero-at n i));
+    neighbours = exchange;
+  }
 
 -- ---- reflections
 turned-turned : (a b : ℕ) (z : ℤ) → a < 2 → b < 2 → negatedIf b (negatedIf a z) ≡ negatedIf ((a + b) % 2) z

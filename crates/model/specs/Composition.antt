@@ -3,7 +3,7 @@
 use mathlib.Core.Path.{_≡_}
 use mathlib.Core.Bool.{_||_}
 use mathlib.Core.Logic.{_↔_}
-use mathlib.Core.List.{List, [], _∷_}
+use mathlib.Core.List.{List, [], _∷_, _++_}
 use Prim.Native.Nat.{ℕ, _≤_}
 use lib.IntN.{ℤ}
 use lib.ListN.{length, take, replicate}
@@ -30,7 +30,7 @@ abbrev pub chained : List (List ℕ) → List ℤ → List ℤ
 chained [] costs = costs
 chained (w ∷ ws) costs = chained ws (reflect w costs)
 
--- it holds of each entry
+-- P holds of each entry
 abbrev pub Each : {A : Type 0} → (A → Type 0) → List A → Type 0
 Each P [] = Unit {0}
 Each P (x ∷ l) = P x × Each P l
@@ -56,6 +56,9 @@ pub record Sums (n : ℕ) : Type 0 where
   pub grouping : (w u v : List ℕ) → Bits n w → Bits n u → Bits n v → sumOfWords (sumOfWords w u) v ≡ sumOfWords w (sumOfWords u v)
   pub zero-word : (w : List ℕ) → Bits n w → sumOfWords w (zeroWord n) ≡ w
   pub twice : (w : List ℕ) → Bits n w → sumOfWords w w ≡ zeroWord n
+  -- of any number of words: neighbours may change places, and so all may
+  pub neighbours : (ws vs : List (List ℕ)) (w u : List ℕ) → Bits n w → Bits n u → Each (Bits n) vs
+      → sumOfAll n (ws ++ (w ∷ u ∷ vs)) ≡ sumOfAll n (ws ++ (u ∷ w ∷ vs))
 
 -- "For costs and 0/1 words of equal length"; of the definitions it holds whatever the costs are
 pub record Composes (costs : List ℤ) : Type 0 where

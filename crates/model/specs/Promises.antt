@@ -78,7 +78,8 @@ pub record ReflectorCall (costs : List ℤ) (w : List ℕ) (old : List ℤ) (a :
   pub composes : Composes costs
   -- of this call and a second one with the costs that it wrote, which gave c
   pub composed : a .number ≡ 0 → (u : List ℕ) (out : List ℤ) (c : Costs) → c ≡ reflector (take (length costs) (a .costs)) u out → ComposedCalls costs w u out c
-  -- of a chain of calls: this one, those of l, and a last one, which gave c as if this one had been with the sum of all words before
+  -- of a chain of calls: this one, those of l, and a last one, which gave c as if this one had been with the sum of all words before; each of those
+  -- is accepted, being the last of a shorter chain
   pub chain : a .number ≡ 0 → (l : List (List ℕ × List ℤ)) → Each (λ x. Bits (length costs) (x .0) × (length costs ≤ length (x .1))) l
       → (u : List ℕ) (out : List ℤ) (c : Costs) → c ≡ reflector (handedOn (take (length costs) (a .costs)) l) u out
       → ComposedCalls costs (sumOfWords w (sumOfAll (length costs) (map (λ x. x .0) l))) u out c

@@ -18,7 +18,7 @@ negatedIf (suc b) z = negℤ z
 unfoldable pub reflect : List ℕ → List ℤ → List ℤ
 reflect w costs = tab (length costs) (λ i. negatedIf (bitAt w i) (at costs i))
 
--- "bit by bit modulo 2"
+-- "bit by bit modulo 2"; document 02, L3: "their sum modulo 2"
 unfoldable pub sumOfWords : List ℕ → List ℕ → List ℕ
 sumOfWords w u = tab (length w) (λ i. (bitAt w i + bitAt u i) % 2)
 
