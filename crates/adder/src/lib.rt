@@ -1,4 +1,4 @@
-// The sum of two words, bit by bit modulo 2 (document 02, L3): what one reflection by both words is a reflection by.
+// The sum of two words, bit by bit modulo 2 (document 02, L3): a reflection by one word and then the other is one by their sum.
 ghost use mathlib.Core.Path.{_≡_};
 ghost use Prim.Native.Nat.{_≤_};
 ghost use lib.ListN.{length};

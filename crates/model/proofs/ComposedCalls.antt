@@ -56,6 +56,10 @@ reflector-took costs w old h =
       ltb-false (length old) (length costs) (unless 9 _ (x .1 .1 .1 .0)),
     )
 
+-- what it hands on
+pub reflected-taken : (costs : List ℤ) (w : List ℕ) (old : List ℤ) → take (length costs) (written (reflect w costs) old) ≡ reflect w costs
+reflected-taken costs w old = take-written (reflect w costs) old (length costs) (length-reflect w costs)
+
 -- ---- calls with costs that calls before wrote
 module _ (costs : List ℤ) (small : Small costs) where
   abbrev n : ℕ
@@ -71,10 +75,6 @@ module _ (costs : List ℤ) (small : Small costs) where
       let long = sym (length-reflect w costs) in
       reflector-is (reflect w costs) u out (reflect-small w costs small) (subst (λ (m : ℕ). Bits m u) long b) (subst (λ (m : ℕ). m ≤ length out) long room)
 
-  -- the costs that an accepted call hands on
-  taken : (w : List ℕ) (old : List ℤ) → take n (written (reflect w costs) old) ≡ reflect w costs
-  taken w old = take-written (reflect w costs) old n (length-reflect w costs)
-
   module _ (w : List ℕ) (a : Bits n w) where
     pub composed-calls : (u : List ℕ) (out : List ℤ) (c : Costs) → c ≡ reflector (reflect w costs) u out → ComposedCalls costs w u out c
     composed-calls u out c meets =
@@ -87,7 +87,7 @@ module _ (costs : List ℤ) (small : Small costs) where
               ∙ sym (reflector-is costs (sumOfWords w u) out small (sum-bits n w u a (took h .0)) (took h .1));
           order = λ h old room d other.
               let first = other ∙ reflector-is costs u old small (took h .0) room in
-              let handed = ap (λ (x : Costs). take n (x .costs)) first ∙ taken u old in (
+              let handed = ap (λ (x : Costs). take n (x .costs)) first ∙ reflected-taken costs u old in (
                 ap (λ (x : Costs). x .number) first,
                 is h ∙ ap told (composes costs .order w u a (took h .0)) ∙ sym (second-is u w out (took h .0) a (took h .1))
                     ∙ ap (λ (x : List ℤ). reflector x w out) (sym handed),
@@ -109,13 +109,13 @@ module _ (costs : List ℤ) (small : Small costs) where
   pub chain-bits : (l : List (List ℕ × List ℤ)) → Accepted l → Bits n (sumOfAll n (words l))
   chain-bits l h = all-bits n (words l) (words-bits l h)
 
-  -- one call, and what a chain hands on that begins with the word w
+  -- what one call hands on, and a chain of them, behind a call with the word w
   handed : (w u : List ℕ) (old : List ℤ) → Bits n w → Bits n u → n ≤ length old
       → take (length (reflect w costs)) (reflector (reflect w costs) u old .costs) ≡ reflect (sumOfWords w u) costs
   handed w u old a b room =
       let first = reflect w costs in
       ap (λ (x : Costs). take (length first) (x .costs)) (second-is w u old a b room)
-      ∙ take-written (reflect u first) old (length first) (length-reflect u first)
+      ∙ reflected-taken first u old
       ∙ composes costs .sum w u a b
 
   pub handed-on : (l : List (List ℕ × List ℤ)) → Accepted l → (w : List ℕ) → Bits n w

@@ -41,8 +41,8 @@ use Rattle.model.proofs.Demand3 as Demand3
 use Rattle.model.proofs.DecoderCalls as Calls
 use Rattle.model.proofs.Courses.{iterated}
 use Rattle.model.proofs.BoundedCalls.{bounded}
-use Rattle.model.proofs.Composition.{zero-bits, sum-bits, length-sum, sums, length-reflect, chain-is, composes, sum-codeword, extends, words-of, all-codewords}
-use Rattle.model.proofs.ComposedCalls.{reflector-is, reflector-took, composed-calls, chain-bits, handed-on, adder-exactly}
+use Rattle.model.proofs.Composition.{zero-bits, sum-bits, length-sum, sums, chain-is, composes, sum-codeword, extends, words-of, all-codewords}
+use Rattle.model.proofs.ComposedCalls.{reflector-is, reflector-took, reflected-taken, composed-calls, chain-bits, handed-on, adder-exactly}
 use Rattle.model.proofs.ReflectedCalls.{reflected-calls}
 
 -- ---- the reader
@@ -121,7 +121,7 @@ reflector-call costs w old a small meets =
     = (12, unequal w (length costs)) ∷ (13, some forbidden costs) ∷ (15, some notBinary w) ∷ (10, short (length costs) old) ∷ [] in
     let took = reflector-took costs w old in
     let taken : reflector costs w old .number ≡ 0 → take (length costs) (reflector costs w old .costs) ≡ reflect w costs
-    = λ h. rw h (take-written (reflect w costs) old (length costs) (length-reflect w costs)) in
+    = λ h. rw h (reflected-taken costs w old) in
     subst (ReflectorCall costs w old) (sym meets) (record {
       equation = refl;
       order = ordered (reflectorCauses costs w old) T _ (listed T causes refl) refl;
@@ -232,8 +232,7 @@ module _ (b : List ℕ) (o : Settings) (costs : List ℤ) (l : Lists) (d : Decod
 
   -- the costs that the reflector wrote
   reflected-costs : (w : List ℕ) (old : List ℤ) (r : Costs) → ReflectorCall costs w old r → r .number ≡ 0 → take (length costs) (r .costs) ≡ reflect w costs
-  reflected-costs w old r c h =
-      ap (take (length costs)) (c .reflected h) ∙ take-written (reflect w costs) old (length costs) (length-reflect w costs)
+  reflected-costs w old r c h = ap (take (length costs)) (c .reflected h) ∙ reflected-taken costs w old
 
   pub decoder-call : DecoderCall b o costs l d
   decoder-call = record {
