@@ -39,8 +39,7 @@ struct Lists {
 impl Lists {
     fn random(length: usize) -> Lists {
         let mut random = Random::new(9);
-        let mut word = || (0..length).map(|_| random.below(2) as u8).collect();
-        let (word, other) = (word(), word());
+        let (word, other) = (random.word(length), random.word(length));
         let cost = |_| random.below(65_535) as i32 - 32_767;
         Lists {
             costs: (0..length).map(cost).map(|cost| cost as i16).collect(),
