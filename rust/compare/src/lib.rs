@@ -19,6 +19,7 @@ pub mod reflection;
 pub mod reflections;
 pub mod round_trips;
 pub mod run_events;
+pub mod seeds;
 pub mod strained;
 pub mod sums;
 pub mod tally;

@@ -2,12 +2,12 @@
 //! which its fault shows.
 
 use compare::case::Case;
-use compare::chains::check_chains;
+use compare::chains::{self, check_chains};
 use compare::families::{all, Effort};
 use compare::outcome::{outcome, Outcome};
 use compare::random::Random;
-use compare::reflections::check_reflections;
-use compare::round_trips::check_round_trips;
+use compare::reflections::{self, check_reflections};
+use compare::round_trips::{self, check_round_trips};
 use compare::sums::check_laws;
 use reference::cause::Cause;
 use reference::fault::{self, Fault};
@@ -92,7 +92,10 @@ fn reflections_catch_what_breaks_them() {
         Fault::NegatedAtZeros,
     ] {
         let faulty = with(fault);
-        assert!(check_reflections(&faulty, &faulty).is_err(), "{fault:?}");
+        assert!(
+            check_reflections(&faulty, &faulty, reflections::SEED).is_err(),
+            "{fault:?}"
+        );
     }
 }
 
@@ -114,7 +117,10 @@ fn round_trips_catch_what_breaks_them() {
         Fault::BytesWithRefusal,
         Fault::OneByteMoreNeeded,
     ] {
-        assert!(check_round_trips(&with(fault)).is_err(), "{fault:?}");
+        assert!(
+            check_round_trips(&with(fault), round_trips::SEED).is_err(),
+            "{fault:?}"
+        );
     }
 }
 
@@ -149,7 +155,7 @@ fn chains_catch_what_breaks_them() {
         (Fault::SameWordEachTime, "run: "),
         (Fault::WordWrittenAlways, "run: "),
     ] {
-        let found = check_chains(&with(fault)).unwrap_err();
+        let found = check_chains(&with(fault), chains::SEED).unwrap_err();
         println!("{fault:?}: {found}");
         assert!(found.contains(what), "{fault:?}: {found}");
     }

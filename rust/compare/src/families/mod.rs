@@ -12,7 +12,7 @@ mod words;
 
 use crate::case::Case;
 use crate::random::Random;
-use std::env;
+use crate::seeds;
 
 pub enum Cases {
     Listed(fn() -> Vec<Case>),
@@ -36,13 +36,9 @@ pub enum Effort {
 
 const SEED: u64 = 0x5749_4441_4742_4531;
 
-/// The seed from which every family's seeds come: always the same, unless
-/// COMPARE_SEED holds another number.
+/// The seed from which every family's seeds come.
 pub fn seed() -> u64 {
-    match env::var("COMPARE_SEED") {
-        Ok(number) => number.parse().expect("COMPARE_SEED is a number"),
-        Err(_) => SEED,
-    }
+    seeds::other().unwrap_or(SEED)
 }
 
 impl Family {
