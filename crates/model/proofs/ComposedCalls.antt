@@ -1,5 +1,5 @@
 -- Calls of the reflector and of the adder: which are accepted, and what a chain of them gives. Assumes nothing.
-use Rattle.integers.proofs.Prelude.{_≡_, refl, sym, ap, subst, _∙_, false, List, [], _∷_, map, ℕ, zero, suc, _≤_, arith, ltb-false, le-ltb, eq-eqb, ne-eqb}
+use Rattle.integers.proofs.Prelude.{_≡_, refl, sym, ap, subst, _∙_, false, List, [], _∷_, ℕ, zero, suc, _≤_, arith, ltb-false, le-ltb, eq-eqb, ne-eqb}
 use Rattle.integers.proofs.Prelude.{ℤ, pos, negsuc, natAbs, length, take}
 use mathlib.Core.Logic.{_↔_}
 use Rattle.integers.proofs.Linear.{abs-neg}
@@ -15,10 +15,10 @@ use Rattle.model.specs.Points.{Bits}
 use Rattle.model.specs.Reflection.{negatedIf, reflect, sumOfWords}
 use Rattle.model.specs.Calls.{unequal, forbidden, notBinary, Costs, reflectorCauses, reflector}
 use Rattle.model.specs.DecoderClaims.{Small}
-use Rattle.model.specs.Composition.{sumOfAll, Each, adderCauses, adder, ComposedCalls, handedOn}
+use Rattle.model.specs.Composition.{sumOfAll, Each, adderCauses, adder, ComposedCalls, Link, Links, wordsOf, handedOn}
 use Rattle.model.proofs.Causes.{clear, unless, or-false}
 use Rattle.model.proofs.Reflection.{reflect-at}
-use Rattle.model.proofs.Composition.{sum-bits, sums, all-bits, length-reflect, composes}
+use Rattle.model.proofs.Composition.{sum-bits, sums, all-bits, length-reflect, zero-reflects, composes}
 use Rattle.model.proofs.WordClaims.{bits-tested}
 
 -- ---- costs
@@ -60,6 +60,15 @@ reflector-took costs w old h =
 pub reflected-taken : (costs : List ℤ) (w : List ℕ) (old : List ℤ) → take (length costs) (written (reflect w costs) old) ≡ reflect w costs
 reflected-taken costs w old = take-written (reflect w costs) old (length costs) (length-reflect w costs)
 
+-- ---- the words of a chain
+pub words-are : (P : List ℕ → Type 0) (n : ℕ) (l : List Link) → Links P n l → Each P (wordsOf l)
+words-are P n [] h = tt
+words-are P n (x ∷ l) h = (h .0 .0, words-are P n l (h .1))
+
+pub links-weaker : (P Q : List ℕ → Type 0) (n : ℕ) → ((w : List ℕ) → P w → Q w) → (l : List Link) → Links P n l → Links Q n l
+links-weaker P Q n f [] h = tt
+links-weaker P Q n f (x ∷ l) h = ((f (x .word) (h .0 .0), h .0 .1), links-weaker P Q n f l (h .1))
+
 -- ---- calls with costs that calls before wrote
 module _ (costs : List ℤ) (small : Small costs) where
   abbrev n : ℕ
@@ -96,18 +105,8 @@ module _ (costs : List ℤ) (small : Small costs) where
         }
 
   -- ---- a chain of calls
-  abbrev Accepted : List (List ℕ × List ℤ) → Type 0
-  Accepted l = Each (λ x. Bits n (x .0) × (n ≤ length (x .1))) l
-
-  abbrev words : List (List ℕ × List ℤ) → List (List ℕ)
-  words l = map (λ x. x .0) l
-
-  words-bits : (l : List (List ℕ × List ℤ)) → Accepted l → Each (Bits n) (words l)
-  words-bits [] h = tt
-  words-bits (x ∷ l) h = (h .0 .0, words-bits l (h .1))
-
-  pub chain-bits : (l : List (List ℕ × List ℤ)) → Accepted l → Bits n (sumOfAll n (words l))
-  chain-bits l h = all-bits n (words l) (words-bits l h)
+  pub chain-bits : (l : List Link) → Links (Bits n) n l → Bits n (sumOfAll n (wordsOf l))
+  chain-bits l h = all-bits n (wordsOf l) (words-are (Bits n) n l h)
 
   -- what one call hands on, and a chain of them, behind a call with the word w
   handed : (w u : List ℕ) (old : List ℤ) → Bits n w → Bits n u → n ≤ length old
@@ -118,14 +117,21 @@ module _ (costs : List ℤ) (small : Small costs) where
       ∙ reflected-taken first u old
       ∙ composes costs .sum w u a b
 
-  pub handed-on : (l : List (List ℕ × List ℤ)) → Accepted l → (w : List ℕ) → Bits n w
-      → handedOn (reflect w costs) l ≡ reflect (sumOfWords w (sumOfAll n (words l))) costs
+  pub handed-on : (l : List Link) → Links (Bits n) n l → (w : List ℕ) → Bits n w
+      → handedOn (reflect w costs) l ≡ reflect (sumOfWords w (sumOfAll n (wordsOf l))) costs
   handed-on [] h w a = ap (λ (x : List ℕ). reflect x costs) (sym (sums n .zero-word w a))
   handed-on (x ∷ l) h w a =
       let b = h .0 .0 in
-      ap (λ (y : List ℤ). handedOn y l) (handed w (x .0) (x .1) a b (h .0 .1))
-      ∙ handed-on l (h .1) (sumOfWords w (x .0)) (sum-bits n w (x .0) a b)
-      ∙ ap (λ (y : List ℕ). reflect y costs) (sums n .grouping w (x .0) (sumOfAll n (words l)) a b (chain-bits l (h .1)))
+      ap (λ (y : List ℤ). handedOn y l) (handed w (x .word) (x .lent) a b (h .0 .1))
+      ∙ handed-on l (h .1) (sumOfWords w (x .word)) (sum-bits n w (x .word) a b)
+      ∙ ap (λ (y : List ℕ). reflect y costs) (sums n .grouping w (x .word) (sumOfAll n (wordsOf l)) a b (chain-bits l (h .1)))
+
+  -- and a chain from the costs on
+  pub chain-handed : (l : List Link) → Links (Bits n) n l → handedOn costs l ≡ reflect (sumOfAll n (wordsOf l)) costs
+  chain-handed [] h = sym (zero-reflects n costs)
+  chain-handed (x ∷ l) h =
+      let first = ap (λ (y : Costs). take n (y .costs)) (reflector-is costs (x .word) (x .lent) small (h .0 .0) (h .0 .1)) ∙ reflected-taken costs (x .word) (x .lent) in
+      ap (λ (y : List ℤ). handedOn y l) first ∙ handed-on l (h .1) (x .word) (h .0 .0)
 
 -- ---- a call of the adder that is accepted
 pub adder-exactly : (w u old : List ℕ) → (adder w u old .number ≡ 0) ↔ (Bits (length w) w × Bits (length w) u × (length w ≤ length old))

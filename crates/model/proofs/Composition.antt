@@ -201,10 +201,6 @@ extends k s = record { zero-word = zero-codeword k; codeword = sum-codeword k; s
 
 -- ---- chains of codewords
 module _ (k : Code) where
-  pub words-of : (ws : List (List ℕ)) → Each (Codeword k) ws → Each (Bits (k .bits)) ws
-  words-of [] h = tt
-  words-of (w ∷ ws) h = (h .0 .word, words-of ws (h .1))
-
   pub all-codewords : (ws : List (List ℕ)) → Each (Codeword k) ws → Codeword k (sumOfAll (k .bits) ws)
   all-codewords [] h = zero-codeword k
   all-codewords (w ∷ ws) h = sum-codeword k w (sumOfAll (k .bits) ws) (h .0) (all-codewords ws (h .1))

@@ -15,7 +15,7 @@ use Rattle.model.specs.RecordClaims.{Bytes}
 use Rattle.model.specs.Sound.{Sound}
 use Rattle.model.specs.Iteration.{at}
 use Rattle.model.specs.Words.{firstOdd, Outcome}
-use Rattle.model.specs.Points.{Codeword, pointOf}
+use Rattle.model.specs.Points.{Bits, Codeword, pointOf}
 use Rattle.model.specs.Reflection.{reflect, sumOfWords}
 use Rattle.model.specs.Channel.{finite, inRange, product, costOf}
 use Rattle.model.specs.Calls.{unequal, forbidden, notBinary, ReaderAnswer, reader, Split, splitter, wordCauses, codewordTest}
@@ -24,7 +24,7 @@ use Rattle.model.specs.Order.{oddCauses, Ordered, oneToNine}
 use Rattle.model.specs.Told.{Refuses}
 use Rattle.model.specs.ChannelClaims.{Costed, ofSingles}
 use Rattle.model.specs.WordClaims.{PointOf}
-use Rattle.model.specs.Composition.{zeroWord, sumOfAll, chained, Each, Added, adderCauses, adder, handedOn}
+use Rattle.model.specs.Composition.{zeroWord, sumOfAll, Added, adderCauses, adder, Link, Links, wordsOf, handedOn}
 use Rattle.model.specs.DecoderClaims.{Refused, Ran, Iterated, Bounded, AsBefore, Small, ReflectedCalls}
 use Rattle.model.specs.Promises.{ReaderCall, SplitterCall, FrontCall, ReflectorCall, AdderCall, TestCall, ExtensionCall, DecoderCall}
 use Rattle.model.proofs.Causes.{stays, clear, unless}
@@ -41,8 +41,8 @@ use Rattle.model.proofs.Demand3 as Demand3
 use Rattle.model.proofs.DecoderCalls as Calls
 use Rattle.model.proofs.Courses.{iterated}
 use Rattle.model.proofs.BoundedCalls.{bounded}
-use Rattle.model.proofs.Composition.{zero-bits, sum-bits, length-sum, sums, chain-is, composes, sum-codeword, extends, words-of, all-codewords}
-use Rattle.model.proofs.ComposedCalls.{reflector-is, reflector-took, reflected-taken, composed-calls, chain-bits, handed-on, adder-exactly}
+use Rattle.model.proofs.Composition.{zero-bits, sum-bits, length-sum, sums, composes, sum-codeword, extends, all-codewords}
+use Rattle.model.proofs.ComposedCalls.{words-are, links-weaker, reflector-is, reflector-took, reflected-taken, composed-calls, chain-bits, handed-on, chain-handed, adder-exactly}
 use Rattle.model.proofs.ReflectedCalls.{reflected-calls}
 
 -- ---- the reader
@@ -132,7 +132,7 @@ reflector-call costs w old a small meets =
       composes = composes costs;
       composed = λ h u out c second. composed-calls costs (small h) w (took h .0) u out c (second ∙ ap (λ (x : List ℤ). reflector x u out) (taken h));
       chain = λ h l each u out c last.
-          let more = sumOfAll (length costs) (map (λ x. x .0) l) in
+          let more = sumOfAll (length costs) (wordsOf l) in
           let handed = ap (λ (x : List ℤ). handedOn x l) (taken h) ∙ handed-on costs (small h) l each w (took h .0) in
           composed-calls costs (small h) (sumOfWords w more) (sum-bits (length costs) w more (took h .0) (chain-bits costs (small h) l each)) u out c
           (last ∙ ap (λ (x : List ℤ). reflector x u out) handed);
@@ -224,11 +224,16 @@ module _ (b : List ℕ) (o : Settings) (costs : List ℤ) (l : Lists) (d : Decod
   reflected h w c m room e again = rw (meets, again) (reflected-calls b w o costs l m h (small h) room c)
 
   -- a chain is one reflection, by a codeword
-  chain : decoderCause b o costs l ≡ 0 → (ws : List (List ℕ)) → Each (Codeword (codeOf b)) ws → (m : Lists) → noRoom (codeOf b) m ≡ false
-      → (e : Decoded) → e ≡ decoder b o (chained ws costs) m → ReflectedCalls b o costs (sumOfAll (codeOf b .bits) ws) m d e
-  chain h ws each m room e again =
-      reflected h (sumOfAll (codeOf b .bits) ws) (all-codewords (codeOf b) ws each) m room e
-      (again ∙ ap (λ (x : List ℤ). decoder b o x m) (chain-is (codeOf b .bits) ws costs (words-of (codeOf b) ws each)))
+  chain : decoderCause b o costs l ≡ 0 → (c : List Link) → Links (Codeword (codeOf b)) (length costs) c → (m : Lists) → noRoom (codeOf b) m ≡ false
+      → (e : Decoded) → e ≡ decoder b o (handedOn costs c) m → ReflectedCalls b o costs (sumOfAll (codeOf b .bits) (wordsOf c)) m d e
+  chain h c codewords m room e again =
+      let k = codeOf b in
+      let n = length costs in
+      let fits : n ≡ k .bits = Calls.costs-fit b o costs l h in
+      let words : Links (Bits n) n c = links-weaker (Codeword k) (Bits n) n (λ w q. rw fits (q .word)) c codewords in
+      reflected h (sumOfAll (k .bits) (wordsOf c)) (all-codewords k (wordsOf c) (words-are (Codeword k) n c codewords)) m room e
+      (again ∙ ap (λ (x : List ℤ). decoder b o x m)
+      (chain-handed costs (small h) c words ∙ ap (λ (n : ℕ). reflect (sumOfAll n (wordsOf c)) costs) fits))
 
   -- the costs that the reflector wrote
   reflected-costs : (w : List ℕ) (old : List ℤ) (r : Costs) → ReflectorCall costs w old r → r .number ≡ 0 → take (length costs) (r .costs) ≡ reflect w costs

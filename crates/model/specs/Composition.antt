@@ -3,7 +3,7 @@
 use mathlib.Core.Path.{_≡_}
 use mathlib.Core.Bool.{_||_}
 use mathlib.Core.Logic.{_↔_}
-use mathlib.Core.List.{List, [], _∷_, _++_}
+use mathlib.Core.List.{List, [], _∷_, _++_, map}
 use Prim.Native.Nat.{ℕ, _≤_}
 use lib.IntN.{ℤ}
 use lib.ListN.{length, take, replicate}
@@ -93,7 +93,19 @@ pub record ComposedCalls (costs : List ℤ) (w u : List ℕ) (out : List ℤ) (c
   -- the same word twice
   pub twice : c .number ≡ 0 → u ≡ w → c .costs ≡ written costs out
 
--- the costs that calls of the reflector hand on, each with a word and a lent list
-abbrev pub handedOn : List ℤ → List (List ℕ × List ℤ) → List ℤ
+-- a call of a chain of them: its word, and the list that it was lent
+pub record Link : Type 0 where
+  pub word : List ℕ
+  pub lent : List ℤ
+
+-- P holds of each word of the chain, and each list has the room for n costs
+abbrev pub Links : (List ℕ → Type 0) → ℕ → List Link → Type 0
+Links P n l = Each (λ x. P (x .word) × (n ≤ length (x .lent))) l
+
+abbrev pub wordsOf : List Link → List (List ℕ)
+wordsOf l = map (λ x. x .word) l
+
+-- the costs that a chain hands on, each call to the next
+abbrev pub handedOn : List ℤ → List Link → List ℤ
 handedOn costs [] = costs
-handedOn costs (x ∷ l) = handedOn (take (length costs) (reflector costs (x .0) (x .1) .costs)) l
+handedOn costs (x ∷ l) = handedOn (take (length costs) (reflector costs (x .word) (x .lent) .costs)) l

@@ -30,7 +30,7 @@ use Rattle.model.specs.WordClaims.{Tested, PointOf}
 use Rattle.model.specs.ChannelClaims.{Costed}
 use Rattle.model.specs.Claims.{Demand3}
 use Rattle.model.specs.DecoderClaims.{runOf, Refused, Ran, Iterated, Bounded, AsBefore, Published, Small, ReflectedCalls}
-use Rattle.model.specs.Composition.{zeroWord, sumOfAll, chained, Each, Added, adderCauses, adder, Sums, Composes, Extends, ComposedCalls, handedOn}
+use Rattle.model.specs.Composition.{zeroWord, sumOfAll, Added, adderCauses, adder, Sums, Composes, Extends, ComposedCalls, Link, Links, wordsOf, handedOn}
 
 -- ---- the reader: a is what it tells of the bytes b
 pub record ReaderCall (b : List ℕ) (a : ReaderAnswer) : Type 0 where
@@ -80,9 +80,9 @@ pub record ReflectorCall (costs : List ℤ) (w : List ℕ) (old : List ℤ) (a :
   pub composed : a .number ≡ 0 → (u : List ℕ) (out : List ℤ) (c : Costs) → c ≡ reflector (take (length costs) (a .costs)) u out → ComposedCalls costs w u out c
   -- of a chain of calls: this one, those of l, and a last one, which gave c as if this one had been with the sum of all words before; each of those
   -- is accepted, being the last of a shorter chain
-  pub chain : a .number ≡ 0 → (l : List (List ℕ × List ℤ)) → Each (λ x. Bits (length costs) (x .0) × (length costs ≤ length (x .1))) l
+  pub chain : a .number ≡ 0 → (l : List Link) → Links (Bits (length costs)) (length costs) l
       → (u : List ℕ) (out : List ℤ) (c : Costs) → c ≡ reflector (handedOn (take (length costs) (a .costs)) l) u out
-      → ComposedCalls costs (sumOfWords w (sumOfAll (length costs) (map (λ x. x .0) l))) u out c
+      → ComposedCalls costs (sumOfWords w (sumOfAll (length costs) (wordsOf l))) u out c
   -- and of a call with the zero word
   pub zero-word : a .number ≡ 0 → (out : List ℤ) → length costs ≤ length out
       → reflector costs (zeroWord (length costs)) out ≡ record { number = 0; costs = written costs out }
@@ -156,9 +156,10 @@ pub record DecoderCall (b : List ℕ) (o : Settings) (costs : List ℤ) (l : Lis
   pub demand-3 : judge b ≡ 0 → Demand3 (codeOf b)
   pub reflected : decoderCause b o costs l ≡ 0 → (w : List ℕ) → Codeword (codeOf b) w → (m : Lists) → noRoom (codeOf b) m ≡ false
       → (e : Decoded) → e ≡ decoder b o (reflect w costs) m → ReflectedCalls b o costs w m d e
-  -- of this call and one with the costs of a chain, which gave e: it is as if they were reflected once, by the sum of the chain's codewords
-  pub chain : decoderCause b o costs l ≡ 0 → (ws : List (List ℕ)) → Each (Codeword (codeOf b)) ws → (m : Lists) → noRoom (codeOf b) m ≡ false
-      → (e : Decoded) → e ≡ decoder b o (chained ws costs) m → ReflectedCalls b o costs (sumOfAll (codeOf b .bits) ws) m d e
+  -- of this call and one, which gave e, with the costs that the calls of a chain c hand on, each with a codeword and a list that has the room: it is as if
+  -- they were reflected once, by the sum of the codewords
+  pub chain : decoderCause b o costs l ≡ 0 → (c : List Link) → Links (Codeword (codeOf b)) (length costs) c → (m : Lists) → noRoom (codeOf b) m ≡ false
+      → (e : Decoded) → e ≡ decoder b o (handedOn costs c) m → ReflectedCalls b o costs (sumOfAll (codeOf b .bits) (wordsOf c)) m d e
   -- end to end, by the answers alone: this call ended with 0, 16 or 17, the codeword test of w with t, the reflector in the list old with r, and a second
   -- call with the costs that the reflector wrote with e
   pub end-to-end : (d .answer .number ≡ 0) ⊎ ((d .answer .number ≡ 16) ⊎ (d .answer .number ≡ 17))
