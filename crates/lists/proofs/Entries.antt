@@ -5,7 +5,7 @@ use Rattle.integers.proofs.Prelude.{take-append-drop, drop-of-length-le, take-s
 use mathlib.Core.Bool.{or-assoc, or-false, and-assoc}
 use lib.ListN.{replicate}
 use Rattle.lists.specs.Tabulated.{tab}
-use Rattle.lists.specs.Entries.{every, some, total, first}
+use Rattle.lists.specs.Entries.{every, some, Each, total, first}
 use Rattle.lists.proofs.Tests.{and-left, and-right, and-both}
 
 -- ---- every
@@ -130,6 +130,21 @@ every-in-tab f (suc n) g h = rw (h 0 (omega arith)) (every-in-tab f n (λ i. g (
 pub none-in : {A : Type 0} (f : A → Bool) (l : List A) (d : A) → ((i : ℕ) → i < length l → f (getD l i d) ≡ false) → some f l ≡ false
 none-in f [] d h = refl
 none-in f (x ∷ l) d h = rw (h 0 (omega arith)) (none-in f l d (λ i k. h (suc i) (omega arith)))
+
+-- ---- what holds of each entry
+module _ {A : Type 0} (P : A → Type 0) where
+  pub each-at : (l : List A) (d : A) → Each P l → (i : ℕ) → i < length l → P (getD l i d)
+  each-at [] d h i k = absurd (omega arith)
+  each-at (x ∷ l) d h zero k = h .0
+  each-at (x ∷ l) d h (suc i) k = each-at l d (h .1) i (omega arith)
+
+  pub each-weaker : (Q : A → Type 0) → ((x : A) → P x → Q x) → (l : List A) → Each P l → Each Q l
+  each-weaker Q f [] h = tt
+  each-weaker Q f (x ∷ l) h = (f x (h .0), each-weaker Q f l (h .1))
+
+  pub each-map : {B : Type 0} (g : B → A) (l : List B) → Each (λ x. P (g x)) l → Each P (map g l)
+  each-map g [] h = tt
+  each-map g (x ∷ l) h = (h .0, each-map g l (h .1))
 
 -- tests that agree on the entries
 pub every-same : {A : Type 0} (n : ℕ) (h : ℕ → A) (f g : A → Bool) → ((i : ℕ) → i < n → f (h i) ≡ g (h i)) → every f (tab n h) ≡ every g (tab n h)

@@ -13,6 +13,11 @@ abbrev pub some : {A : Type 0} → (A → Bool) → List A → Bool
 some f [] = false
 some f (x ∷ l) = f x || some f l
 
+-- P holds of each entry
+abbrev pub Each : {A : Type 0} → (A → Type 0) → List A → Type 0
+Each P [] = Unit {0}
+Each P (x ∷ l) = P x × Each P l
+
 -- the sum of f over the entries
 abbrev pub total : {A : Type 0} → (A → ℕ) → List A → ℕ
 total f [] = 0

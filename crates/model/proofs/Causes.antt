@@ -1,6 +1,7 @@
 -- Lists of causes: the first that holds, and what the number 0 says. Assumes nothing.
 use Rattle.integers.proofs.Prelude.{_≡_, refl, subst, Bool, true, false, _||_, List, [], _∷_, _++_, ℕ, zero, suc, _≤_, arith, ltb-false, le-ltb, T, ltb}
 use mathlib.Core.Logic.{_↔_}
+use Rattle.lists.specs.Entries.{Each}
 use Rattle.model.specs.declared.Settings.{Settings}
 use Rattle.model.specs.Limits.{mostWeight, mostRatio, mostIterations}
 use Rattle.model.specs.Causes.{_if_, firstOf, outside, accepted}
@@ -47,8 +48,7 @@ stays (suc c) x y h = refl
 
 -- none of the causes holds
 abbrev pub Clear : List ℕ → Type 0
-Clear [] = Unit {0}
-Clear (c ∷ l) = (c ≡ 0) × Clear l
+Clear l = Each (λ c. c ≡ 0) l
 
 pub clear : (l : List ℕ) → firstOf l ≡ 0 → Clear l
 clear [] h = tt

@@ -4,9 +4,9 @@ use Rattle.integers.proofs.Prelude.{ℤ, pos, negsuc, natAbs, length, take}
 use mathlib.Core.Logic.{_↔_}
 use Rattle.integers.proofs.Linear.{abs-neg}
 use Rattle.lists.specs.Tabulated.{written}
-use Rattle.lists.specs.Entries.{some}
+use Rattle.lists.specs.Entries.{some, Each}
 use Rattle.lists.proofs.Tabulated.{take-written}
-use Rattle.lists.proofs.Entries.{none-in}
+use Rattle.lists.proofs.Entries.{none-in, each-weaker, each-map}
 use Rattle.model.specs.Limits.{mostCost}
 use Rattle.model.specs.Causes.{firstOf}
 use Rattle.model.specs.Iteration.{at}
@@ -15,10 +15,10 @@ use Rattle.model.specs.Points.{Bits}
 use Rattle.model.specs.Reflection.{negatedIf, reflect, sumOfWords}
 use Rattle.model.specs.Calls.{unequal, forbidden, notBinary, Costs, reflectorCauses, reflector}
 use Rattle.model.specs.DecoderClaims.{Small}
-use Rattle.model.specs.Composition.{sumOfAll, Each, adderCauses, adder, ComposedCalls, Link, Links, wordsOf, handedOn}
+use Rattle.model.specs.Composition.{sumOfAll, chained, adderCauses, adder, ComposedCalls, Link, Links, wordsOf, handedOn}
 use Rattle.model.proofs.Causes.{clear, unless, or-false}
 use Rattle.model.proofs.Reflection.{reflect-at}
-use Rattle.model.proofs.Composition.{sum-bits, sums, all-bits, length-reflect, zero-reflects, composes}
+use Rattle.model.proofs.Composition.{sum-bits, all-bits, length-reflect, composes}
 use Rattle.model.proofs.WordClaims.{bits-tested}
 
 -- ---- costs
@@ -60,15 +60,6 @@ reflector-took costs w old h =
 pub reflected-taken : (costs : List ℤ) (w : List ℕ) (old : List ℤ) → take (length costs) (written (reflect w costs) old) ≡ reflect w costs
 reflected-taken costs w old = take-written (reflect w costs) old (length costs) (length-reflect w costs)
 
--- ---- the words of a chain
-pub words-are : (P : List ℕ → Type 0) (n : ℕ) (l : List Link) → Links P n l → Each P (wordsOf l)
-words-are P n [] h = tt
-words-are P n (x ∷ l) h = (h .0 .0, words-are P n l (h .1))
-
-pub links-weaker : (P Q : List ℕ → Type 0) (n : ℕ) → ((w : List ℕ) → P w → Q w) → (l : List Link) → Links P n l → Links Q n l
-links-weaker P Q n f [] h = tt
-links-weaker P Q n f (x ∷ l) h = ((f (x .word) (h .0 .0), h .0 .1), links-weaker P Q n f l (h .1))
-
 -- ---- calls with costs that calls before wrote
 module _ (costs : List ℤ) (small : Small costs) where
   abbrev n : ℕ
@@ -104,34 +95,35 @@ module _ (costs : List ℤ) (small : Small costs) where
           twice = λ h e. ap (λ (x : Costs). x .costs) (is h) ∙ rw (e, composes costs .twice w a);
         }
 
-  -- ---- a chain of calls
-  pub chain-bits : (l : List Link) → Links (Bits n) n l → Bits n (sumOfAll n (wordsOf l))
-  chain-bits l h = all-bits n (wordsOf l) (words-are (Bits n) n l h)
+-- ---- the words of a chain
+pub links-words : (P : List ℕ → Type 0) (n : ℕ) (l : List Link) → Links P n l → Each P (wordsOf l)
+links-words P n l h = each-map P (λ x. x .word) l (each-weaker (λ x. P (x .word) × (n ≤ length (x .lent))) (λ x. P (x .word)) (λ x q. q .0) l h)
 
-  -- what one call hands on, and a chain of them, behind a call with the word w
-  handed : (w u : List ℕ) (old : List ℤ) → Bits n w → Bits n u → n ≤ length old
-      → take (length (reflect w costs)) (reflector (reflect w costs) u old .costs) ≡ reflect (sumOfWords w u) costs
-  handed w u old a b room =
-      let first = reflect w costs in
-      ap (λ (x : Costs). take (length first) (x .costs)) (second-is w u old a b room)
-      ∙ reflected-taken first u old
-      ∙ composes costs .sum w u a b
+-- ---- a chain of calls hands on what the chain of reflections makes
+handed-on : (n : ℕ) (l : List Link) → Links (Bits n) n l → (costs : List ℤ) → length costs ≡ n → Small costs → handedOn costs l ≡ chained (wordsOf l) costs
+handed-on n [] h costs e small = refl
+handed-on n (x ∷ l) h costs e small =
+    let first : reflector costs (x .word) (x .lent) ≡ record { number = 0; costs = written (reflect (x .word) costs) (x .lent) }
+    = reflector-is costs (x .word) (x .lent) small (rw e (h .0 .0)) (rw e (h .0 .1)) in
+    ap (λ (y : List ℤ). handedOn y l) (ap (λ (y : Costs). take (length costs) (y .costs)) first ∙ reflected-taken costs (x .word) (x .lent))
+    ∙ handed-on n l (h .1) (reflect (x .word) costs) (length-reflect (x .word) costs ∙ e) (reflect-small (x .word) costs small)
 
-  pub handed-on : (l : List Link) → Links (Bits n) n l → (w : List ℕ) → Bits n w
-      → handedOn (reflect w costs) l ≡ reflect (sumOfWords w (sumOfAll n (wordsOf l))) costs
-  handed-on [] h w a = ap (λ (x : List ℕ). reflect x costs) (sym (sums n .zero-word w a))
-  handed-on (x ∷ l) h w a =
-      let b = h .0 .0 in
-      ap (λ (y : List ℤ). handedOn y l) (handed w (x .word) (x .lent) a b (h .0 .1))
-      ∙ handed-on l (h .1) (sumOfWords w (x .word)) (sum-bits n w (x .word) a b)
-      ∙ ap (λ (y : List ℕ). reflect y costs) (sums n .grouping w (x .word) (sumOfAll n (wordsOf l)) a b (chain-bits l (h .1)))
+-- so it is one reflection
+module _ (costs : List ℤ) (small : Small costs) (l : List Link) (h : Links (Bits (length costs)) (length costs) l) where
+  chain-words : Each (Bits (length costs)) (wordsOf l)
+  chain-words = links-words (Bits (length costs)) (length costs) l h
 
-  -- and a chain from the costs on
-  pub chain-handed : (l : List Link) → Links (Bits n) n l → handedOn costs l ≡ reflect (sumOfAll n (wordsOf l)) costs
-  chain-handed [] h = sym (zero-reflects n costs)
-  chain-handed (x ∷ l) h =
-      let first = ap (λ (y : Costs). take n (y .costs)) (reflector-is costs (x .word) (x .lent) small (h .0 .0) (h .0 .1)) ∙ reflected-taken costs (x .word) (x .lent) in
-      ap (λ (y : List ℤ). handedOn y l) first ∙ handed-on l (h .1) (x .word) (h .0 .0)
+  pub chain-bits : Bits (length costs) (sumOfAll (length costs) (wordsOf l))
+  chain-bits = all-bits (length costs) (wordsOf l) chain-words
+
+  pub chain-handed : handedOn costs l ≡ reflect (sumOfAll (length costs) (wordsOf l)) costs
+  chain-handed = handed-on (length costs) l h costs refl small ∙ composes costs .chains (wordsOf l) chain-words
+
+  -- also from the costs on that a call before wrote
+  pub chain-after : (w : List ℕ) → Bits (length costs) w → handedOn (reflect w costs) l ≡ reflect (sumOfWords w (sumOfAll (length costs) (wordsOf l))) costs
+  chain-after w a =
+      handed-on (length costs) l h (reflect w costs) (length-reflect w costs) (reflect-small w costs small)
+      ∙ composes costs .chains (w ∷ wordsOf l) (a, chain-words)
 
 -- ---- a call of the adder that is accepted
 pub adder-exactly : (w u old : List ℕ) → (adder w u old .number ≡ 0) ↔ (Bits (length w) w × Bits (length w) u × (length w ≤ length old))

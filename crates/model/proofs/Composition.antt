@@ -4,7 +4,7 @@ use Rattle.integers.proofs.Prelude.{List·getD-eq-default, length-take-le, getD
 use lib.IntN.{negℤ-negℤ}
 use lib.ListN.{length-replicate}
 use lib.Seq.{ext-getD}
-use Rattle.lists.specs.Entries.{total}
+use Rattle.lists.specs.Entries.{total, Each}
 use Rattle.lists.proofs.Tabulated.{length-tab}
 use Rattle.lists.proofs.Entries.{total-same}
 use Rattle.model.specs.Code.{Code}
@@ -14,7 +14,7 @@ use Rattle.model.specs.Iteration.{at}
 use Rattle.model.specs.Words.{bitAt}
 use Rattle.model.specs.Points.{Bits, Codeword, Point, pointOf}
 use Rattle.model.specs.Reflection.{negatedIf, reflect, sumOfWords}
-use Rattle.model.specs.Composition.{zeroWord, sumOfAll, chained, Each, Sums, Composes, Extends}
+use Rattle.model.specs.Composition.{zeroWord, sumOfAll, chained, Sums, Composes, Extends}
 use Rattle.model.proofs.Points.{Even, even-point, point-begins, point-even, point, points}
 use Rattle.model.proofs.Reflection.{reflect-at}
 use Rattle.model.proofs.Rows.{two}
@@ -57,9 +57,13 @@ module _ (n : ℕ) where
     same-words : ((i : ℕ) → bitAt w i ≡ bitAt u i) → w ≡ u
     same-words h = ext-getD 0 w u (a .long ∙ sym (b .long)) (λ i l. h i)
 
+  -- what holds of the zero word and of sums holds of a sum of any number
+  all-sums : (P : List ℕ → Type 0) → P (zeroWord n) → ((w u : List ℕ) → P w → P u → P (sumOfWords w u)) → (ws : List (List ℕ)) → Each P ws → P (sumOfAll n ws)
+  all-sums P z s [] h = z
+  all-sums P z s (w ∷ ws) h = s w (sumOfAll n ws) (h .0) (all-sums P z s ws (h .1))
+
   pub all-bits : (ws : List (List ℕ)) → Each (Bits n) ws → Bits n (sumOfAll n ws)
-  all-bits [] h = zero-bits
-  all-bits (w ∷ ws) h = sum-bits w (sumOfAll n ws) (h .0) (all-bits ws (h .1))
+  all-bits = all-sums (Bits n) zero-bits sum-bits
 
   order : (w u : List ℕ) → Bits n w → Bits n u → sumOfWords w u ≡ sumOfWords u w
   order w u a b =
@@ -108,7 +112,7 @@ reflected-is w costs others h e =
     ext-getD (pos 0) (reflect w costs) others (length-reflect w costs ∙ sym h) (λ i l. reflect-at w costs i ∙ e i)
 
 module _ (n : ℕ) where
-  pub two-words : (costs : List ℤ) (w u : List ℕ) → Bits n w → Bits n u → reflect u (reflect w costs) ≡ reflect (sumOfWords w u) costs
+  two-words : (costs : List ℤ) (w u : List ℕ) → Bits n w → Bits n u → reflect u (reflect w costs) ≡ reflect (sumOfWords w u) costs
   two-words costs w u a b =
       reflected-is u (reflect w costs) (reflect (sumOfWords w u) costs) (length-reflect _ costs ∙ sym (length-reflect w costs)) (λ i.
       ap (negatedIf (bitAt u i)) (reflect-at w costs i)
@@ -116,10 +120,10 @@ module _ (n : ℕ) where
       ∙ ap (λ (x : ℕ). negatedIf x (at costs i)) (sym (entry n w u a b i))
       ∙ sym (reflect-at (sumOfWords w u) costs i))
 
-  pub zero-reflects : (costs : List ℤ) → reflect (zeroWord n) costs ≡ costs
+  zero-reflects : (costs : List ℤ) → reflect (zeroWord n) costs ≡ costs
   zero-reflects costs = reflected-is (zeroWord n) costs costs refl (λ i. rw (zero-at n i))
 
-  pub chain-is : (ws : List (List ℕ)) (costs : List ℤ) → Each (Bits n) ws → chained ws costs ≡ reflect (sumOfAll n ws) costs
+  chain-is : (ws : List (List ℕ)) (costs : List ℤ) → Each (Bits n) ws → chained ws costs ≡ reflect (sumOfAll n ws) costs
   chain-is [] costs h = sym (zero-reflects costs)
   chain-is (w ∷ ws) costs h = chain-is ws (reflect w costs) (h .1) ∙ two-words costs w (sumOfAll n ws) (h .0) (all-bits n ws (h .1))
 
@@ -196,11 +200,8 @@ module _ (k : Code) where
       pub extension-sum : pointOf k (sumOfWords w u) ≡ sumOfWords p q
       extension-sum = sym (points k s .only (sumOfWords w u) (sumOfWords p q) sum-point begins)
 
+pub all-codewords : (k : Code) (ws : List (List ℕ)) → Each (Codeword k) ws → Codeword k (sumOfAll (k .bits) ws)
+all-codewords k = all-sums (k .bits) (Codeword k) (zero-codeword k) (sum-codeword k)
+
 pub extends : (k : Code) → Sound k → Extends k
 extends k s = record { zero-word = zero-codeword k; codeword = sum-codeword k; sum = λ w u a b. extension-sum k w u a b s }
-
--- ---- chains of codewords
-module _ (k : Code) where
-  pub all-codewords : (ws : List (List ℕ)) → Each (Codeword k) ws → Codeword k (sumOfAll (k .bits) ws)
-  all-codewords [] h = zero-codeword k
-  all-codewords (w ∷ ws) h = sum-codeword k w (sumOfAll (k .bits) ws) (h .0) (all-codewords ws (h .1))

@@ -1,11 +1,11 @@
 -- What each entry promises of a call follows from the equation with its definition. Assumes nothing.
-use Rattle.integers.proofs.Prelude.{_≡_, refl, sym, ap, ap₂, subst, _∙_, Bool, true, false, not, _||_, List, [], _∷_, _++_, map, ℕ, zero, suc, _*_, _<_}
+use Rattle.integers.proofs.Prelude.{_≡_, refl, sym, ap, ap₂, subst, _∙_, Bool, true, false, not, _||_, List, [], _∷_, _++_, map, ℕ, zero, suc, _*_, _≤_, _<_}
 use Rattle.integers.proofs.Prelude.{not-false, ltb, ℤ, pos, length, getD, take}
 use lib.Ieee.{Float, nan}
 use Rattle.lists.specs.Entries.{some}
 use Rattle.lists.specs.Tabulated.{written}
 use Rattle.lists.proofs.Tabulated.{over-in, over-map, take-written}
-use Rattle.lists.proofs.Entries.{some-at}
+use Rattle.lists.proofs.Entries.{some-at, each-weaker}
 use Rattle.model.specs.declared.Settings.{Settings}
 use Rattle.model.specs.declared.Channel.{Channel}
 use Rattle.model.specs.Causes.{short, accepted}
@@ -42,7 +42,7 @@ use Rattle.model.proofs.DecoderCalls as Calls
 use Rattle.model.proofs.Courses.{iterated}
 use Rattle.model.proofs.BoundedCalls.{bounded}
 use Rattle.model.proofs.Composition.{zero-bits, sum-bits, length-sum, sums, composes, sum-codeword, extends, all-codewords}
-use Rattle.model.proofs.ComposedCalls.{words-are, links-weaker, reflector-is, reflector-took, reflected-taken, composed-calls, chain-bits, handed-on, chain-handed, adder-exactly}
+use Rattle.model.proofs.ComposedCalls.{links-words, reflector-is, reflector-took, reflected-taken, composed-calls, chain-bits, chain-handed, chain-after, adder-exactly}
 use Rattle.model.proofs.ReflectedCalls.{reflected-calls}
 
 -- ---- the reader
@@ -133,7 +133,7 @@ reflector-call costs w old a small meets =
       composed = λ h u out c second. composed-calls costs (small h) w (took h .0) u out c (second ∙ ap (λ (x : List ℤ). reflector x u out) (taken h));
       chain = λ h l each u out c last.
           let more = sumOfAll (length costs) (wordsOf l) in
-          let handed = ap (λ (x : List ℤ). handedOn x l) (taken h) ∙ handed-on costs (small h) l each w (took h .0) in
+          let handed = ap (λ (x : List ℤ). handedOn x l) (taken h) ∙ chain-after costs (small h) l each w (took h .0) in
           composed-calls costs (small h) (sumOfWords w more) (sum-bits (length costs) w more (took h .0) (chain-bits costs (small h) l each)) u out c
           (last ∙ ap (λ (x : List ℤ). reflector x u out) handed);
       zero-word = λ h out room.
@@ -230,8 +230,9 @@ module _ (b : List ℕ) (o : Settings) (costs : List ℤ) (l : Lists) (d : Decod
       let k = codeOf b in
       let n = length costs in
       let fits : n ≡ k .bits = Calls.costs-fit b o costs l h in
-      let words : Links (Bits n) n c = links-weaker (Codeword k) (Bits n) n (λ w q. rw fits (q .word)) c codewords in
-      reflected h (sumOfAll (k .bits) (wordsOf c)) (all-codewords k (wordsOf c) (words-are (Codeword k) n c codewords)) m room e
+      let words : Links (Bits n) n c
+      = each-weaker (λ x. Codeword k (x .word) × (n ≤ length (x .lent))) (λ x. Bits n (x .word) × (n ≤ length (x .lent))) (λ x q. (rw fits (q .0 .word), q .1)) c codewords in
+      reflected h (sumOfAll (k .bits) (wordsOf c)) (all-codewords k (wordsOf c) (links-words (Codeword k) n c codewords)) m room e
       (again ∙ ap (λ (x : List ℤ). decoder b o x m)
       (chain-handed costs (small h) c words ∙ ap (λ (n : ℕ). reflect (sumOfAll n (wordsOf c)) costs) fits))
 

@@ -1,6 +1,7 @@
 -- The checks of a sound code, one by one, and its sizes. Assumes nothing.
 use Rattle.integers.proofs.Prelude.{_≡_, refl, List, [], _∷_, ℕ, zero, suc, _+_, _≤_, _<_, arith, length, getD}
 use Rattle.lists.specs.Entries.{total}
+use Rattle.lists.proofs.Entries.{each-at}
 use Rattle.model.specs.Code.{Code, turns, tripleCount, triples, variables}
 use Rattle.model.specs.Sound.{Rising, SoundCheck, SoundChecks, Sound}
 
@@ -27,9 +28,7 @@ rising-more n m low (x ∷ l) h r = (r .0, omega (arith, r .1), rising-more n m 
 
 -- ---- the checks
 pub sound-at : (n : ℕ) (l : List (List ℕ)) → SoundChecks n l → (j : ℕ) → j < length l → SoundCheck n (getD l j [])
-sound-at n [] s j h = absurd (omega arith)
-sound-at n (c ∷ l) s zero h = s .0
-sound-at n (c ∷ l) s (suc j) h = sound-at n l (s .1) j (omega arith)
+sound-at n l s = each-at (SoundCheck n) l [] s
 
 -- ---- the sizes: a check has one triple more than turns
 pub turns-triples : (l : List (List ℕ)) → total turns l + length l ≡ total tripleCount l

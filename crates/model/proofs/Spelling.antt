@@ -92,15 +92,15 @@ digits-read : (x : ℕ) (d s : List ℕ) → Digits d → valueOf x d ≤ mostNu
 digits-read x [] s h l = refl
 digits-read x (b ∷ d) s h l =
     let y = 10 * x + (b - 48) in
-    numbers-more x b (d ++ s) (digit-separates b (h .0))
-    ∙ ap (λ (n : ℕ). numbersOf (suc n) (d ++ s)) (digit-further x b (h .0) (h .1) (omega (arith, value-grows y d)))
-    ∙ digits-read y d s (h .2) l
+    numbers-more x b (d ++ s) (digit-separates b (h .0 .0))
+    ∙ ap (λ (n : ℕ). numbersOf (suc n) (d ++ s)) (digit-further x b (h .0 .0) (h .0 .1) (omega (arith, value-grows y d)))
+    ∙ digits-read y d s (h .1) l
 
 -- and begins with them
 pub number-read : (d s : List ℕ) → Digits d → 1 ≤ length d → valueOf 0 d ≤ mostNumber → numbersOf 0 (d ++ s) ≡ numbersOf (suc (valueOf 0 d)) s
 number-read [] s h k l = absurd (omega arith)
 number-read (b ∷ d) s h k l =
-    numbers-in 0 b (d ++ s) (digit-separates b (h .0)) ∙ sym (numbers-in 1 b (d ++ s) (digit-separates b (h .0))) ∙ digits-read 0 (b ∷ d) s h l
+    numbers-in 0 b (d ++ s) (digit-separates b (h .0 .0)) ∙ sym (numbers-in 1 b (d ++ s) (digit-separates b (h .0 .0))) ∙ digits-read 0 (b ∷ d) s h l
 
 separators-read : (b s : List ℕ) → Separators b → numbersOf 0 (b ++ s) ≡ numbersOf 0 s
 separators-read [] s h = refl
@@ -180,7 +180,7 @@ continues-with x b s l c =
       more = c .more;
       numbers = c .numbers;
       text = ap (_∷_ b) (c .text);
-      decimal = (d .0, d .1, c .decimal);
+      decimal = ((d .0, d .1), c .decimal);
       value = rw (← d .2) (c .value);
       small = c .small;
       apart = c .apart;

@@ -8,7 +8,7 @@ use Prim.Native.Nat.{ℕ, suc, _+_, _-_, _*_, _≤_}
 use lib.Dec.{leb, ltb}
 use lib.ListN.{length, getD, take}
 use Rattle.lists.specs.Tabulated.{written}
-use Rattle.lists.specs.Entries.{every}
+use Rattle.lists.specs.Entries.{every, Each}
 use Rattle.model.specs.Limits.{mostNumber}
 use Rattle.model.specs.Code.{Code}
 use Rattle.model.specs.Records.{codeOf, judge, recordsOf}
@@ -20,8 +20,7 @@ use Rattle.model.specs.Alist.{codeOfText, Writing, importer, exporter}
 -- ---- how numbers are written
 -- "Numbers are decimal digits"
 abbrev pub Digits : List ℕ → Type 0
-Digits [] = Unit {0}
-Digits (b ∷ s) = (48 ≤ b) × (b ≤ 57) × Digits s
+Digits s = Each (λ b. (48 ≤ b) × (b ≤ 57)) s
 
 -- their value, after digits whose value is x
 abbrev pub valueOf : ℕ → List ℕ → ℕ

@@ -8,7 +8,7 @@ use Prim.Native.Nat.{ℕ, _≤_}
 use lib.IntN.{ℤ}
 use lib.ListN.{length, take, replicate}
 use Rattle.lists.specs.Tabulated.{written}
-use Rattle.lists.specs.Entries.{some}
+use Rattle.lists.specs.Entries.{some, Each}
 use Rattle.model.specs.Causes.{_if_, firstOf, short, accepted}
 use Rattle.model.specs.Code.{Code}
 use Rattle.model.specs.Points.{Bits, Codeword, pointOf}
@@ -29,11 +29,6 @@ sumOfAll n (w ∷ ws) = sumOfWords w (sumOfAll n ws)
 abbrev pub chained : List (List ℕ) → List ℤ → List ℤ
 chained [] costs = costs
 chained (w ∷ ws) costs = chained ws (reflect w costs)
-
--- P holds of each entry
-abbrev pub Each : {A : Type 0} → (A → Type 0) → List A → Type 0
-Each P [] = Unit {0}
-Each P (x ∷ l) = P x × Each P l
 
 -- ---- the sum of two words, for whoever builds a chain
 pub record Added : Type 0 where

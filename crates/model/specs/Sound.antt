@@ -5,7 +5,7 @@ use mathlib.Core.List.{List, [], _∷_}
 use Prim.Native.Nat.{ℕ, suc, _≤_, _<_}
 use lib.Dec.{eqb}
 use lib.ListN.{length}
-use Rattle.lists.specs.Entries.{some}
+use Rattle.lists.specs.Entries.{some, Each}
 use Rattle.model.specs.Limits.{mostBits, mostChecks, leastDegree, mostDegree, mostTriples}
 use Rattle.model.specs.Code.{Code, triples}
 
@@ -21,8 +21,7 @@ pub record SoundCheck (n : ℕ) (c : List ℕ) : Type 0 where
   pub rising : Rising n 0 c
 
 abbrev pub SoundChecks : ℕ → List (List ℕ) → Type 0
-SoundChecks n [] = Unit {0}
-SoundChecks n (c ∷ l) = SoundCheck n c × SoundChecks n l
+SoundChecks n l = Each (SoundCheck n) l
 
 pub record Sound (k : Code) : Type 0 where
   -- "bits n (3 to 4,096), checks m (1 to 2,048)"
