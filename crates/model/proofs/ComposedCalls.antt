@@ -119,12 +119,6 @@ module _ (costs : List ℤ) (small : Small costs) (l : List Link) (h : Links (Bi
   pub chain-handed : handedOn costs l ≡ reflect (sumOfAll (length costs) (wordsOf l)) costs
   chain-handed = handed-on (length costs) l h costs refl small ∙ composes costs .chains (wordsOf l) chain-words
 
-  -- also from the costs on that a call before wrote
-  pub chain-after : (w : List ℕ) → Bits (length costs) w → handedOn (reflect w costs) l ≡ reflect (sumOfWords w (sumOfAll (length costs) (wordsOf l))) costs
-  chain-after w a =
-      handed-on (length costs) l h (reflect w costs) (length-reflect w costs) (reflect-small w costs small)
-      ∙ composes costs .chains (w ∷ wordsOf l) (a, chain-words)
-
 -- ---- a call of the adder that is accepted
 pub adder-exactly : (w u old : List ℕ) → (adder w u old .number ≡ 0) ↔ (Bits (length w) w × Bits (length w) u × (length w ≤ length old))
 unfolding adder

@@ -41,8 +41,8 @@ use Rattle.model.proofs.Demand3 as Demand3
 use Rattle.model.proofs.DecoderCalls as Calls
 use Rattle.model.proofs.Courses.{iterated}
 use Rattle.model.proofs.BoundedCalls.{bounded}
-use Rattle.model.proofs.Composition.{zero-bits, sum-bits, length-sum, sums, composes, sum-codeword, extends, all-codewords}
-use Rattle.model.proofs.ComposedCalls.{links-words, reflector-is, reflector-took, reflected-taken, composed-calls, chain-bits, chain-handed, chain-after, adder-exactly}
+use Rattle.model.proofs.Composition.{zero-bits, length-sum, sums, composes, sum-codeword, extends, all-codewords}
+use Rattle.model.proofs.ComposedCalls.{links-words, reflector-is, reflector-took, reflected-taken, composed-calls, chain-bits, chain-handed, adder-exactly}
 use Rattle.model.proofs.ReflectedCalls.{reflected-calls}
 
 -- ---- the reader
@@ -132,10 +132,9 @@ reflector-call costs w old a small meets =
       composes = composes costs;
       composed = λ h u out c second. composed-calls costs (small h) w (took h .0) u out c (second ∙ ap (λ (x : List ℤ). reflector x u out) (taken h));
       chain = λ h l each u out c last.
-          let more = sumOfAll (length costs) (wordsOf l) in
-          let handed = ap (λ (x : List ℤ). handedOn x l) (taken h) ∙ chain-after costs (small h) l each w (took h .0) in
-          composed-calls costs (small h) (sumOfWords w more) (sum-bits (length costs) w more (took h .0) (chain-bits costs (small h) l each)) u out c
-          (last ∙ ap (λ (x : List ℤ). reflector x u out) handed);
+          let links : List Link = record { word = w; lent = old } ∷ l in
+          composed-calls costs (small h) (sumOfAll (length costs) (wordsOf links)) (chain-bits costs (small h) links (took h, each)) u out c
+          (last ∙ ap (λ (x : List ℤ). reflector x u out) (chain-handed costs (small h) links (took h, each)));
       zero-word = λ h out room.
           reflector-is costs (zeroWord (length costs)) out (small h) (zero-bits (length costs)) room
           ∙ ap (λ (x : List ℤ). record { number = 0; costs = written x out }) (composes costs .zero-word);
