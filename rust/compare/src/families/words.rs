@@ -13,13 +13,15 @@ pub fn families() -> Vec<Family> {
         Family::random("test and extension, small codes", 1_000, small_word),
         Family::random("test and extension, large codes", 10, large_word),
         Family::listed("reflector at the edges", reflector_edges),
-        Family::random("reflector", 2_000, short_reflection),
-        Family::random("reflector, many costs", 100, long_reflection),
+        Family::random("reflector", 2_000, |random| reflected(random, short)),
+        Family::random("reflector, many costs", 100, |random| {
+            reflected(random, long)
+        }),
         Family::listed("sums at the edges", sum_edges),
         Family::listed("sums with one wrong entry", sums_with_a_wrong_entry),
         Family::listed("sums of every length up to 300", sums_of_every_length),
-        Family::random("sums of words", 2_000, short_sum),
-        Family::random("sums of long words", 100, long_sum),
+        Family::random("sums of words", 2_000, |random| added(random, short)),
+        Family::random("sums of long words", 100, |random| added(random, long)),
     ]
 }
 
@@ -84,17 +86,17 @@ fn reflector_edges() -> Vec<Case> {
     cases
 }
 
-fn short_reflection(random: &mut Random) -> Case {
-    let length = random.below(70);
-    reflection_of(random, length)
+fn short(random: &mut Random) -> usize {
+    random.below(70)
 }
 
-fn long_reflection(random: &mut Random) -> Case {
-    let length = random.between(1_000, 5_000);
-    reflection_of(random, length)
+fn long(random: &mut Random) -> usize {
+    random.between(1_000, 5_000)
 }
 
-fn reflection_of(random: &mut Random, length: usize) -> Case {
+/// Costs and a word of a length that is drawn.
+fn reflected(random: &mut Random, length: fn(&mut Random) -> usize) -> Case {
+    let length = length(random);
     let mut costs: Vec<i16> = (0..length).map(|_| random.any() as i16).collect();
     costs
         .iter_mut()
@@ -163,17 +165,9 @@ fn sums_of_every_length() -> Vec<Case> {
     (0..=300).map(case).collect()
 }
 
-fn short_sum(random: &mut Random) -> Case {
-    let length = random.below(70);
-    sum_of(random, length)
-}
-
-fn long_sum(random: &mut Random) -> Case {
-    let length = random.between(1_000, 5_000);
-    sum_of(random, length)
-}
-
-fn sum_of(random: &mut Random, length: usize) -> Case {
+/// Two words of a length that is drawn.
+fn added(random: &mut Random, length: fn(&mut Random) -> usize) -> Case {
+    let length = length(random);
     let mut words = [random.word(length), random.word(length)];
     let mut room = length + random.below(3);
     for _ in 0..random.below(3) {
