@@ -1,5 +1,8 @@
 // Tables of examples: what is done with the fields of a line, and what is printed of it. The tables are the program's, `figures`.
+mod code_calls;
 mod codes;
+mod cost_calls;
+mod decoder_calls;
 mod example;
 mod show;
 mod table;

@@ -58,6 +58,18 @@ pub struct Lists {
     pub word: [u8; 16],
 }
 
+// Lists of nines.
+pub fn nines() -> Lists {
+    Lists {
+        triples: [9; 16],
+        counts: [9; 16],
+        sums: [9; 16],
+        values: [9; 16],
+        rows: [9; 16],
+        word: [9; 16],
+    }
+}
+
 // One of them.
 pub enum Which {
     Triples,

@@ -4,6 +4,7 @@ ghost use Prim.Native.Nat.{_≤_, _<_};
 ghost use lib.ListN.{length};
 use crate::example;
 use crate::example::Example;
+use crate::show::lent;
 
 // The place of the next `byte` from `at` on, or the end.
 fn find(s: &[u8], at: usize, byte: u8) -> usize
@@ -128,4 +129,13 @@ pub fn numbers(s: &[u8], base: usize, out: &mut [usize; 8]) -> usize
         at = x.next;
     }
     8
+}
+
+// The first number of a field, as a length of a list that is lent.
+pub fn room(s: &[u8]) -> usize
+    ensures { λ r. ⌜ r ≤ 16 ⌝ }
+{
+    let mut x = [0usize; 8];
+    numbers(s, 10, &mut x);
+    lent(x[0])
 }
