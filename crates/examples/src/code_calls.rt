@@ -1,4 +1,4 @@
-// Examples of calls with code records: the reader, the splitting, the codeword test and the extension. What is printed is the answer and the lists after it; their entries are 9 before, and a field `room` says how many are lent.
+// Examples of calls with code records: the reader, the splitting, the codeword test and the extension.
 use crate::codes;
 use crate::show::Which;
 use crate::show::lent;

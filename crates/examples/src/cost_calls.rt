@@ -1,4 +1,4 @@
-// Examples of calls with samples, costs and words: the channel front, the reflector, the sum of two words, chains. What is printed is the answer and the lists after it; their entries are 9 before, and a field `room` says how many are lent.
+// Examples of calls with samples, costs and words: the channel front, the reflector, the sum of two words, chains.
 ghost use Prim.Native.Nat.{_≤_};
 use crate::show::Which;
 use crate::show::list;

@@ -1,4 +1,4 @@
-// Examples of calls of the decoder. What is printed is the answer and the lists after it; their entries are 9 before, and a field `room` says how many are lent.
+// Examples of calls of the decoder.
 use crate::cost_calls::costs;
 use crate::show::Lists;
 use crate::show::Which;

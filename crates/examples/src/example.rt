@@ -1,4 +1,5 @@
-// An example of a table, and the call that it is for.
+// An example of a table, and the call that it is for. What is printed of it is its label, the answer and the lists after the call. Their entries are 9
+// before, and a field `room` says how many are lent.
 use crate::code_calls;
 use crate::cost_calls;
 use crate::decoder_calls;
