@@ -1,28 +1,20 @@
-// The rounded quotient (document 01, 'One iteration'): the lowest part of the decoder.
+// The rounded quotient (document 01, 'One iteration'): the lowest part of the decoder. What divides asks, as its condition, a dividend whose size is below 16384
+// times the divisor (document 02, L4): from there on the limit is known, and whoever calls decides it first.
 ghost use mathlib.Core.Path.{_≡_};
-ghost use Prim.Native.Nat.{_+_, _*_, _/_, _≤_, _^_, min};
-ghost use lib.IntN.{ℤ, pos, negℤ, natAbs, _-ℤ_, _*ℤ_};
+ghost use Prim.Native.Nat.{_*_, _≤_, _<_};
+ghost use lib.IntN.{ℤ, pos, negℤ, natAbs};
 ghost use lib.Signed.{_≤ℤ_, _<ℤ_};
 ghost use Rattle.quotient.specs.Quotient.{unit, mostDivisor, mostPrepared, signed, quotient};
-ghost use Rattle.quotient.specs.Prepared.{Prepared};
+ghost use Rattle.quotient.specs.Prepared.{Inverse, Prepared};
 
-const UNIT: i64 = 16384;
+// U
+pub const UNIT: i64 = 16384;
 
 // 2^47
 const SCALE: i64 = 140737488355328;
 
-// (16384 + 1/2) * 2^47
-const RAISE: i64 = 2305913377957871616;
-
-// x, limited to -limit..=limit.
-fn limited(x: i64, limit: i64) -> i64
-    requires { ⌜ (pos 0 ≤ℤ limit) × (natAbs limit ≤ unit * mostDivisor) ⌝ }
-    ensures { λ r. ⌜ r ≡ signed x (min (natAbs x) (natAbs limit)) ⌝ }
-{
-    let high = if limit < x { limit } else { x };
-    let least = -limit;
-    if high < least { least } else { high }
-}
+// 2^46
+const HALF: i64 = 70368744177664;
 
 // ---- by a signed division
 
@@ -34,26 +26,17 @@ fn with_sign(d: i64, x: i64) -> i64
     if x < 0 { -d } else { d }
 }
 
-// x / den, rounded to the nearest whole number, halves away from zero: half of den is added with the sign of x, both doubled, and `/` cuts toward zero.
-fn rounded(x: i64, den: i64) -> i16
-    requires { ⌜ (pos 0 <ℤ den) × (den ≤ℤ pos mostDivisor) × (natAbs x ≤ unit * natAbs den) ⌝ }
-    ensures { λ r. ⌜ r ≡ quotient x den ⌝ }
-{
-    ((2 * x + with_sign(den, x)) / (2 * den)) as i16
-}
-
-// num / den, rounded to the nearest whole number, halves away from zero, and limited to -16384..=16384.
-// The dividend is limited first: no branch depends on the data, and no quotient exceeds the limit.
+// num / den, rounded to the nearest whole number, halves away from zero: half of den is added with the sign of num, both doubled, and `/` cuts toward zero.
 pub fn divide(num: i64, den: i64) -> i16
-    requires { ⌜ (pos 0 <ℤ den) × (den ≤ℤ pos mostDivisor) ⌝ }
+    requires { ⌜ (pos 0 <ℤ den) × (den ≤ℤ pos mostDivisor) × (natAbs num < unit * natAbs den) ⌝ }
     ensures { λ r. ⌜ r ≡ quotient num den ⌝ }
 {
-    rounded(limited(num, UNIT * den), den)
+    ((2 * num + with_sign(den, num)) / (2 * den)) as i16
 }
 
 // ---- by a product, where many are divided by one number
 
-// What stands for a divisor in `divide_opposite`.
+// What is made ready for a divisor: the size from which on the limit is known, and what stands for it in `divide_opposite`.
 pub struct Divisor {
     pub limit: i64,
     pub inverse: i64,
@@ -70,19 +53,11 @@ pub fn prepare(den: i64) -> Divisor
     }
 }
 
-// The product, raised so that it is not negative and by the half that rounds to the nearest, and divided by 2^47.
-fn raised(x: i64, inverse: i64) -> u64
-    requires { ⌜ natAbs (x *ℤ inverse) ≤ 2 ^ 61 + 2 ^ 46 ⌝ }
-    ensures { λ r. ⌜ r ≡ natAbs (pos (2 ^ 61 + 2 ^ 46) -ℤ x *ℤ inverse) / 2 ^ 47 ⌝ }
+// -x / den, rounded to the nearest whole number, halves away from zero, for the den that the inverse stands for: at the scale of 2^47 a half is added, and the
+// shift rounds down. The inverse exceeds 2^47 / den, so halves go away from zero on both sides.
+pub fn divide_opposite(x: i64, inverse: i64) -> i16
+    requires { ⌜ ((den : ℤ) × Inverse den inverse × (natAbs x < unit * natAbs den)) ⌝ }
+    ensures { λ r. ⌜ ((den : ℤ) → Inverse den inverse → natAbs x < unit * natAbs den → r ≡ quotient (negℤ x) den) ⌝ }
 {
-    ((RAISE - x * inverse) as u64) / (SCALE as u64)
-}
-
-// -x / den, rounded to the nearest whole number, halves away from zero, and limited to -16384..=16384, for the den that limit and inverse stand for.
-// The inverse exceeds 2^47 / den, so halves go away from zero on both sides.
-pub fn divide_opposite(x: i64, limit: i64, inverse: i64) -> i16
-    requires { ⌜ ((den : ℤ) × Prepared den limit inverse) ⌝ }
-    ensures { λ r. ⌜ ((den : ℤ) → Prepared den limit inverse → r ≡ quotient (negℤ x) den) ⌝ }
-{
-    ((raised(limited(x, limit), inverse) as i64) - UNIT) as i16
+    ((HALF - x * inverse) >> 47) as i16
 }

@@ -1,2 +1,3 @@
 pub mod Divisors
+pub mod Limit
 pub mod Values

@@ -1,16 +1,19 @@
 // c of all variables (document 01, 'One iteration'), on lists of exact length.
 ghost use mathlib.Core.Path.{_≡_};
 ghost use Prim.Native.Nat.{_+_, _-_, _*_, _≤_};
-ghost use lib.IntN.{pos, negℤ, natAbs, _+ℤ_, _*ℤ_};
+ghost use lib.IntN.{ℤ, pos, negℤ, natAbs, _+ℤ_, _*ℤ_};
 ghost use lib.ListN.{length};
 ghost use lib.Seq.{sets};
+ghost use lib.Signed.{_≤ℤ_, _<ℤ_};
 ghost use Rattle.lists.specs.Tabulated.{tab};
-ghost use Rattle.quotient.specs.Quotient.{quotient};
+ghost use Rattle.quotient.specs.Quotient.{unit, mostDivisor, signed, quotient};
+ghost use Rattle.quotient.specs.Prepared.{Prepared};
 ghost use Rattle.model.specs.Limits.{mostChecks, mostWeight, mostRatio, mostCost, mostSum, mostNumerator};
 ghost use Rattle.model.specs.Iteration.{at};
 ghost use Rattle.model.specs.Iteration as Iteration;
 ghost use Rattle.values.specs.Divisors.{Tables};
 ghost use Rattle.values.specs.Values.{Given, valueFrom};
+use quotient::UNIT;
 
 // "256 × S + W × L"
 fn weighed(weight: u32, sum: i64, cost: i16) -> i64
@@ -42,6 +45,48 @@ pub fn prepare(ratio: u32, limits: &mut [i64], inverses: &mut [i64])
     }
 }
 
+// The size of a number.
+fn size(x: i64) -> i64
+    requires { ⌜ natAbs x ≤ mostNumerator ⌝ }
+    ensures { λ r. ⌜ r ≡ pos (natAbs x) ⌝ }
+{
+    if x < 0 { -x } else { x }
+}
+
+// "limited to −U..U": the limit on the side of -x.
+fn limit_opposite(x: i64) -> i16
+    ensures { λ r. ⌜ r ≡ negℤ (signed x unit) ⌝ }
+{
+    if x < 0 { UNIT as i16 } else { -UNIT as i16 }
+}
+
+// -x by the divisor for which the two numbers were made ready: where the limit is known it is the value, and below it a product is made. The limit's value comes
+// first, so that the compiled code selects and has no branch here.
+fn by_product(x: i64, limit: i64, inverse: i64) -> i16
+    requires { ⌜ (natAbs x ≤ mostNumerator) × ((den : ℤ) × Prepared den limit inverse) ⌝ }
+    ensures { λ c. ⌜ ((den : ℤ) → Prepared den limit inverse → c ≡ quotient (negℤ x) den) ⌝ }
+{
+    let known = limit_opposite(x);
+    if size(x) < limit {
+        quotient::divide_opposite(x, inverse)
+    } else {
+        known
+    }
+}
+
+// -x by den in the same way, by `/`: here the branch stays, since a division is never made for nothing.
+fn by_division(x: i64, den: i64) -> i16
+    requires { ⌜ (natAbs x ≤ mostNumerator) × (pos 0 <ℤ den) × (den ≤ℤ pos mostDivisor) ⌝ }
+    ensures { λ c. ⌜ c ≡ quotient (negℤ x) den ⌝ }
+{
+    let known = limit_opposite(x);
+    if size(x) < UNIT * den {
+        quotient::divide(-x, den)
+    } else {
+        known
+    }
+}
+
 // "−(256 × S + W × L) divided by 256 × e − A, rounded to nearest, halves away from zero, then limited", x being what is negated: by a product where
 // the lists have numbers for the divisor.
 fn divide(x: i64, count: usize, ratio: u32, limits: &[i64], inverses: &[i64]) -> i16
@@ -50,9 +95,9 @@ fn divide(x: i64, count: usize, ratio: u32, limits: &[i64], inverses: &[i64]) ->
     ensures { λ c. ⌜ c ≡ quotient (negℤ x) (Iteration.divisor (4 * count) ratio) ⌝ }
 {
     if count <= inverses.len() {
-        quotient::divide_opposite(x, limits[count - 1], inverses[count - 1])
+        by_product(x, limits[count - 1], inverses[count - 1])
     } else {
-        quotient::divide(-x, divisor(count, ratio))
+        by_division(x, divisor(count, ratio))
     }
 }
 

@@ -1,13 +1,13 @@
--- All that is known of the quotient: it is odd, it is `Rounded`, and that determines it. Assumes nothing.
-use mathlib.Core.Path.{_≡_, refl, sym, ap}
+-- All that is known of the quotient: it is odd, it is `Rounded`, which determines it, and where it is the limit. Assumes nothing.
+use mathlib.Core.Path.{_≡_, refl, sym, ap, _∙_}
 use Prim.Native.Nat.{ℕ, zero, suc, _+_, _*_, _/_, _≤_, _<_, min}
 use native.Mathlib.Omega.{arith, by-contra}
 use native.Mathlib.Nat.{mul-le-mul-left, le-antisymm, div-eq-of-lt}
 use lib.IntN.{ℤ, pos, negsuc, negℤ, natAbs, negℤ-negℤ}
 use Rattle.integers.specs.Nearest.{nearest}
 use Rattle.integers.proofs.Nearest.{nearest-is}
-use Rattle.integers.proofs.Linear.{abs-neg}
-use Rattle.quotient.specs.Quotient.{unit, limited, quotient, Rounded}
+use Rattle.integers.proofs.Linear.{abs-neg, false-ltZ}
+use Rattle.quotient.specs.Quotient.{unit, limited, quotient, Rounded, signed}
 
 -- ---- magnitudes
 pub rounded-by : (n d : ℕ) → 0 < d → Rounded n d (min (nearest n d) unit)
@@ -57,3 +57,12 @@ pub quotient-is : (n d q : ℕ) → 0 < d → Rounded n d q → quotient (pos n)
 unfolding quotient
 quotient-is n d q h r =
     ap pos (le-antisymm (rounded-le n d (limited n d) q (limited-rounded n d h) r) (rounded-le n d q (limited n d) r (limited-rounded n d h)))
+
+-- document 02, L4: "Where the numerator's size is at least U times the divisor, the limit is known"
+limit-rounded : (n d : ℕ) → unit * d ≤ n → Rounded n d unit
+limit-rounded n d l = record { range = omega arith; above = omega arith; below = λ k. absurd (omega arith) }
+
+pub quotient-limit : (n : ℤ) (d : ℕ) → 0 < d → unit * d ≤ natAbs n → quotient n (pos d) ≡ signed n unit
+quotient-limit (pos n) d h l = rw (false-ltZ (pos n) (pos 0) (omega arith)) (quotient-is n d unit h (limit-rounded n d l))
+quotient-limit (negsuc n) d h l =
+    quotient-odd (pos (suc n)) (pos d) ∙ ap negℤ (quotient-is (suc n) d unit h (limit-rounded (suc n) d l))
