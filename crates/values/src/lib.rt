@@ -15,6 +15,11 @@ ghost use Rattle.values.specs.Divisors.{Tables};
 ghost use Rattle.values.specs.Values.{Given, valueFrom};
 use quotient::UNIT;
 
+// U and -U
+const MOST: i16 = UNIT as i16;
+
+const LEAST: i16 = -MOST;
+
 // "256 × S + W × L"
 fn weighed(weight: u32, sum: i64, cost: i16) -> i64
     requires { ⌜ (weight ≤ mostWeight) × (natAbs sum ≤ mostSum) × (natAbs cost ≤ mostCost) ⌝ }
@@ -57,7 +62,7 @@ fn size(x: i64) -> i64
 fn limit_opposite(x: i64) -> i16
     ensures { λ r. ⌜ r ≡ negℤ (signed x unit) ⌝ }
 {
-    if x < 0 { UNIT as i16 } else { -UNIT as i16 }
+    if x < 0 { MOST } else { LEAST }
 }
 
 // -x by the divisor for which the two numbers were made ready: where the limit is known it is the value, and below it a product is made. The limit's value comes

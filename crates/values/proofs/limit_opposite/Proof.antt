@@ -1,5 +1,5 @@
 -- `values::limit_opposite` meets its contract. Assumes nothing.
-use Rattle.integers.proofs.Prelude.{_≡_, needs, w64, toZ, ofZ, toZ-ofZ}
+use Rattle.integers.proofs.Prelude.{_≡_, w64, toZ, ofZ, toZ-ofZ}
 use Rattle.values.proofs.limit_opposite.Statement.{statement}
 use Rattle.values.proofs.limit_opposite.Tie as tie
 
@@ -13,4 +13,4 @@ returns-2 : tie.Need-returns-2
 returns-2 c = rw (rw (x-is (c .before)) at (c .if1 .left))
 
 pub limit-opposite-spec : {M : Type 1} → statement M
-limit-opposite-spec = tie.close (tie.spec (λ c. search needs) (λ c. search needs) (λ c. search needs) returns returns-2)
+limit-opposite-spec = tie.close (tie.spec returns returns-2)
