@@ -36,6 +36,23 @@ fn accepted() {
     );
 }
 
+// In the first iteration c is -W times the cost, by d = 1024 - A: numerators around U d, from which on the limit is known.
+fn limit() {
+    title(b"decoder, around the limit");
+    each(
+        b"d = 1, U d - 1, U d, U d + 1|1 1023 1 0|16383 16384 16385|3 3 3 3 4 3\n\
+        d = 1, the same below 0|1 1023 1 0|-16383 -16384 -16385|3 3 3 3 4 3\n\
+        d = 2, U d - 3, U d - 2, U d - 1|1 1022 1 0|32765 32766 32767|3 3 3 3 4 3\n\
+        d = 2, the same below 0|1 1022 1 0|-32765 -32766 -32767|3 3 3 3 4 3\n\
+        d = 2, U d - 2, U d, U d + 2|2 1022 1 0|16383 16384 16385|3 3 3 3 4 3\n\
+        d = 3, U d - 2, U d, U d + 2|2 1021 1 0|24575 24576 24577|3 3 3 3 4 3\n\
+        d = 3, U d - 1, U d + 22, U d - 1 below 0|23 1021 1 0|2137 2138 -2137|3 3 3 3 4 3\n\
+        d = 1024, (U - 1) d, (U - 1/2) d, the same below 0|512 0 1 0|32766 32767 -32767|3 3 3 3 4 3\n\
+        d = 1024, (U - 1) d, U d, (U + 1) d|1024 0 1 0|16383 16384 16385|3 3 3 3 4 3\n",
+        Example::Decoding(b'C'),
+    );
+}
+
 fn refused() {
     each(
         b"two costs|256 0 2 0|1 2|3 3 3 3 4 3\n\
@@ -68,5 +85,6 @@ fn refused() {
 
 pub fn run() {
     accepted();
+    limit();
     refused();
 }
