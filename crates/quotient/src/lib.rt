@@ -1,5 +1,5 @@
-// The rounded quotient (document 01, 'One iteration'): the lowest part of the decoder. What divides asks, as its condition, a dividend whose size is below 16384
-// times the divisor (document 02, L4): from there on the limit is known, and whoever calls decides it first.
+// The rounded quotient (document 01, 'One iteration'): the lowest part of the decoder. What divides asks, as its condition, a dividend whose size is below
+// 16384 times the divisor (document 02, L4): from there on the limit is known, and whoever calls decides it first.
 ghost use mathlib.Core.Path.{_≡_};
 ghost use Prim.Native.Nat.{_*_, _≤_, _<_};
 ghost use lib.IntN.{ℤ, pos, negℤ, natAbs};

@@ -65,8 +65,8 @@ fn limit_opposite(x: i64) -> i16
     if x < 0 { MOST } else { LEAST }
 }
 
-// -x by the divisor for which the two numbers were made ready: where the limit is known it is the value, and below it a product is made. The limit's value comes
-// first, so that the compiled code selects and has no branch here.
+// -x by the divisor for which the two numbers were made ready: where the limit is known it is the value, and below it a product is made. The limit's value
+// comes first, so that the compiled code selects and has no branch here.
 fn by_product(x: i64, limit: i64, inverse: i64) -> i16
     requires { ⌜ (natAbs x ≤ mostNumerator) × ((den : ℤ) × Prepared den limit inverse) ⌝ }
     ensures { λ c. ⌜ ((den : ℤ) → Prepared den limit inverse → c ≡ quotient (negℤ x) den) ⌝ }
