@@ -2,6 +2,7 @@
 
 use crate::case::{Case, DecodeCase};
 use crate::families::seed;
+use crate::limit_events::{limit_end_events, limit_events, OF_LIMITS};
 use crate::outcome::Outcome;
 use crate::run_events::{end_events, iteration_events, Largest, OF_RUNS};
 use crate::text_events::{pairs_against_texts, text_events, OF_TEXTS};
@@ -33,8 +34,9 @@ const KINDS: [(&str, &str); 14] = [
 ];
 
 /// What must happen in some run, accepted import, accepted export and frame.
-const EVENTS: [(&str, &[&str]); 4] = [
+const EVENTS: [(&str, &[&str]); 5] = [
     ("decode", &OF_RUNS),
+    ("decode", &OF_LIMITS),
     ("import", &OF_TEXTS),
     (
         "export",
@@ -143,6 +145,7 @@ impl Tally {
         let split = SOUND.split_code(&code);
         let problem = Problem::new(SOUND, split, case.settings, &case.costs);
         self.add_events(end_events(&problem, outcome));
+        self.add_events(limit_end_events(&problem, outcome));
         let largest = self.largest.get_or_insert_default();
         largest.add(&problem, outcome);
         if 4 * code.triples() * k <= MOST_WATCHED {
@@ -154,7 +157,8 @@ impl Tally {
     fn watch(&mut self, problem: &Problem) {
         let mut met: BTreeMap<&str, bool> = BTreeMap::new();
         run(problem, &mut |iterate, totals| {
-            for (event, happens) in iteration_events(problem, iterate, totals) {
+            let events = iteration_events(problem, iterate, totals);
+            for (event, happens) in events.chain(limit_events(problem, iterate)) {
                 *met.entry(event).or_default() |= happens;
             }
         });
