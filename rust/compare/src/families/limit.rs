@@ -2,7 +2,7 @@
 
 use super::Family;
 use crate::case::{exact_case, Case};
-use crate::codes::regular_code;
+use crate::codes::{regular_code, with_own_check};
 use crate::limit_edges::{first, late, Edge};
 use crate::random::Random;
 use interface::Settings;
@@ -26,15 +26,13 @@ fn cases(edges: &[Edge]) -> Vec<Case> {
 /// check of three bits of its own never settles.
 fn settled_beside_unsettled(random: &mut Random) -> Case {
     let count = random.pick(&[3, 16, 31, 32, 40, 48]);
-    let mut code = regular_code(random, 30, count, 3);
+    let code = regular_code(random, 30, count, 3);
     let place = random.pick(&[0, code.checks.len()]);
-    code.checks.insert(place, vec![30, 31, 32]);
-    code.bits = 33;
-    let mut costs = Vec::new();
-    for _ in 0..30 {
-        costs.push((1_000.0 + 300.0 * random.normal()).round() as i16);
+    let code = with_own_check(code, place);
+    let mut costs = vec![-20_000; 33];
+    for cost in &mut costs[..30] {
+        *cost = (1_000.0 + 300.0 * random.normal()).round() as i16;
     }
-    costs.extend([-20_000; 3]);
     let limit = random.between(300, 500) as u32;
     exact_case(&code, Settings::new(8_000, 150, limit, 0), costs)
 }
