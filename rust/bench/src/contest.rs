@@ -52,6 +52,8 @@ impl Contest {
             decoders: vec![
                 #[cfg(feature = "library")]
                 ("library", Box::new(widagbe::Widagbe)),
+                #[cfg(feature = "before")]
+                ("before", Box::new(crate::before::Before)),
                 ("plain", Box::new(Plain)),
                 ("tuned", Box::new(Tuned)),
             ],
