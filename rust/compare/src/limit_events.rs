@@ -34,18 +34,21 @@ fn below(problem: &Problem, iterate: &Iterate, variable: usize) -> i128 {
 }
 
 /// What happens in an iteration.
-pub fn limit_events(problem: &Problem, iterate: &Iterate) -> Vec<(&'static str, bool)> {
+pub fn limit_events(
+    problem: &Problem,
+    iterate: &Iterate,
+) -> impl Iterator<Item = (&'static str, bool)> {
     let mut met = [false; 10];
     for bit in 0..problem.split.bits {
         let below = below(problem, iterate, bit);
-        let half = problem.divisor(bit) - 2 * below;
+        let past_half = problem.divisor(bit) - 2 * below;
         let larger = usize::from(problem.counts[bit] > SMALL);
         let edges = [
             below == 0,
             below == 1,
             below == -1,
-            half == 0,
-            half > 0 && below > 0,
+            past_half == 0,
+            past_half > 0 && below > 0,
         ];
         for (place, holds) in edges.into_iter().enumerate() {
             met[2 * place + larger] |= holds;
@@ -54,7 +57,7 @@ pub fn limit_events(problem: &Problem, iterate: &Iterate) -> Vec<(&'static str, 
     let mut auxiliaries = problem.split.bits..problem.split.variables();
     let auxiliary = auxiliaries.any(|variable| below(problem, iterate, variable) == 0);
     let events = OF_LIMITS.into_iter().zip(met);
-    events.chain([(AUXILIARY, auxiliary)]).collect()
+    events.chain([(AUXILIARY, auxiliary)])
 }
 
 /// What an accepted run amounts to.

@@ -9,7 +9,7 @@ use crate::text_events::{pairs_against_texts, text_events, OF_TEXTS};
 use reference::iteration::Problem;
 use reference::run::{run, MOST_ITERATIONS};
 use reference::SOUND;
-use std::collections::BTreeMap;
+use std::collections::{BTreeMap, BTreeSet};
 
 /// Every entry with all the numbers it can give; of the frame program the kinds of
 /// lines, and nothing for the end without one.
@@ -155,18 +155,14 @@ impl Tally {
 
     /// Runs the reference again and counts what happens in its iterations.
     fn watch(&mut self, problem: &Problem) {
-        let mut met: BTreeMap<&str, bool> = BTreeMap::new();
+        let mut met: BTreeSet<&str> = BTreeSet::new();
         run(problem, &mut |iterate, totals| {
             let events = iteration_events(problem, iterate, totals);
-            for (event, happens) in events.chain(limit_events(problem, iterate)) {
-                *met.entry(event).or_default() |= happens;
-            }
+            let events = events.chain(limit_events(problem, iterate));
+            let happened = events.filter(|&(_, happens)| happens);
+            met.extend(happened.map(|(event, _)| event));
         });
-        for (event, happened) in met {
-            if happened {
-                self.count(event);
-            }
-        }
+        met.into_iter().for_each(|event| self.count(event));
     }
 
     /// Fails unless each number, line and event of these entries was met at least
