@@ -27,8 +27,8 @@ fn end_of(decoder: &dyn Decoder, edge: &Edge) -> [i128; 2] {
     ["sums", "values"].map(|list| i128::from(outcome.first(list, 1)[0]))
 }
 
-/// The c that is due for a numerator next to the limit, for which 16,382 is too small: it
-/// is 16,384 from (U - 1/2) d on.
+/// The c that is due for a numerator from (U - 3/2) d on: 16,383, or 16,384 from
+/// (U - 1/2) d on.
 fn due(numerator: i128, divisor: i128) -> i128 {
     let size = numerator.abs();
     assert!(
@@ -108,7 +108,7 @@ fn values_by_hand() {
 }
 
 /// The dividend cut to U d - 1 and then divided: with e = 4 and A = 1,023 the limit becomes
-/// 16,383, and with all other divisors it is still met.
+/// 16,383, and with every other divisor it is still reached.
 #[test]
 fn a_dividend_cut_below_the_limit_shows_with_a_divisor_of_one() {
     let cut = Reference {
