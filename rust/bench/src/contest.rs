@@ -2,6 +2,7 @@
 
 use crate::scenario::Scenario;
 use interface::{DecodeAnswer, Decoder, OwnLists};
+use reference::iteration::UNIT;
 use rivals::{Plain, Tuned};
 use std::time::Instant;
 
@@ -18,6 +19,8 @@ pub struct ContestResult {
     pub iterations: u64,
     pub settled: usize,
     pub right: usize,
+    /// The part of all values that are -U or U at the end of their frames.
+    pub at_limit: f64,
     /// Seconds for all frames: each frame's least, and its middle, of all rounds.
     pub seconds: Vec<(f64, f64)>,
 }
@@ -37,12 +40,20 @@ fn decode(
     decoder.decode(&scenario.records, scenario.settings, costs, lists.lend())
 }
 
+/// The part of these values that are -U or U.
+fn at_limit(values: &[i16]) -> f64 {
+    let limited = values.iter().filter(|c| i64::from(c.abs()) == UNIT);
+    limited.count() as f64 / values.len() as f64
+}
+
 impl Contest {
     pub fn new() -> Contest {
         Contest {
             decoders: vec![
                 #[cfg(feature = "library")]
                 ("library", Box::new(widagbe::Widagbe)),
+                #[cfg(feature = "before")]
+                ("before", Box::new(crate::before::Before)),
                 ("plain", Box::new(Plain)),
                 ("tuned", Box::new(Tuned)),
             ],
@@ -59,9 +70,12 @@ impl Contest {
         let mut lent = lists(scenario);
         let frames = scenario.frames.len();
         let mut times = vec![vec![Vec::new(); frames]; self.decoders.len()];
-        for _ in 0..rounds {
-            for ((_, decoder), times) in self.decoders.iter().zip(&mut times) {
-                for (frame, times) in times.iter_mut().enumerate() {
+        let count = self.decoders.len();
+        for round in 0..rounds {
+            // Another decoder begins in each round.
+            for place in (0..count).map(|turn| (round + turn) % count) {
+                let (_, decoder) = &self.decoders[place];
+                for (frame, times) in times[place].iter_mut().enumerate() {
                     let start = Instant::now();
                     decode(decoder.as_ref(), scenario, frame, &mut lent);
                     times.push(start.elapsed().as_secs_f64());
@@ -85,6 +99,7 @@ impl Contest {
             iterations: 0,
             settled: 0,
             right: 0,
+            at_limit: 0.0,
             seconds: Vec::new(),
         };
         for frame in 0..scenario.frames.len() {
@@ -98,6 +113,7 @@ impl Contest {
             result.iterations += u64::from(answer.k);
             result.settled += answer.settled as usize;
             result.right += usize::from(answer.number == 0 && !first.word.contains(&1));
+            result.at_limit += at_limit(&first.values) / scenario.frames.len() as f64;
         }
         result
     }

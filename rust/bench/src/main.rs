@@ -2,6 +2,8 @@
 //! word and every lent list; import and export of alist texts; and calls on words. Run it with
 //! `--release`; with the feature `library` the compiled library takes part.
 
+#[cfg(feature = "before")]
+mod before;
 mod contest;
 mod conversion;
 mod places;

@@ -12,6 +12,8 @@ pub fn settings() {
     );
 }
 
+const RATIO_WIDTH: usize = 14;
+
 /// The columns of each decoder, then the ratios of the first to the others.
 fn columns(names: &[&str], width: usize) -> String {
     let names = names.iter().map(|name| format!("{name:>width$}"));
@@ -30,11 +32,11 @@ pub fn heading(names: Vec<&str>) {
     let ratios: Vec<&str> = ratios.iter().map(String::as_str).collect();
     println!();
     println!(
-        "   n     T level   dB frames  k/frame settled right | ns per triple and iteration: {} | middle: {} | frames/s: {} | {}",
+        "   n     T level        dB frames  k/frame settled right at limit | ns per triple and iteration: {} | middle: {} | frames/s: {} | {}",
         columns(&names, 8),
         columns(&names, 8),
         columns(&names, 8),
-        columns(&ratios, 13),
+        columns(&ratios, RATIO_WIDTH),
     );
 }
 
@@ -51,21 +53,23 @@ fn numbers(numbers: impl Iterator<Item = f64>, width: usize, digits: usize) -> S
 fn ratios(result: &ContestResult) -> String {
     let first = result.seconds[0].0;
     let others = result.seconds[1..].iter();
-    numbers(others.map(|(least, _)| first / least), 13, 2)
+    numbers(others.map(|(least, _)| first / least), RATIO_WIDTH, 2)
 }
 
 pub fn line(scenario: &Scenario, result: &ContestResult) {
     let frames = scenario.frames.len();
     let times = result.seconds.iter();
+    let decibels = scenario.decibels.map(|level| format!("{level:.1}"));
     println!(
-        "{:>4} {:>5} {:>5} {:>4.1} {frames:>6} {:>8.1} {:>7} {:>5} | {:29}{} | {:7} {} | {:9} {} | {}",
+        "{:>4} {:>5} {:<10} {:>4} {frames:>6} {:>8.1} {:>7} {:>5} {:>6.1} % | {:29}{} | {:7} {} | {:9} {} | {}",
         scenario.code.bits,
         scenario.code.triples(),
         scenario.name,
-        scenario.decibels.unwrap_or_default(),
+        decibels.unwrap_or_default(),
         result.iterations as f64 / frames as f64,
         result.settled,
         result.right,
+        100.0 * result.at_limit,
         "",
         numbers(times.clone().map(|(least, _)| per_triple(scenario, result, *least)), 8, 2),
         "",
@@ -106,7 +110,7 @@ pub fn longest_heading(names: Vec<&str>) {
     println!(
         "The longest accepted calls:\n   n     T frame                     k | ms a call: {} | {}",
         columns(&names, 8),
-        columns(&ratios, 13),
+        columns(&ratios, RATIO_WIDTH),
     );
 }
 

@@ -1,7 +1,9 @@
 //! Codes and frames to decode.
 
 use crate::places::regular;
-use compare::codes::{code_of, crowded_code, records, training_code, Code};
+use compare::codes::{
+    code_of, crowded_code, records, regular_code, training_code, with_own_check, Code,
+};
 use compare::draft::wild_costs;
 use compare::random::Random;
 use interface::{Channel, Library, Settings};
@@ -27,38 +29,44 @@ pub struct Scenario {
 }
 
 impl Scenario {
-    fn new(name: &'static str, code: Code, decibels: f64, frames: usize) -> Scenario {
-        let mut random = Random::new(SEED);
+    fn new(name: &'static str, code: Code, decibels: f64, count: usize) -> Scenario {
         let rate = 1.0 - code.checks.len() as f64 / code.bits as f64;
         let noise = (0.5 / (rate * 10f64.powf(decibels / 10.0))).sqrt();
+        let frames = frames(code.bits, noise, count);
+        Scenario {
+            decibels: Some(decibels),
+            ..Scenario::of(name, code, SETTINGS, frames)
+        }
+    }
+
+    fn of(name: &'static str, code: Code, settings: Settings, frames: Vec<Vec<i16>>) -> Scenario {
         Scenario {
             name,
             records: records(&code),
-            frames: (0..frames)
-                .map(|_| frame(&mut random, code.bits, noise))
-                .collect(),
             code,
-            decibels: Some(decibels),
-            settings: SETTINGS,
+            decibels: None,
+            settings,
+            frames,
         }
     }
 
     /// One frame, which does not settle within the most iterations that can be asked for.
     fn longest(name: &'static str, code: Code, run: (u32, u32), costs: Vec<i16>) -> Scenario {
         let (weight, ratio) = run;
-        Scenario {
-            name,
-            records: records(&code),
-            frames: vec![costs],
-            code,
-            decibels: None,
-            settings: Settings::new(weight, ratio, MOST_ITERATIONS as u32, 0),
-        }
+        let settings = Settings::new(weight, ratio, MOST_ITERATIONS as u32, 0);
+        Scenario::of(name, code, settings, vec![costs])
     }
 }
 
-/// The costs of a received word of zeros; by reflection any other codeword
-/// takes the same time.
+/// The costs of so many received words of zeros; by reflection any other codeword takes the
+/// same time.
+fn frames(bits: usize, noise: f64, count: usize) -> Vec<Vec<i16>> {
+    let mut random = Random::new(SEED);
+    (0..count)
+        .map(|_| frame(&mut random, bits, noise))
+        .collect()
+}
+
 fn frame(random: &mut Random, bits: usize, noise: f64) -> Vec<i16> {
     let samples: Vec<f32> = (0..bits)
         .map(|_| (1.0 + noise * random.normal()) as f32)
@@ -69,8 +77,10 @@ fn frame(random: &mut Random, bits: usize, noise: f64) -> Vec<i16> {
     costs
 }
 
-/// Each code at a level where most frames settle soon, and at a hard one.
+/// Each code at a level where most frames settle soon, and at a hard one; then codes with
+/// bits in many checks.
 pub fn all() -> Vec<Scenario> {
+    let mixed = || code_of(&mut Random::new(SEED), 1_000, 500, 2_000);
     vec![
         Scenario::new("easy", training_code(), 4.0, 200),
         Scenario::new("hard", training_code(), 0.0, 100),
@@ -78,7 +88,33 @@ pub fn all() -> Vec<Scenario> {
         Scenario::new("hard", regular(1_008), 0.5, 8),
         Scenario::new("easy", regular(4_096), 3.0, 10),
         Scenario::new("hard", regular(4_096), 0.5, 2),
+        Scenario::new("mixed easy", mixed(), 3.0, 20),
+        Scenario::new("mixed hard", mixed(), 0.5, 4),
+        in_32_checks(),
+        limited(),
     ]
+}
+
+/// Every bit lies in 32 checks.
+fn in_32_checks() -> Scenario {
+    let code = regular_code(&mut Random::new(SEED), 192, 32, 3);
+    Scenario::of("32 checks", code, SETTINGS, frames(192, 0.3, 4))
+}
+
+/// The same, beside a first check of three bits of its own, which never settles: nearly all
+/// values are at the limit for most of the run.
+fn limited() -> Scenario {
+    let code = regular_code(&mut Random::new(SEED), 189, 32, 3);
+    let code = with_own_check(code, 0);
+    let mut frames = frames(189, 0.3, 2);
+    for costs in &mut frames {
+        costs.extend([-20_000; 3]);
+    }
+    let settings = Settings {
+        tolerance: 0,
+        ..SETTINGS
+    };
+    Scenario::of("limited", code, settings, frames)
 }
 
 /// Regular codes of growing length with a fixed number of iterations.
@@ -112,9 +148,8 @@ pub fn longest() -> Vec<Scenario> {
 /// The three bits of one check, at this place, never settle, all others do at once: how
 /// long a total takes depends on the place.
 fn unsettled_check(name: &'static str, place: usize) -> Scenario {
-    let mut code = code_of(&mut Random::new(SEED), 4_093, 2_047, 8_191);
-    code.checks.insert(place, vec![4_093, 4_094, 4_095]);
-    code.bits = 4_096;
+    let code = code_of(&mut Random::new(SEED), 4_093, 2_047, 8_191);
+    let code = with_own_check(code, place);
     let costs = [vec![0; 4_093], vec![-20_000; 3]].concat();
     Scenario::longest(name, code, (256, 0), costs)
 }

@@ -1,5 +1,6 @@
 //! One call with all its inputs and the lengths of its lent lists.
 
+use crate::codes::{records, room, Code};
 use interface::{Channel, Settings};
 
 #[derive(Clone, Debug, PartialEq)]
@@ -60,6 +61,16 @@ pub struct DecodeCase {
     pub settings: Settings,
     pub costs: Vec<i16>,
     pub room: [usize; 6],
+}
+
+/// A decoding with lists of exactly the lengths needed.
+pub fn exact_case(code: &Code, settings: Settings, costs: Vec<i16>) -> Case {
+    Case::Decode(DecodeCase {
+        code: records(code),
+        settings,
+        costs,
+        room: room(code),
+    })
 }
 
 impl Case {

@@ -157,6 +157,14 @@ pub fn crowded_code(random: &mut Random, bits: usize, checks: usize, degree: usi
     }
 }
 
+/// The code with three more bits, which make a check of their own at this place.
+pub fn with_own_check(mut code: Code, place: usize) -> Code {
+    let first = code.bits;
+    code.checks.insert(place, vec![first, first + 1, first + 2]);
+    code.bits += 3;
+    code
+}
+
 /// Degrees of so many checks that have so many triples, none above the widest.
 fn random_degrees(random: &mut Random, widest: usize, checks: usize, triples: usize) -> Vec<usize> {
     let mut degrees = vec![3; checks];

@@ -12,6 +12,8 @@ pub mod damage;
 pub mod draft;
 pub mod families;
 pub mod lent;
+pub mod limit_edges;
+pub mod limit_events;
 pub mod outcome;
 pub mod program;
 pub mod random;

@@ -2,13 +2,14 @@
 
 use crate::case::{Case, DecodeCase};
 use crate::families::seed;
+use crate::limit_events::{limit_end_events, limit_events, OF_LIMITS};
 use crate::outcome::Outcome;
 use crate::run_events::{end_events, iteration_events, Largest, OF_RUNS};
 use crate::text_events::{pairs_against_texts, text_events, OF_TEXTS};
 use reference::iteration::Problem;
 use reference::run::{run, MOST_ITERATIONS};
 use reference::SOUND;
-use std::collections::BTreeMap;
+use std::collections::{BTreeMap, BTreeSet};
 
 /// Every entry with all the numbers it can give; of the frame program the kinds of
 /// lines, and nothing for the end without one.
@@ -33,8 +34,9 @@ const KINDS: [(&str, &str); 14] = [
 ];
 
 /// What must happen in some run, accepted import, accepted export and frame.
-const EVENTS: [(&str, &[&str]); 4] = [
+const EVENTS: [(&str, &[&str]); 5] = [
     ("decode", &OF_RUNS),
+    ("decode", &OF_LIMITS),
     ("import", &OF_TEXTS),
     (
         "export",
@@ -143,6 +145,7 @@ impl Tally {
         let split = SOUND.split_code(&code);
         let problem = Problem::new(SOUND, split, case.settings, &case.costs);
         self.add_events(end_events(&problem, outcome));
+        self.add_events(limit_end_events(&problem, outcome));
         let largest = self.largest.get_or_insert_default();
         largest.add(&problem, outcome);
         if 4 * code.triples() * k <= MOST_WATCHED {
@@ -152,17 +155,14 @@ impl Tally {
 
     /// Runs the reference again and counts what happens in its iterations.
     fn watch(&mut self, problem: &Problem) {
-        let mut met: BTreeMap<&str, bool> = BTreeMap::new();
+        let mut met: BTreeSet<&str> = BTreeSet::new();
         run(problem, &mut |iterate, totals| {
-            for (event, happens) in iteration_events(problem, iterate, totals) {
-                *met.entry(event).or_default() |= happens;
-            }
+            let events = iteration_events(problem, iterate, totals);
+            let events = events.chain(limit_events(problem, iterate));
+            let happened = events.filter(|&(_, happens)| happens);
+            met.extend(happened.map(|(event, _)| event));
         });
-        for (event, happened) in met {
-            if happened {
-                self.count(event);
-            }
-        }
+        met.into_iter().for_each(|event| self.count(event));
     }
 
     /// Fails unless each number, line and event of these entries was met at least

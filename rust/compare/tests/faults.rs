@@ -4,6 +4,7 @@
 use compare::case::Case;
 use compare::chains::{self, check_chains};
 use compare::families::{all, Effort};
+use compare::limit_edges::{first, late, Edge};
 use compare::outcome::{outcome, Outcome};
 use compare::random::Random;
 use compare::reflections::{self, check_reflections};
@@ -13,7 +14,7 @@ use reference::cause::Cause;
 use reference::fault::{self, Fault};
 use reference::{Reference, SOUND};
 use std::cell::Cell;
-use std::collections::BTreeMap;
+use std::collections::{BTreeMap, BTreeSet};
 use std::convert::Infallible;
 use std::panic;
 
@@ -79,6 +80,33 @@ fn every_fault_is_caught() {
         }
     }
     assert!(missed.is_empty(), "not caught: {missed:?}");
+}
+
+/// Each slip at the limit is caught by the edges of each count at which it shows: two slips
+/// show with a divisor of 1 alone, and count 1 has no count before it.
+#[test]
+fn edges_of_every_count_catch_slips_at_the_limit() {
+    keep_quiet_panics_unprinted();
+    let edges = first().into_iter().chain(late());
+    let expected = |edge: Edge| (edge.count, edge.case(), outcome(SOUND, &edge.case()));
+    let edges: Vec<(usize, Case, Outcome)> = edges.map(expected).collect();
+    let all: BTreeSet<usize> = edges.iter().map(|(count, ..)| *count).collect();
+    assert!(all.is_superset(&(1..=33).collect()) && all.contains(&2_048));
+    let one = BTreeSet::from([1]);
+    for (fault, counts) in [
+        (Fault::LimitOneEarly, &one),
+        (Fault::DividendCutBelowLimit, &one),
+        (Fault::LimitOfCountBefore, &(&all - &one)),
+        (Fault::TruncatedBelowLimit, &all),
+        (Fault::LastHalfTowardsZero, &all),
+        (Fault::LimitFromOneLess, &all),
+        (Fault::LimitTurned, &all),
+        (Fault::LimitOfNextCount, &all),
+    ] {
+        let wrong = |(_, case, due): &&(usize, Case, Outcome)| goes_wrong(fault, case, due);
+        let caught = edges.iter().filter(wrong).map(|(count, ..)| *count);
+        assert_eq!(&caught.collect::<BTreeSet<usize>>(), counts, "{fault:?}");
+    }
 }
 
 #[test]

@@ -56,7 +56,9 @@ faults! {
         QuotientFloored, QuotientIn32Bits, ChangedRowOrder, TripleSumsIn16Bits, RowsIn16Bits,
         TotalsTogether, SumsOfNextIteration, NotSettledAtLimit, OneIterationMore,
         AuxiliariesUndecided, HighestUndecided, SameWordEachTime, WordWrittenAlways,
-        SplitBeforeJudged, ShortWordPassesUnwritten, SignedTolerance, WeightIn16Bits;
+        SplitBeforeJudged, ShortWordPassesUnwritten, SignedTolerance, WeightIn16Bits,
+        DividendCutBelowLimit, TruncatedBelowLimit, LastHalfTowardsZero, LimitFromOneLess,
+        LimitOneEarly, LimitTurned, LimitOfNextCount, LimitOfCountBefore;
     ["decode", "frames"]:
         FormerLimitJudged, CutAtFormerLimit, RowsAtFormerBound;
     ["import"]:

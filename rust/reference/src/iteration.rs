@@ -1,7 +1,6 @@
 //! One iteration of the update.
 
 use crate::fault::Fault;
-use crate::quotient::limited;
 use crate::run::FORMER_MOST_ITERATIONS;
 use crate::splitting::Split;
 use crate::Reference;
@@ -134,7 +133,8 @@ fn value(problem: &Problem, variable: usize, sum: i64) -> i64 {
     }
     let most = problem.reference.limit(16_384) as i128;
     let divisor = problem.divisor(variable);
-    limited(problem.reference.nearest(dividend, divisor), most) as i64
+    let value = problem.reference.limited_nearest(dividend, divisor, most);
+    value as i64
 }
 
 /// Every row's new s, with the old p and the new c.

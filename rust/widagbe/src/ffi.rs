@@ -1,6 +1,7 @@
-//! The C functions of the compiled library. A list is a pointer and a length.
+//! The C functions of the compiled library, but for the decoder's, which `decoder!`
+//! declares. A list is a pointer and a length.
 
-use interface::{BytesAnswer, CodeAnswer, DecodeAnswer, WordAnswer};
+use interface::{BytesAnswer, CodeAnswer, WordAnswer};
 
 extern "C" {
     pub fn widagbe_read(code: *const u8, code_len: usize) -> CodeAnswer;
@@ -72,29 +73,6 @@ extern "C" {
         sum: *mut u8,
         sum_len: usize,
     ) -> u32;
-
-    pub fn widagbe_decode(
-        code: *const u8,
-        code_len: usize,
-        weight: u32,
-        ratio: u32,
-        limit: u32,
-        tolerance: u32,
-        costs: *const i16,
-        costs_len: usize,
-        triples: *mut u16,
-        triples_len: usize,
-        counts: *mut u16,
-        counts_len: usize,
-        sums: *mut i64,
-        sums_len: usize,
-        values: *mut i16,
-        values_len: usize,
-        rows: *mut i32,
-        rows_len: usize,
-        word: *mut u8,
-        word_len: usize,
-    ) -> DecodeAnswer;
 
     pub fn widagbe_import(
         text: *const u8,

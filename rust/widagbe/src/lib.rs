@@ -2,45 +2,18 @@
 //! rules keep lent lists apart, so every call here is safe. Types and traits are
 //! those of `interface`; `examples/decode.rs` is a whole program.
 
+#[macro_use]
+mod call;
 mod ffi;
 
+use ffi::*;
 pub use interface::*;
-
-/// Calls a C function: `[list]` stands for a list that is read, `[mut list]` for
-/// one that is filled, each handed over with its length.
-macro_rules! call {
-    { $function:ident($($arguments:tt)*) } => { call! { @ $function () $($arguments)*, } };
-    { @ $function:ident ($($done:expr,)*) [mut $list:expr], $($rest:tt)* } => {
-        call! { @ $function ($($done,)* $list.as_mut_ptr(), $list.len(),) $($rest)* }
-    };
-    { @ $function:ident ($($done:expr,)*) [$list:expr], $($rest:tt)* } => {
-        call! { @ $function ($($done,)* $list.as_ptr(), $list.len(),) $($rest)* }
-    };
-    { @ $function:ident ($($done:expr,)*) $number:expr, $($rest:tt)* } => {
-        call! { @ $function ($($done,)* $number,) $($rest)* }
-    };
-    { @ $function:ident ($($done:expr,)*) } => {
-        // SAFETY: pointers and lengths are those of slices, and a slice that is
-        // filled overlaps no other.
-        unsafe { ffi::$function($($done),*) }
-    };
-}
 
 /// The compiled library.
 #[derive(Clone, Copy, Debug)]
 pub struct Widagbe;
 
-impl Decoder for Widagbe {
-    fn decode(&self, code: &[u8], settings: Settings, costs: &[i16], lists: Lists) -> DecodeAnswer {
-        call! { widagbe_decode(
-            [code],
-            settings.weight, settings.ratio, settings.limit, settings.tolerance,
-            [costs],
-            [mut lists.triples], [mut lists.counts], [mut lists.sums],
-            [mut lists.values], [mut lists.rows], [mut lists.word]
-        ) }
-    }
-}
+decoder! { Widagbe, widagbe_decode }
 
 impl Library for Widagbe {
     fn read(&self, code: &[u8]) -> CodeAnswer {

@@ -1,10 +1,10 @@
 //! Runs of the decoder.
 
 use super::Family;
-use crate::case::{Case, DecodeCase};
+use crate::case::{exact_case, Case};
 use crate::codes::{
-    code_of, code_within, one_check, records, regular_code, room, small_or_training_code,
-    tiny_code, training_code, Code,
+    code_of, code_within, one_check, regular_code, small_or_training_code, tiny_code,
+    training_code, Code,
 };
 use crate::codewords::Codewords;
 use crate::draft::{random_settings, Draft, Entry};
@@ -27,15 +27,6 @@ pub fn families() -> Vec<Family> {
         Family::random("runs on large codes", 10, large_run),
         Family::listed("runs at the limits", limits),
     ]
-}
-
-pub fn exact_case(code: &Code, settings: Settings, costs: Vec<i16>) -> Case {
-    Case::Decode(DecodeCase {
-        code: records(code),
-        settings,
-        costs,
-        room: room(code),
-    })
 }
 
 /// One check, all triples of some costs: halves, zeros and equal totals.

@@ -1,9 +1,8 @@
 //! Runs of up to 4,000 iterations: those that do not settle before, those that settle
 //! late, rows beyond what 1,000 iterations reach, and bits in very many checks.
 
-use super::decoding::exact_case;
 use super::Family;
-use crate::case::Case;
+use crate::case::{exact_case, Case};
 use crate::codes::{code_of, crowded_code, regular_code, tiny_code, Code};
 use crate::draft::{wild_costs, Draft, Entry};
 use crate::random::Random;

@@ -4,6 +4,7 @@ mod channels;
 mod decoding;
 mod exports;
 mod imports;
+mod limit;
 mod long_runs;
 mod programs;
 mod records;
@@ -101,6 +102,7 @@ pub fn calls() -> Vec<Family> {
     families.extend(words::families());
     families.extend(channels::families());
     families.extend(decoding::families());
+    families.extend(limit::families());
     families.extend(long_runs::families());
     families
 }
