@@ -53,7 +53,7 @@ fn numbers(numbers: impl Iterator<Item = f64>, width: usize, digits: usize) -> S
 fn ratios(result: &ContestResult) -> String {
     let first = result.seconds[0].0;
     let others = result.seconds[1..].iter();
-    numbers(others.map(|(least, _)| first / least), RATIO_WIDTH, 2)
+    numbers(others.map(|(least, _)| first / least), RATIO_WIDTH, 3)
 }
 
 pub fn line(scenario: &Scenario, result: &ContestResult) {
