@@ -1,7 +1,6 @@
 -- Rounding. Assumes nothing.
-use Rattle.integers.proofs.Prelude.{_≡_, ℕ, suc, _+_, _*_, _%_, _≤_, _<_, arith}
-use native.Mathlib.Omega.{by-contra}
-use native.Mathlib.Nat.{div-add-mod', mod-lt, mul-le-mul-left, mul-le-mul-right, le-antisymm}
+use Rattle.integers.proofs.Prelude.{_≡_, ℕ, _+_, _*_, _%_, _≤_, _<_, arith}
+use native.Mathlib.Nat.{div-add-mod', mod-lt, mul-le-mul-right}
 use lib.Ieee.Nearest.{div-same, div-mono}
 use Rattle.integers.specs.Nearest.{nearest, Nearest}
 
@@ -10,13 +9,6 @@ nearest-is n d h =
     let e : nearest n d * (2 * d) + (2 * n + d) % (2 * d) ≡ 2 * n + d = div-add-mod' (2 * n + d) (2 * d) in
     let l : (2 * n + d) % (2 * d) < 2 * d = mod-lt (2 * n + d) (omega arith) in
     record { above = omega arith; below = omega arith }
-
--- one number is nearest
-nearest-le : (n d q r : ℕ) → Nearest n d q → Nearest n d r → q ≤ r
-nearest-le n d q r a b = by-contra q r (λ k. let t : d * suc r ≤ d * q = mul-le-mul-left d k in omega (arith, a .above, b .below))
-
-pub nearest-only : (n d q : ℕ) → 0 < d → Nearest n d q → nearest n d ≡ q
-nearest-only n d q h a = le-antisymm (nearest-le n d _ q (nearest-is n d h) a) (nearest-le n d q _ a (nearest-is n d h))
 
 -- of two equal fractions
 pub nearest-same : (n d k p : ℕ) → 0 < d → 0 < p → n * p ≡ k * d → nearest n d ≡ nearest k p

@@ -79,7 +79,7 @@ fn by_product(x: i64, limit: i64, inverse: i64) -> i16
     }
 }
 
-// -x by den in the same way, by `/`: here the branch stays, since a division is never made for nothing.
+// -x by den in the same way, by `/`: here the compiled code keeps the branch, and skips the division where the limit is known.
 fn by_division(x: i64, den: i64) -> i16
     requires { ⌜ (natAbs x ≤ mostNumerator) × (pos 0 <ℤ den) × (den ≤ℤ pos mostDivisor) ⌝ }
     ensures { λ c. ⌜ c ≡ quotient (negℤ x) den ⌝ }
