@@ -1,6 +1,6 @@
 -- `values::divide` meets its contract. Assumes nothing.
 use Rattle.integers.proofs.Prelude.{_≡_, ap, ap₂, _∙_, _-_, _*_, needs, ℤ, negℤ, w16, w64, toZ, ofZ, toZ-ofZ}
-use Rattle.integers.proofs.Machine.{kept, fits, read-back}
+use Rattle.integers.proofs.Machine.{kept, read-back}
 use Rattle.quotient.specs.Quotient.{quotient}
 use Rattle.quotient.specs.Prepared.{Prepared}
 use Rattle.model.specs.Limits.{mostChecks}
