@@ -202,6 +202,10 @@ pub above-abs : (a : ℤ) → ltZ a (pos 0) ≡ false → a ≡ pos (natAbs a)
 above-abs (pos n) e = refl
 above-abs (negsuc n) e = absurd (omega (arith, ltZ-false (negsuc n) (pos 0) e))
 
+-- a number above 0
+pub positive : (a : ℤ) → pos 0 <ℤ a → (0 < natAbs a) × (a ≡ pos (natAbs a))
+positive a h = (omega (arith, readℤ, about a), above-abs a (false-ltZ a (pos 0) (omega (arith, readℤ))))
+
 pub abs-mul : (a b : ℤ) → natAbs (a *ℤ b) ≡ natAbs a * natAbs b
 abs-mul (pos n) (pos m) = refl
 abs-mul (pos n) (negsuc m) = abs-neg (pos (n * suc m))

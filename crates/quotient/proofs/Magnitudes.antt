@@ -7,14 +7,13 @@ use lib.IntN.{negℤ-+ℤ}
 use lib.Signed.{quotZ}
 use Rattle.integers.specs.Nearest.{nearest}
 use Rattle.integers.proofs.Nearest.{nearest-is}
-use Rattle.integers.proofs.Linear.{readℤ, about, abs-neg, above-abs, false-ltZ}
+use Rattle.integers.proofs.Linear.{readℤ, about, abs-neg, false-ltZ, positive}
 use Rattle.quotient.specs.Quotient.{unit, quotient, signed}
 use Rattle.quotient.specs.Quotient.Laws.{quotient-odd, quotient-is}
 
 -- a divisor from 1 to n
-pub positive : (z : ℤ) (n : ℕ) → pos 0 <ℤ z → z ≤ℤ pos n → (0 < natAbs z) × (natAbs z ≤ n) × (z ≡ pos (natAbs z))
-positive z n h k =
-    (omega (arith, readℤ, about z), omega (arith, readℤ, about z), above-abs z (false-ltZ z (pos 0) (omega (arith, readℤ))))
+pub divisor-is : (z : ℤ) (n : ℕ) → pos 0 <ℤ z → z ≤ℤ pos n → (0 < natAbs z) × (natAbs z ≤ n) × (z ≡ pos (natAbs z))
+divisor-is z n h k = (positive z h .0, omega (arith, readℤ, about z), positive z h .1)
 
 -- below U times the divisor nothing is limited
 pub quotient-below : (n d : ℕ) → 0 < d → n < unit * d → quotient (pos n) (pos d) ≡ pos (nearest n d)

@@ -34,6 +34,10 @@ pub record Rounded (n d q : ℕ) : Type 0 where
   pub above : 2 * (d * q) ≤ 2 * n + d
   pub below : q < unit → 2 * n < 2 * (d * q) + d
 
+-- 02, L4: "a numerator below that size", which is U times the divisor: what divides asks it, since from there on the limit is known
+abbrev pub BelowLimit : ℤ → ℤ → Type 0
+BelowLimit n d = natAbs n < unit * natAbs d
+
 -- q with the sign of z
 abbrev pub signed : ℤ → ℕ → ℤ
 signed z q = cond (ltZ z (pos 0)) (negℤ (pos q)) (pos q)

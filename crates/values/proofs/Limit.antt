@@ -1,6 +1,6 @@
 -- Where the limit is known, and what the test of sizes says. Assumes nothing.
 use Rattle.integers.proofs.Prelude.{_≡_, sym, ap, _∙_, ℕ, _*_, _≤_, _<_, true, false, arith, ℤ, pos, natAbs, negℤ, _<ℤ_, ltZ}
-use Rattle.integers.proofs.Linear.{readℤ, about, above-abs, false-ltZ, ltZ-true, ltZ-false}
+use Rattle.integers.proofs.Linear.{positive, ltZ-true, ltZ-false}
 use Rattle.quotient.specs.Quotient.{unit, quotient, signed}
 use Rattle.quotient.specs.Quotient.Laws.{quotient-odd, quotient-limit}
 
@@ -15,5 +15,5 @@ module _ {m l : ℤ} (x : ℤ) {n : ℕ} (a : m ≡ pos (natAbs x)) (b : l ≡ p
 -- from there on the limit is the value
 pub limit-known : (x den : ℤ) → pos 0 <ℤ den → unit * natAbs den ≤ natAbs x → negℤ (signed x unit) ≡ quotient (negℤ x) den
 limit-known x den h k =
-    let e : den ≡ pos (natAbs den) = above-abs den (false-ltZ den (pos 0) (omega (arith, readℤ))) in
-    ap negℤ (sym (ap (quotient x) e ∙ quotient-limit x (natAbs den) (omega (arith, readℤ, about den)) k)) ∙ sym (quotient-odd x den)
+    let d = positive den h in
+    ap negℤ (sym (ap (quotient x) (d .1) ∙ quotient-limit x (natAbs den) (d .0) k)) ∙ sym (quotient-odd x den)

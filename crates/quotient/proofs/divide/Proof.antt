@@ -5,7 +5,7 @@ use Rattle.integers.proofs.Linear.{readℤ}
 use Rattle.integers.proofs.Machine.{Worth, param, literal, local, also, plus, times, fits, stored}
 use Rattle.quotient.specs.Quotient.{unit, quotient, signed}
 use Rattle.quotient.specs.Quotient.Laws.{quotient-range}
-use Rattle.quotient.proofs.Magnitudes.{positive, abs-signed, cut-quotient}
+use Rattle.quotient.proofs.Magnitudes.{divisor-is, abs-signed, cut-quotient}
 use Rattle.quotient.proofs.divide.Statement.{statement}
 use Rattle.quotient.proofs.divide.Tie as tie
 
@@ -17,7 +17,7 @@ module _ (s : tie.Start) where
   d = natAbs (s .args .den)
 
   d-is : (0 < d) × (d ≤ 2097152) × (s .args .den ≡ pos d)
-  d-is = positive (s .args .den) 2097152 (s .pre .0) (s .pre .1)
+  d-is = divisor-is (s .args .den) 2097152 (s .pre .0) (s .pre .1)
 
   den-is : Worth (toZ w64 (ofZ w64 (s .args .den))) (pos d) 2097152
   den-is = also (param w64 (s .args .den) 2097152 tt (d-is .1)) (d-is .2)

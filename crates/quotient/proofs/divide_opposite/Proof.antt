@@ -1,8 +1,8 @@
 -- `quotient::divide_opposite` meets its contract. Assumes nothing.
-use Rattle.integers.proofs.Prelude.{ap, ap₂, _∙_, _+_, _*_, _^_, _<_, ℤ, pos, natAbs, negℤ, _-ℤ_, _*ℤ_, w16, w64, toZ, ofZ, toZ-ofZ}
+use Rattle.integers.proofs.Prelude.{ap, ap₂, _∙_, _+_, _^_, ℤ, pos, negℤ, _-ℤ_, _*ℤ_, w16, w64, toZ, ofZ, toZ-ofZ}
 use lib.Signed.{shrZ}
 use Rattle.integers.proofs.Machine.{Worth, literal, minus, fits, stored}
-use Rattle.quotient.specs.Quotient.{unit, quotient}
+use Rattle.quotient.specs.Quotient.{unit, quotient, BelowLimit}
 use Rattle.quotient.specs.Quotient.Laws.{quotient-range}
 use Rattle.quotient.specs.Prepared.{Inverse, product-of}
 use Rattle.quotient.proofs.divide_opposite.Statement.{statement}
@@ -21,7 +21,7 @@ module _ (s : tie.Start) where
   difference-is = minus (literal (pos (2 ^ 46))) (stored product-is w64 tt)
 
   -- and for each divisor for which the inverse stands
-  module _ (den : ℤ) (i : Inverse den (s .args .inverse)) (h : natAbs x < unit * natAbs den) where
+  module _ (den : ℤ) (i : Inverse den (s .args .inverse)) (h : BelowLimit x den) where
     result : Worth (shrZ (toZ w64 (ofZ w64 (pos (2 ^ 46) -ℤ toZ w64 (ofZ w64 (toZ w64 (ofZ w64 x) *ℤ toZ w64 (ofZ w64 (s .args .inverse))))))) (2 ^ 47)) (quotient (negℤ x) den) unit
     result =
         record {

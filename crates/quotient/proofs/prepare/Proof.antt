@@ -4,7 +4,7 @@ use native.Mathlib.Nat.{div-le-self}
 use lib.Signed.{quotZ}
 use Rattle.integers.proofs.Machine.{Worth, param, literal, also, plus, times, fits, stored}
 use Rattle.quotient.specs.Quotient.{unit}
-use Rattle.quotient.proofs.Magnitudes.{positive}
+use Rattle.quotient.proofs.Magnitudes.{divisor-is}
 use Rattle.quotient.proofs.Products.{inverseOf, prepared-at}
 use Rattle.quotient.proofs.prepare.Statement.{statement}
 use Rattle.quotient.proofs.prepare.Tie as tie
@@ -14,7 +14,7 @@ module _ (s : tie.Start) where
   d = natAbs (s .args .den)
 
   d-is : (0 < d) × (d ≤ 64512) × (s .args .den ≡ pos d)
-  d-is = positive (s .args .den) 64512 (s .pre .0) (s .pre .1)
+  d-is = divisor-is (s .args .den) 64512 (s .pre .0) (s .pre .1)
 
   den-is : Worth (toZ w64 (ofZ w64 (s .args .den))) (pos d) 64512
   den-is = also (param w64 (s .args .den) 64512 tt (d-is .1)) (d-is .2)

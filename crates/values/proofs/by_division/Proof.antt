@@ -1,6 +1,6 @@
 -- `values::by_division` meets its contract: below the limit by the division, from it on by the law of the limit. Assumes nothing.
 use Rattle.integers.proofs.Prelude.{_≡_, ap, ap₂, _∙_, _*_, arith, needs, ℤ, pos, natAbs, negℤ, _-ℤ_, _*ℤ_, w16, w64, toZ, ofZ}
-use Rattle.integers.proofs.Linear.{readℤ, about, abs-neg, above-abs, false-ltZ}
+use Rattle.integers.proofs.Linear.{readℤ, about, abs-neg, positive}
 use Rattle.integers.proofs.Machine.{Worth, param, literal, also, times, negative, fits, stored, read-back}
 use Rattle.quotient.specs.Quotient.{unit, mostDivisor, signed, quotient}
 use Rattle.model.specs.Limits.{mostNumerator}
@@ -22,7 +22,7 @@ module _ (s : tie.Start) where
   den-is = param w64 den mostDivisor tt (omega (arith, readℤ, s .pre .1, s .pre .2, about den))
 
   limit-is : Worth (pos unit *ℤ toZ w64 (ofZ w64 den)) (pos (unit * natAbs den)) (unit * mostDivisor)
-  limit-is = times (literal (pos unit)) (also den-is (above-abs den (false-ltZ den (pos 0) (omega (arith, readℤ, s .pre .1)))))
+  limit-is = times (literal (pos unit)) (also den-is (positive den (s .pre .1) .1))
 
   opposite : Worth (pos 0 -ℤ toZ w64 (ofZ w64 x)) (negℤ x) mostNumerator
   opposite = negative x-is
