@@ -138,6 +138,10 @@ module _ {A : Type 0} (P : A → Type 0) where
   each-at (x ∷ l) d h zero k = h .0
   each-at (x ∷ l) d h (suc i) k = each-at l d (h .1) i (omega arith)
 
+  pub each-in : (l : List A) (d : A) → ((i : ℕ) → i < length l → P (getD l i d)) → Each P l
+  each-in [] d h = tt
+  each-in (x ∷ l) d h = (h 0 (omega arith), each-in l d (λ i k. h (suc i) (omega arith)))
+
   pub each-weaker : (Q : A → Type 0) → ((x : A) → P x → Q x) → (l : List A) → Each P l → Each Q l
   each-weaker Q f [] h = tt
   each-weaker Q f (x ∷ l) h = (f x (h .0), each-weaker Q f l (h .1))

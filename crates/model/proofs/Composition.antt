@@ -36,7 +36,7 @@ sum-at w u h i = by (decLt i (length w))
         let b : bitAt u i ≡ 0 = List·getD-eq-default u 0 (omega arith) in
         List·getD-eq-default (sumOfWords w u) 0 (omega (arith, length-sum w u)) ∙ rw (a, b)
 
-zero-at : (n i : ℕ) → bitAt (zeroWord n) i ≡ 0
+pub zero-at : (n i : ℕ) → bitAt (zeroWord n) i ≡ 0
 zero-at zero i = refl
 zero-at (suc n) zero = refl
 zero-at (suc n) (suc i) = zero-at n i

@@ -35,6 +35,8 @@ pub mod DecoderCalls
 pub mod Courses
 pub mod BoundedCalls
 pub mod ReflectedCalls
+pub mod Reduction
+pub mod Encoding
 pub mod Promises
 pub mod AlistParts
 pub mod AlistSizes

@@ -99,6 +99,10 @@ verdictTold Verdict.Codeword = record { number = 0; place = 0 }
 verdictTold (Verdict.Odd j) = record { number = 17; place = j }
 verdictTold (Verdict.Refused c) = record { number = c; place = 0 }
 
+-- the test of a word, unless the cause c refuses it
+abbrev pub testedUnless : ℕ → Code → List ℕ → Outcome
+testedUnless c k w = accepted c (tested k w) (record { number = c; place = 0 })
+
 -- of a word for a code of n bits
 abbrev pub wordCauses : ℕ → List ℕ → List ℕ
 wordCauses n w = 12 if unequal w n ∷ 15 if some notBinary w ∷ []
@@ -106,8 +110,7 @@ wordCauses n w = 12 if unequal w n ∷ 15 if some notBinary w ∷ []
 unfoldable pub codewordTest : List ℕ → List ℕ → Outcome
 codewordTest b w =
     let k = codeOf b in
-    let c = firstOf (judge b ∷ wordCauses (k .bits) w) in
-    accepted c (tested k w) (record { number = c; place = 0 })
+    testedUnless (firstOf (judge b ∷ wordCauses (k .bits) w)) k w
 
 pub record Extended : Type 0 where
   pub outcome : Outcome
@@ -119,8 +122,7 @@ extensionCauses k w p = wordCauses (k .bits) w ++ (10 if short (variables k) p �
 unfoldable pub extension : List ℕ → List ℕ → List ℕ → Extended
 extension b w p =
     let k = codeOf b in
-    let c = firstOf (judge b ∷ extensionCauses k w p) in
-    let out = accepted c (tested k w) (record { number = c; place = 0 }) in
+    let out = testedUnless (firstOf (judge b ∷ extensionCauses k w p)) k w in
     record { outcome = out; point = accepted (out .number) (written (pointOf k w) p) p }
 
 -- ---- the decoder

@@ -32,6 +32,8 @@ pub mod WordClaims
 pub mod Told
 pub mod Order
 pub mod Composition
+pub mod Encoding
 pub mod DecoderClaims
 pub mod Promises
 pub mod AlistPromises
+pub mod EncodingPromises

@@ -33,6 +33,11 @@ mostDegree = 32
 abbrev pub mostNumber : ℕ
 mostNumber = 65535
 
+-- ---- document 02, L5
+-- "a given code of up to 256 bits"
+abbrev pub mostEncodedBits : ℕ
+mostEncodedBits = 256
+
 -- ---- 'One iteration'
 -- "cost weight W (1 to 65,535), ratio A (0 to 1,023 …)"
 abbrev pub mostWeight : ℕ

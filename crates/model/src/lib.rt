@@ -1,4 +1,4 @@
-// What callers hand over and what they are told, and the limits of document 01. The meaning of each, and every definition that a contract cites, stands
+// What callers hand over and what they are told, and the limits of documents 01 and 02. The meaning of each, and every definition that a contract cites, stands
 // in specs/. No functions.
 
 // ---- the limits, which specs/Limits.antt has under the same names
@@ -22,6 +22,8 @@ pub const MOST_RATIO: u32 = 1023;
 pub const MOST_ITERATIONS: u32 = 4000;
 
 pub const MOST_NUMBER: usize = 65535;
+
+pub const MOST_ENCODED_BITS: usize = 256;
 
 // ---- what is handed over and told
 
@@ -81,4 +83,10 @@ pub enum Decoding {
 pub struct Written {
     pub number: u32,
     pub bytes: usize,
+}
+
+// How long a message is, 0 when refused.
+pub struct Length {
+    pub number: u32,
+    pub length: usize,
 }
