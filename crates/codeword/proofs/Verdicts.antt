@@ -63,7 +63,7 @@ module _ (b w : List ℕ) where
   pub test-refused : (c : ℕ) → causes [] ≡ c → (c ≡ 0 → ⊥) → Tested (Verdict.Refused c)
   unfolding codewordTest
   test-refused zero e h = absurd (h refl)
-  test-refused (suc c) e h = (test-call b w _ (rw e), word-refuses b w [] (listed _ [] refl) c e)
+  test-refused (suc c) e h = (test-call b w _ (rw e), word-refuses b w [] [] none-listed none-listed c e)
 
   pub test-passed : (v : Verdict) → verdictKind v → causes [] ≡ 0 → verdictTold v ≡ tested (codeOf b) w → Tested v
   unfolding codewordTest
@@ -77,7 +77,7 @@ module _ (b w : List ℕ) where
     pub extend-refused : (c : ℕ) → causes (no-room b p) ≡ c → (c ≡ 0 → ⊥) → Extends (Verdict.Refused c) p
     unfolding extension
     extend-refused zero e h = absurd (h refl)
-    extend-refused (suc c) e h = (extension-call b w p _ (rw e), word-refuses b w (no-room b p) (listed _ ((10, short (variables (codeOf b)) p) ∷ []) refl) c e)
+    extend-refused (suc c) e h = (extension-call b w p _ (rw e), word-refuses b w [] (no-room b p) none-listed (room-listed b p) c e)
 
     pub extend-passed : (v : Verdict) (q : List ℕ) → verdictKind v → causes (no-room b p) ≡ 0 → verdictTold v ≡ tested (codeOf b) w
         → q ≡ accepted (verdictTold v .number) (written (pointOf (codeOf b) w) p) p → Extends v q

@@ -43,3 +43,4 @@ pub mod AlistSizes
 pub mod AlistCauses
 pub mod AlistText
 pub mod AlistPromises
+pub mod EncodingPromises

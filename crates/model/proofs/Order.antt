@@ -1,6 +1,6 @@
 -- The number of a call is that of its first cause, and one of its entry's own. Assumes nothing.
-use Rattle.integers.proofs.Prelude.{_≡_, refl, sym, subst, _∙_, Bool, true, false, not, cond, List, [], _∷_, _++_, ℕ, zero, suc, _≤_, _<_, arith, leb-true}
-use Rattle.integers.proofs.Prelude.{le-leb, eqb-true, eqb, ltb, leb, ℤ, length, getD, drop}
+use Rattle.integers.proofs.Prelude.{_≡_, refl, sym, subst, _∙_, Bool, true, false, not, cond, _||_, List, [], _∷_, _++_, ℕ, zero, suc, _≤_, _<_, arith, leb-true}
+use Rattle.integers.proofs.Prelude.{le-leb, eqb-true, eqb-false, not-true, eqb, ltb, leb, ℤ, length, getD, drop}
 use Rattle.lists.specs.Entries.{every, some}
 use Rattle.lists.proofs.Tests.{and-left, and-right}
 use Rattle.lists.proofs.Entries.{some-every}
@@ -13,7 +13,7 @@ use Rattle.model.specs.Records.{judgeHeader, judgeIndices, judgeCheck, j
 use Rattle.model.specs.Words.{wordOf, firstUndecided, firstOdd, Outcome, tested, outcome}
 use Rattle.model.specs.Order.{oddCauses, runCauses, rank, follows, Follows, Ordered, oneToNine}
 use Rattle.model.specs.Told.{Refuses}
-use Rattle.model.proofs.Causes.{first-in, first-end, first-joined}
+use Rattle.model.proofs.Causes.{or-false, first-in, first-end, first-joined}
 
 -- ---- numbers of a table
 -- c is 0 or in the table
@@ -103,11 +103,13 @@ ordered-first l table number h e = record {
 pub ordered : (l table : List ℕ) (number : ℕ) → Listed table l → number ≡ firstOf l → Ordered l table number
 ordered l table number h = ordered-first l table number (λ c. number-listed l table c h)
 
--- by a table of numbers up to 15, what is not 0 is a refusal's number
-pub refuses : (l table : List ℕ) (c : ℕ) → every (λ y. leb y 15) table ≡ true → Ordered l table (suc c) → Refuses (suc c)
-refuses l table c small o =
-    let x = some-every (eqb (suc c)) (λ y. leb y 15) table (o .refused c refl .listed) small in
-    (omega arith, omega (arith, eqb-true (suc c) (x .0) (x .1), leb-true (x .0) 15 (x .2)))
+-- a number from a table without outcomes, which is not 0, is a refusal's
+pub refuses : (l table : List ℕ) (c : ℕ) → every (λ y. not (eqb y 16 || eqb y 17)) table ≡ true → Ordered l table (suc c) → Refuses (suc c)
+refuses l table c none o =
+    let x = some-every (eqb (suc c)) (λ y. not (eqb y 16 || eqb y 17)) table (o .refused c refl .listed) none in
+    let e = eqb-true (suc c) (x .0) (x .1) in
+    let f = or-false (eqb (x .0) 16) (eqb (x .0) 17) (not-true _ (x .2)) in
+    (omega arith, omega (arith, e, eqb-false (x .0) 16 (f .0)), omega (arith, e, eqb-false (x .0) 17 (f .1)))
 
 -- ---- the document's order
 raised : (low high : ℕ) (l : List ℕ) → low ≤ high → follows high l ≡ true → follows low l ≡ true

@@ -176,8 +176,8 @@ module _ (b w : List ℕ) where
             (listed T causes refl) (word-order k w (judge b ∷ wordCauses (k .bits) w));
         follows = follow (whole b ++ causes) refl;
         codeword = test-exactly b w;
-        odd = answer-odd b w [] none-listed;
-        place = answer-place b w [] none-listed;
+        odd = answer-odd b w [] [] none-listed none-listed;
+        place = answer-place b w [] [] none-listed none-listed;
         sum = λ h u g.
             let x = test-exactly b w .0 h in
             test-is b (sumOfWords w u) (x .0) (sum-codeword k w u (x .1) (test-exactly b u .0 g .1));
@@ -200,8 +200,8 @@ module _ (b w : List ℕ) where
           filled = λ h. rw h;
           point = λ h. subst (PointOf k w) (point-taken b w p h) (point-claims k (sound h) w (took h .2));
           only = λ h x q f. points k (sound h) .only w x q f ∙ point-taken b w p h;
-          odd = answer-odd b w (no-room b p) (room-listed b p);
-          place = answer-place b w (no-room b p) (room-listed b p);
+          odd = answer-odd b w [] (no-room b p) none-listed (room-listed b p);
+          place = answer-place b w [] (no-room b p) none-listed (room-listed b p);
           untouched = stays _ (written (pointOf k w) p) p;
           extends = λ j. extends k (Accepted.accepted b j);
           sum = λ h u q c other g out space d third.

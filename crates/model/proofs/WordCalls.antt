@@ -4,13 +4,13 @@ use mathlib.Core.Logic.{_↔_}
 use Rattle.lists.specs.Tabulated.{written}
 use Rattle.lists.specs.Entries.{some}
 use Rattle.lists.proofs.Tabulated.{take-written}
-use Rattle.model.specs.Causes.{_if_, firstOf, short, accepted}
+use Rattle.model.specs.Causes.{_if_, firstOf, short}
 use Rattle.model.specs.Code.{variables}
 use Rattle.model.specs.Records.{codeOf, judge, recordCauses}
 use Rattle.model.specs.Splitting.{systemOf}
 use Rattle.model.specs.Words.{Outcome, tested}
-use Rattle.model.specs.Points.{Codeword, pointOf}
-use Rattle.model.specs.Calls.{unequal, notBinary, wordCauses, codewordTest, Extended, extension}
+use Rattle.model.specs.Points.{Bits, Codeword, pointOf}
+use Rattle.model.specs.Calls.{unequal, notBinary, testedUnless, wordCauses, codewordTest, Extended, extension}
 use Rattle.model.specs.Order.{Ordered, oneToNine}
 use Rattle.model.specs.Told.{Refuses}
 use Rattle.model.specs.WordClaims.{Tested}
@@ -20,38 +20,45 @@ use Rattle.model.proofs.Order.{Listed, listed, both, refuses, after-rec
 use Rattle.model.proofs.WordClaims.{tested-is, test-claims, word-bits, bits-pass}
 use Rattle.model.proofs.Points.{point}
 
--- ---- after the causes of the code, of the word and l, the word is tested
-module _ (b w l : List ℕ) (known : Listed (oneToNine ++ (10 ∷ 12 ∷ 15 ∷ [])) l) where
-  abbrev word-causes : List ℕ
-  word-causes = judge b ∷ (wordCauses (codeOf b .bits) w ++ l)
+-- ---- after the causes of the code, those of before, of the word and of after, the word is tested
+abbrev pub numbers : List ℕ
+numbers = oneToNine ++ (10 ∷ 12 ∷ 15 ∷ 20 ∷ [])
+
+module _ (b w before after : List ℕ) (listed-before : Listed numbers before) (listed-after : Listed numbers after) where
+  abbrev causes : List ℕ
+  causes = before ++ (wordCauses (codeOf b .bits) w ++ after)
 
   -- the number of a refusal is a refusal's
-  pub word-refuses : (c : ℕ) → firstOf word-causes ≡ suc c → Refuses (suc c)
+  pub word-refuses : (c : ℕ) → firstOf (judge b ∷ causes) ≡ suc c → Refuses (suc c)
   word-refuses c e =
-      let T = oneToNine ++ (10 ∷ 12 ∷ 15 ∷ []) in
-      refuses (recordCauses b ++ (wordCauses (codeOf b .bits) w ++ l)) T c refl
-      (subst (Ordered (recordCauses b ++ (wordCauses (codeOf b .bits) w ++ l)) T) e
-      (after-records (10 ∷ 12 ∷ 15 ∷ []) b (wordCauses (codeOf b .bits) w ++ l) (firstOf word-causes)
-      (both T (wordCauses (codeOf b .bits) w) l (listed T ((12, unequal w (codeOf b .bits)) ∷ (15, some notBinary w) ∷ []) refl) known) refl))
+      let word = listed numbers ((12, unequal w (codeOf b .bits)) ∷ (15, some notBinary w) ∷ []) refl in
+      let all = both numbers before _ listed-before (both numbers (wordCauses (codeOf b .bits) w) after word listed-after) in
+      refuses (recordCauses b ++ causes) numbers c refl
+      (subst (Ordered (recordCauses b ++ causes) numbers) e (after-records (10 ∷ 12 ∷ 15 ∷ 20 ∷ []) b causes (firstOf (judge b ∷ causes)) all refl))
 
   -- where none of the causes holds
-  module _ (h : firstOf word-causes ≡ 0) where
-    after-code : (judge b ≡ 0) × (firstOf (wordCauses (codeOf b .bits) w ++ l) ≡ 0)
-    after-code = by (judge b) refl h
-      where
-        by : (j : ℕ) → judge b ≡ j → firstOf (j ∷ (wordCauses (codeOf b .bits) w ++ l)) ≡ 0 → (judge b ≡ 0) × (firstOf (wordCauses (codeOf b .bits) w ++ l) ≡ 0)
-        by zero e h = (e, h)
-        by (suc j) e h = absurd (omega arith)
+  pub record Passed : Type 0 where
+    pub code : judge b ≡ 0
+    pub first : firstOf before ≡ 0
+    pub word : Bits (codeOf b .bits) w
+    pub last : firstOf after ≡ 0
 
-    after-word : (firstOf (wordCauses (codeOf b .bits) w) ≡ 0) × (firstOf l ≡ 0)
-    after-word = none-joined (wordCauses (codeOf b .bits) w) l .0 (after-code .1)
+  passed : firstOf (judge b ∷ causes) ≡ 0 → Passed
+  passed h = by (judge b) refl h
+    where
+      by : (j : ℕ) → judge b ≡ j → firstOf (j ∷ causes) ≡ 0 → Passed
+      by zero e h =
+          let x = none-joined before (wordCauses (codeOf b .bits) w ++ after) .0 h in
+          let y = none-joined (wordCauses (codeOf b .bits) w) after .0 (x .1) in
+          record { code = e; first = x .0; word = word-bits (codeOf b .bits) w (y .0); last = y .1 }
+      by (suc j) e h = absurd (omega arith)
 
-    word-tested : Tested (codeOf b) w
-    word-tested = test-claims (codeOf b) w (word-bits (codeOf b .bits) w (after-word .0))
+  word-tested : firstOf (judge b ∷ causes) ≡ 0 → Tested (codeOf b) w
+  word-tested h = test-claims (codeOf b) w (passed h .word)
 
   -- and a codeword of an accepted code passes them
-  codeword-passes : judge b ≡ 0 → Codeword (codeOf b) w → firstOf word-causes ≡ firstOf l
-  codeword-passes j c = rw j (bits-pass (codeOf b .bits) w l (c .word))
+  codeword-passes : judge b ≡ 0 → firstOf before ≡ 0 → firstOf after ≡ 0 → Codeword (codeOf b) w → firstOf (judge b ∷ causes) ≡ 0
+  codeword-passes j e f c = rw j (none-joined before (wordCauses (codeOf b .bits) w ++ after) .1 (e, bits-pass (codeOf b .bits) w after (c .word) ∙ f))
 
   codeword-tested : Codeword (codeOf b) w → tested (codeOf b) w ≡ record { number = 0; place = 0 }
   codeword-tested c =
@@ -60,22 +67,22 @@ module _ (b w l : List ℕ) (known : Listed (oneToNine ++ (10 ∷ 12 ∷ 15 ∷ 
 
   -- the answer
   abbrev answer : Outcome
-  answer = accepted (firstOf word-causes) (tested (codeOf b) w) (record { number = firstOf word-causes; place = 0 })
+  answer = testedUnless (firstOf (judge b ∷ causes)) (codeOf b) w
 
-  answer-is : (P : Outcome → Type 0) → ((c : ℕ) → Refuses (suc c) → P (record { number = suc c; place = 0 })) → (firstOf word-causes ≡ 0 → P (tested (codeOf b) w)) → P answer
-  answer-is P refused tests = by (firstOf word-causes) refl
+  answer-is : (P : Outcome → Type 0) → ((c : ℕ) → Refuses (suc c) → P (record { number = suc c; place = 0 }))
+      → (firstOf (judge b ∷ causes) ≡ 0 → P (tested (codeOf b) w)) → P answer
+  answer-is P refused tests = by (firstOf (judge b ∷ causes)) refl
     where
-      by : (c : ℕ) → firstOf word-causes ≡ c → P (accepted c (tested (codeOf b) w) (record { number = c; place = 0 }))
+      by : (c : ℕ) → firstOf (judge b ∷ causes) ≡ c → P (testedUnless c (codeOf b) w)
       by zero e = tests e
       by (suc c) e = refused c (word-refuses c e)
 
-  answer-codeword : answer .number ≡ 0 → (judge b ≡ 0) × (firstOf l ≡ 0) × Codeword (codeOf b) w
+  pub answer-codeword : answer .number ≡ 0 → Passed × Codeword (codeOf b) w
   answer-codeword =
-      answer-is (λ x. x .number ≡ 0 → (judge b ≡ 0) × (firstOf l ≡ 0) × Codeword (codeOf b) w) (λ c r h. absurd (omega arith))
-      (λ e h. (after-code e .0, after-word e .1, word-tested e .codeword .0 h))
+      answer-is (λ x. x .number ≡ 0 → Passed × Codeword (codeOf b) w) (λ c r h. absurd (omega arith)) (λ e h. (passed e, word-tested e .codeword .0 h))
 
-  codeword-answer : judge b ≡ 0 → firstOf l ≡ 0 → Codeword (codeOf b) w → answer ≡ record { number = 0; place = 0 }
-  codeword-answer j e c = rw (codeword-passes j c, e) (codeword-tested c)
+  pub codeword-answer : judge b ≡ 0 → firstOf before ≡ 0 → firstOf after ≡ 0 → Codeword (codeOf b) w → answer ≡ record { number = 0; place = 0 }
+  codeword-answer j e f c = rw (codeword-passes j e f c) (codeword-tested c)
 
   pub answer-odd : answer .number ≡ 17 → (answer ≡ tested (codeOf b) w) × Tested (codeOf b) w
   answer-odd =
@@ -87,19 +94,19 @@ module _ (b w l : List ℕ) (known : Listed (oneToNine ++ (10 ∷ 12 ∷ 15 ∷ 
       (λ e. tested-is (codeOf b) w (λ x. (x .number ≡ 17 → ⊥) → x .place ≡ 0) (λ k h. absurd (h refl)) (λ k h. refl))
 
 -- ---- the codeword test
-pub none-listed : Listed (oneToNine ++ (10 ∷ 12 ∷ 15 ∷ [])) []
-none-listed = listed (oneToNine ++ (10 ∷ 12 ∷ 15 ∷ [])) [] refl
+pub none-listed : Listed numbers []
+none-listed = listed numbers [] refl
 
 module _ (b w : List ℕ) where
   pub test-is : judge b ≡ 0 → Codeword (codeOf b) w → codewordTest b w ≡ record { number = 0; place = 0 }
   unfolding codewordTest
-  test-is j c = codeword-answer b w [] none-listed j refl c
+  test-is j c = codeword-answer b w [] [] none-listed none-listed j refl refl c
 
   pub test-exactly : (codewordTest b w .number ≡ 0) ↔ ((judge b ≡ 0) × Codeword (codeOf b) w)
   unfolding codewordTest
   test-exactly = (
-    λ h. (let x = answer-codeword b w [] none-listed h in (x .0, x .2)),
-    λ c. ap (λ (x : Outcome). x .number) (codeword-answer b w [] none-listed (c .0) refl (c .1)),
+    λ h. (let x = answer-codeword b w [] [] none-listed none-listed h in (x .0 .code, x .1)),
+    λ c. ap (λ (x : Outcome). x .number) (test-is (c .0) (c .1)),
   )
 
 -- ---- the extension
@@ -107,8 +114,8 @@ module _ (b p : List ℕ) where
   abbrev pub no-room : List ℕ
   no-room = 10 if short (variables (codeOf b)) p ∷ []
 
-  pub room-listed : Listed (oneToNine ++ (10 ∷ 12 ∷ 15 ∷ [])) no-room
-  room-listed = listed (oneToNine ++ (10 ∷ 12 ∷ 15 ∷ [])) ((10, short (variables (codeOf b)) p) ∷ []) refl
+  pub room-listed : Listed numbers no-room
+  room-listed = listed numbers ((10, short (variables (codeOf b)) p) ∷ []) refl
 
   room : firstOf no-room ≡ 0 → variables (codeOf b) ≤ length p
   room e = ltb-false (length p) (variables (codeOf b)) (unless 9 (short (variables (codeOf b)) p) (clear no-room e .0))
@@ -120,13 +127,13 @@ module _ (b w p : List ℕ) where
   pub extension-is : judge b ≡ 0 → variables (codeOf b) ≤ length p → Codeword (codeOf b) w
       → extension b w p ≡ record { outcome = record { number = 0; place = 0 }; point = written (pointOf (codeOf b) w) p }
   unfolding extension
-  extension-is j h c = rw (codeword-answer b w (no-room b p) (room-listed b p) j (no-cause b p h) c)
+  extension-is j h c = rw (codeword-answer b w [] (no-room b p) none-listed (room-listed b p) j refl (no-cause b p h) c)
 
   pub extension-exactly : (extension b w p .outcome .number ≡ 0) ↔ ((judge b ≡ 0) × (variables (codeOf b) ≤ length p) × Codeword (codeOf b) w)
   unfolding extension
   extension-exactly = (
-    λ h. (let x = answer-codeword b w (no-room b p) (room-listed b p) h in (x .0, room b p (x .1), x .2)),
-    λ c. ap (λ (x : Outcome). x .number) (codeword-answer b w (no-room b p) (room-listed b p) (c .0) (no-cause b p (c .1)) (c .2)),
+    λ h. (let x = answer-codeword b w [] (no-room b p) none-listed (room-listed b p) h in (x .0 .code, room b p (x .0 .last), x .1)),
+    λ c. ap (λ (x : Extended). x .outcome .number) (extension-is (c .0) (c .1) (c .2)),
   )
 
   -- the entries of the variables, of what was written

@@ -18,7 +18,7 @@ use Rattle.model.specs.Reflection.{sumOfWords}
 use Rattle.model.specs.Calls.{codewordTest, Lists, Decoded, noRoom, decoderCause, decoder, Costs, reflector}
 use Rattle.model.specs.Order.{oddCauses, Follows, Ordered, oneToNine}
 use Rattle.model.specs.WordClaims.{Tested}
-use Rattle.model.specs.DecoderClaims.{ReflectedCalls}
+use Rattle.model.specs.DecoderClaims.{Small, ReflectedCalls}
 use Rattle.model.specs.Encoding.{messageLength, encoded, messageOf, part, encodedFrames, sizeCauses, messageSize, Encoding}
 use Rattle.model.specs.Encoding.{encoderCauses, encoder, framesCauses, framesEncoder, Recovered, recoveryCauses, recovery, Encodes}
 
@@ -62,11 +62,12 @@ pub record EncoderCall (b m old : List ℕ) (a : Encoding) : Type 0 where
       → (out : List ℕ) → codeOf b .bits ≤ length out
       → encoder b (sumOfWords m l) out
       ≡ record { number = 0; words = written (sumOfWords (take (codeOf b .bits) (a .words)) (take (codeOf b .bits) (c .words))) out }
-  -- and costs that the decoder takes may be reflected by it: the reflector, with a list that has the room, takes the word, and where the first call of the
-  -- decoder gave d, one with the costs that the reflector wrote and lists that have the room, which gave e, is its reflection
-  pub reflected : a .number ≡ 0 → (o : Settings) (costs : List ℤ) (l : Lists) → decoderCause b o costs l ≡ 0 → (d : Decoded) → d ≡ decoder b o costs l
-      → (out : List ℤ) → length costs ≤ length out → (r : Costs) → r ≡ reflector costs (take (codeOf b .bits) (a .words)) out
-      → (r .number ≡ 0) × ((n : Lists) → noRoom (codeOf b) n ≡ false → (e : Decoded) → e ≡ decoder b o (take (length costs) (r .costs)) n
+  -- and the costs of a frame may be reflected by it: the reflector, with a list that has the room, takes them; and where the decoder took them and gave d, a call
+  -- with the costs that the reflector wrote and lists that have the room, which gave e, is the reflection of that call
+  pub reflected : a .number ≡ 0 → (costs : List ℤ) → Small costs → length costs ≡ codeOf b .bits → (out : List ℤ) → length costs ≤ length out
+      → (r : Costs) → r ≡ reflector costs (take (codeOf b .bits) (a .words)) out
+      → (r .number ≡ 0) × ((o : Settings) (l : Lists) → decoderCause b o costs l ≡ 0 → (d : Decoded) → d ≡ decoder b o costs l
+          → (n : Lists) → noRoom (codeOf b) n ≡ false → (e : Decoded) → e ≡ decoder b o (take (length costs) (r .costs)) n
           → ReflectedCalls b o costs (take (codeOf b .bits) (a .words)) n d e)
 
 -- ---- many frames: a is the number and the list that was old

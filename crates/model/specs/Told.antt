@@ -1,6 +1,7 @@
 -- Document 01, 'The shape each place takes': "a definition gives this paper's number and values for every case of the enum" (`..Told` in Calls). An answer is
 -- determined by what it tells where the number of a refusal is a refusal's. Definitions and statements; the proofs are in proofs/Told.antt.
 use mathlib.Core.Path.{_≡_}
+use mathlib.Core.Logic.{_≢_}
 use Prim.Native.Nat.{ℕ, _≤_}
 use Rattle.model.specs.declared.Reading.{Reading}
 use Rattle.model.specs.declared.Verdict.{Verdict}
@@ -9,7 +10,7 @@ use Rattle.model.specs.Calls.{readingTold, verdictTold, decodingTold}
 
 -- not 0, and not 16 or 17, which are outcomes
 abbrev pub Refuses : ℕ → Type 0
-Refuses c = (1 ≤ c) × (c ≤ 15)
+Refuses c = (1 ≤ c) × (c ≢ 16) × (c ≢ 17)
 
 abbrev pub readingKind : Reading → Type 0
 readingKind (Reading.Code n m t) = Unit {0}
