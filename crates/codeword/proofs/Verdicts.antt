@@ -2,8 +2,7 @@
 use Rattle.integers.proofs.Prelude.{_≡_, refl, sym, _∙_, List, [], _∷_, _++_, ℕ, zero, suc, _≤_, _<_, arith, lt-ltb, le-ltb, eqb-true, not-false, length}
 use Rattle.lists.specs.Tabulated.{written}
 use Rattle.model.specs.declared.Verdict.{Verdict}
-use Rattle.model.specs.Causes.{_if_, firstOf, short, accepted}
-use Rattle.model.specs.Code.{variables}
+use Rattle.model.specs.Causes.{firstOf, accepted}
 use Rattle.model.specs.Records.{codeOf, judge}
 use Rattle.model.specs.Words.{firstOdd, tested}
 use Rattle.model.specs.Points.{pointOf}
@@ -11,8 +10,7 @@ use Rattle.model.specs.Calls.{verdictTold, wordCauses, codewordTest, extension}
 use Rattle.model.specs.Told.{verdictKind}
 use Rattle.model.specs.Promises.{TestCall, ExtensionCall}
 use Rattle.model.proofs.Causes.{first-in, clear, unless}
-use Rattle.model.proofs.Order.{listed}
-use Rattle.model.proofs.WordCalls.{word-refuses}
+use Rattle.model.proofs.WordCalls.{none-listed, word-refuses, no-room, room-listed}
 use Rattle.model.proofs.Promises.{test-call, extension-call}
 
 -- ---- the causes of both calls: the code, the word, then l
@@ -23,10 +21,6 @@ pub word-long : (n : ℕ) (w : List ℕ) → word-cause n w ≡ 0 → length w �
 word-long n w h =
     let x = clear (wordCauses n w) h in
     eqb-true (length w) n (not-false _ (unless 11 _ (x .0)))
-
--- of the extension: no room for the point
-abbrev pub no-room : List ℕ → List ℕ → List ℕ
-no-room b p = 10 if short (variables (codeOf b)) p ∷ []
 
 module _ (b w : List ℕ) where
   abbrev pub causes : List ℕ → ℕ

@@ -20,7 +20,7 @@ use Rattle.model.specs.Reflection.{reflect, sumOfWords}
 use Rattle.model.specs.Calls.{unequal, notBinary, wordCauses, Lists, Decoded, noRoom, decoderCause, decoder, Costs, reflector}
 use Rattle.model.specs.Order.{oddCauses, oneToNine}
 use Rattle.model.specs.DecoderClaims.{Small, ReflectedCalls}
-use Rattle.model.specs.Encoding.{reduced, messageLength, encoded, messageOf, part, encodedFrames, sizeCauses, messageSize, Encoding, messageCauses}
+use Rattle.model.specs.Encoding.{reduced, messageLength, encoded, messageOf, part, framesIn, encodedFrames, sizeCauses, messageSize, Encoding, messageCauses}
 use Rattle.model.specs.Encoding.{encoderCauses, encoder, framesCauses, framesEncoder, Recovered, recoveryCauses, recovery, Encodes}
 use Rattle.model.specs.EncodingPromises.{Encodable, LengthCall, EncoderCall, FramesCall, RecoveryCall}
 use Rattle.model.proofs.Causes.{stays, clear, unless}
@@ -226,13 +226,13 @@ module _ (b : List ℕ) where
 
   -- ---- many frames
   frames-long : (f : ℕ) (ms : List ℕ) → length (encodedFrames k f ms) ≡ f * n
-  unfolding encodedFrames
+  unfolding framesIn
   frames-long zero ms = omega arith
   frames-long (suc f) ms = length-append (encodedFrames k f ms) _ ∙ omega (arith, frames-long f ms, word-long (part L f ms))
 
   -- a frame's part
   frame-part : (f : ℕ) (ms rest : List ℕ) (g : ℕ) → g < f → part n g (encodedFrames k f ms ++ rest) ≡ encoded k (part L g ms)
-  unfolding encodedFrames
+  unfolding framesIn
   frame-part zero ms rest g h = absurd (omega arith)
   frame-part (suc f) ms rest g h =
       ap (part n g) (append-assoc (encodedFrames k f ms) w rest) ∙ by (decLt g f) (frame-part f ms (w ++ rest) g)
@@ -265,7 +265,7 @@ module _ (b : List ℕ) where
 
     -- one frame
     single : f ≡ 1 → framesEncoder b f ms old ≡ encoder b ms old
-    unfolding framesEncoder encoder encodedFrames
+    unfolding framesEncoder encoder framesIn
     single e =
         let one : (x : ℕ) → 1 * x ≡ x = λ x. omega arith in
         rw (e, one L, one n) (by (firstOf (judge b ∷ encoderCauses k ms old)) refl)

@@ -90,10 +90,13 @@ messageOf k w = messageIn (reduced k) w
 abbrev pub part : ℕ → ℕ → List ℕ → List ℕ
 part size f l = take size (drop (f * size) l)
 
--- the words of so many messages, one behind the other as they are
-unfoldable pub encodedFrames : Code → ℕ → List ℕ → List ℕ
-encodedFrames k zero ms = []
-encodedFrames k (suc f) ms = encodedFrames k f ms ++ encoded k (part (messageLength k) f ms)
+-- the words of so many messages, in the same order
+unfoldable pub framesIn : List Column → ℕ → List ℕ → List ℕ
+framesIn cs zero ms = []
+framesIn cs (suc f) ms = framesIn cs f ms ++ encodedIn cs (part (others cs) f ms)
+
+abbrev pub encodedFrames : Code → ℕ → List ℕ → List ℕ
+encodedFrames k f ms = framesIn (reduced k) f ms
 
 -- ---- calls
 -- "20 for more than 256 bits, after 8"

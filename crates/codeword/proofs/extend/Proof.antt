@@ -4,7 +4,8 @@ use Rattle.model.specs.declared.Verdict.{Verdict}
 use Rattle.model.specs.Code.{variables}
 use Rattle.model.specs.Records.{codeOf}
 use Rattle.reader.proofs.Answers.{Read, told-code, told-refused}
-use Rattle.codeword.proofs.Verdicts.{word-cause, word-long, no-room, causes, by-code, by-word, by-rest, odd-told, even-told, extend-refused, extend-passed}
+use Rattle.model.proofs.WordCalls.{no-room}
+use Rattle.codeword.proofs.Verdicts.{word-cause, word-long, causes, by-code, by-word, by-rest, odd-told, even-told, extend-refused, extend-passed}
 use Rattle.codeword.proofs.extend.Statement.{statement}
 use Rattle.codeword.proofs.extend.Tie as tie
 

@@ -1,0 +1,4 @@
+pub mod Table
+pub mod Clearing
+pub mod Messages
+pub mod Words
