@@ -16,9 +16,9 @@
  *   below are always enough.
  *
  * Answers
- *   Every call answers with a number: 0, or one of enum widagbe_number. A call refused with 1 to 15, 18 or 19 leaves every list
+ *   Every call answers with a number: 0, or one of enum widagbe_number. A call refused with 1 to 15 or 18 to 20 leaves every list
  *   as it was, and all other fields of its answer are 0. Where more than one cause holds, the first in this order is told: 18,
- *   19, those of the records (1 to 6 as they are read, then 9, 7, 8), then 11, 12, 13, 14, 15, 10, and last 16 and 17.
+ *   19, those of the records (1 to 6 as they are read, then 9, 7, 8), then 20, 11, 12, 13, 14, 15, 10, and last 16 and 17.
  *
  * What the caller owes
  *   - No pointer is null, also where the length is 0; each is aligned for its type.
@@ -26,8 +26,8 @@
  *   - A list that a call fills shares no memory with any other list of that call. Lists that are only read may overlap.
  *   - Nothing else writes to any list of a call, or reads a list that it fills, until the call returns.
  *   No call keeps a pointer, allocates memory or has state of its own: calls in different threads do not disturb each other.
- *   A call needs less than 16 kilobytes of stack, but widagbe_import, which needs less than 272, and widagbe_export and
- *   widagbe_export_size, which need less than 56.
+ *   A call needs less than 16 kilobytes of stack, but widagbe_import, which needs less than 272, widagbe_export and
+ *   widagbe_export_size, which need less than 56, and the functions of the encoder, which need less than 80.
  */
 #ifndef WIDAGBE_H
 #define WIDAGBE_H
@@ -47,6 +47,9 @@ extern "C" {
 
 /* The most iterations that a run may be asked for. */
 #define WIDAGBE_MAX_ITERATIONS 4000
+
+/* The most bits of a code that the encoder takes. */
+#define WIDAGBE_MAX_ENCODED_BITS 256
 
 enum widagbe_number {
     WIDAGBE_OK = 0,
@@ -68,7 +71,8 @@ enum widagbe_number {
     WIDAGBE_UNDECIDED = 16,       /* the run left a bit undecided */
     WIDAGBE_NOT_A_CODEWORD = 17,  /* a check has an odd sum */
     WIDAGBE_NOT_ALIST = 18,       /* a text that is no alist file */
-    WIDAGBE_PLACES_DIFFER = 19    /* columns and rows of a text do not name the same places, each equally often */
+    WIDAGBE_PLACES_DIFFER = 19,   /* columns and rows of a text do not name the same places, each equally often */
+    WIDAGBE_TOO_LONG = 20         /* a code of more than 256 bits, for the encoder */
 };
 
 /*
@@ -221,6 +225,58 @@ widagbe_word_answer widagbe_test(const uint8_t *code, size_t code_len,
 widagbe_word_answer widagbe_extend(const uint8_t *code, size_t code_len,
                                    const uint8_t *word, size_t word_len,
                                    uint8_t *point, size_t point_len);
+
+/*
+ * ---- The encoder
+ *
+ * For codes of at most 256 bits (WIDAGBE_MAX_ENCODED_BITS; else 20). The bits are the columns of the check matrix. A bit is a
+ * pivot where its column is no sum modulo 2 of earlier columns. A message has one entry 0 or 1 for each of the other bits, in
+ * rising order; its word has these entries there, and at the pivots what makes it a codeword. Checks may depend on each other.
+ * Every codeword is the word of exactly one message, and the sum of two messages has the sum of their words.
+ */
+
+/* number 0: how many entries a message of the code has, n less the pivots; it may be 0. */
+typedef struct {
+    uint32_t number;
+    size_t length;
+} widagbe_length_answer;
+
+/*
+ * Tells how long a message is.
+ * Numbers: 0 to 9, 20.
+ */
+widagbe_length_answer widagbe_message_length(const uint8_t *code, size_t code_len);
+
+/*
+ * Writes the word of a message.
+ *   message  as many entries as widagbe_message_length tells, each 0 or 1
+ *   word     n entries
+ * Numbers: 0 to 10, 12, 15, 20.
+ */
+uint32_t widagbe_encode(const uint8_t *code, size_t code_len,
+                        const uint8_t *message, size_t message_len,
+                        uint8_t *word, size_t word_len);
+
+/*
+ * Writes the words of many messages of one code. Each is what widagbe_encode writes; the check matrix is reduced once for all.
+ *   frames    how many, any number
+ *   messages  frames messages, one behind the other
+ *   words     frames times n entries, the words one behind the other
+ * Numbers: 0 to 10, 12, 15, 20.
+ */
+uint32_t widagbe_encode_frames(const uint8_t *code, size_t code_len, size_t frames,
+                               const uint8_t *messages, size_t messages_len,
+                               uint8_t *words, size_t words_len);
+
+/*
+ * Writes the message of a codeword. 17 leaves the message as it was.
+ *   word     n entries
+ *   message  as many entries as widagbe_message_length tells
+ * Numbers: 0 to 10, 12, 15, 17, 20.
+ */
+widagbe_word_answer widagbe_read_message(const uint8_t *code, size_t code_len,
+                                         const uint8_t *word, size_t word_len,
+                                         uint8_t *message, size_t message_len);
 
 /*
  * ---- The decoder

@@ -28,10 +28,15 @@ module _ {A : Type 0} where
       let d : (r : List A) → drop (length l) r ≡ drop (length l - length k) (drop (length k) r) = λ r. sym (drop-drop (length l - length k) (length k) r ∙ ap (λ (n : ℕ). drop n r) e) in
       ap (_++_ l) (d (written k old) ∙ ap (drop (length l - length k)) (drop-append-seam k (drop (length k) old)) ∙ sym (d old))
 
-  -- k behind l, written to what was left of the list, which then comes back
+  -- k behind l: in a part of its own length,
+  pub written-part : (l k old s : List A) → s ≡ written l old → take (length l) s ++ written k (drop (length l) s) ≡ written (l ++ k) old
+  written-part l k old s e =
+      rw (e, take-append-seam l (drop (length l) old), drop-append-seam l (drop (length l) old), drop-drop (length k) (length l) old, length-append l k)
+      (sym (append-assoc l k (drop (length l + length k) old)))
+
+  -- or written to all that was left of the list, which then comes back
   pub written-more : (l k q old s : List A) → s ≡ written l old → q ≡ written k (drop (length l) s)
       → take (length l) s ++ (q ++ drop (length s - length l) (drop (length l) s)) ≡ written (l ++ k) old
   written-more l k q old s e w =
       let none : drop (length s - length l) (drop (length l) s) ≡ [] = drop-of-length-le (drop (length l) s) {i = length s - length l} (omega (arith, length-drop (length l) s)) in
-      rw (none, append-nil q, w, e, take-append-seam l (drop (length l) old), drop-append-seam l (drop (length l) old), drop-drop (length k) (length l) old, length-append l k)
-      (sym (append-assoc l k (drop (length l + length k) old)))
+      rw (none, append-nil q, w) (written-part l k old s e)

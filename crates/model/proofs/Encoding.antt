@@ -1,6 +1,7 @@
 -- The encoding: a codeword for each message, each codeword once, sums to sums, and pivots as early as can be. Assumes nothing.
 use Rattle.integers.proofs.Prelude.{_≡_, refl, sym, ap, ap₂, subst, _∙_, Bool, true, false, not, List, [], _∷_, _++_, ℕ, zero, suc, _+_, _-_, _*_, _%_}
 use Rattle.integers.proofs.Prelude.{_<_, arith, not-false, T, eqb, length, getD, take, drop, length-append, List·getD-append, getD-append-add}
+use Rattle.integers.proofs.Prelude.{append-assoc, decLt, take-at, drop-at}
 use native.Mathlib.Nat.{add-zero, zero-add, suc-add}
 use native.Mathlib.Numerals.{one-add}
 use mathlib.Core.Logic.{_↔_}
@@ -15,7 +16,7 @@ use Rattle.model.specs.Words.{bitAt}
 use Rattle.model.specs.Points.{Bits, Codeword}
 use Rattle.model.specs.Reflection.{sumOfWords}
 use Rattle.model.specs.Composition.{zeroWord}
-use Rattle.model.specs.Encoding.{element, Column, pivot, other, reduced, isOther, others, product, encodedIn, messageIn, messageLength, encoded, messageOf}
+use Rattle.model.specs.Encoding.{element, Column, pivot, other, reduced, isOther, others, product, encodedIn, messageIn, part, framesIn, messageLength, encoded, messageOf}
 use Rattle.model.specs.Encoding.{Dependent, isPivot, Encodes}
 use Rattle.model.proofs.Composition.{zero-at, zero-bits, sum-codeword}
 use Rattle.model.proofs.Reduction.{rest-bits, more-bits, no-bits, check-sum, small-if, Meets, columns, codewords}
@@ -110,6 +111,30 @@ message-at (other ∷ cs) (x ∷ w) zero e l h = refl
 message-at (pivot q ∷ cs) (x ∷ w) zero e l h = absurd (subst T (sym h) tt)
 message-at (other ∷ cs) (x ∷ w) (suc j) e l h = rw (one-add (others (take j cs))) (message-at cs w j (omega arith) (omega arith) h)
 message-at (pivot q ∷ cs) (x ∷ w) (suc j) e l h = rw (zero-add (others (take j cs))) (message-at cs w j (omega arith) (omega arith) h)
+
+-- ---- many frames
+pub length-frames : (cs : List Column) (f : ℕ) (ms : List ℕ) → length (framesIn cs f ms) ≡ f * length cs
+unfolding framesIn
+length-frames cs zero ms = omega arith
+length-frames cs (suc f) ms =
+    length-append (framesIn cs f ms) (encodedIn cs (part (others cs) f ms)) ∙ omega (arith, length-frames cs f ms, length-encoded cs (part (others cs) f ms))
+
+-- the part of frame g
+pub frame-part : (cs : List Column) (f : ℕ) (ms rest : List ℕ) (g : ℕ) → g < f → part (length cs) g (framesIn cs f ms ++ rest) ≡ encodedIn cs (part (others cs) g ms)
+unfolding framesIn
+frame-part cs zero ms rest g h = absurd (omega arith)
+frame-part cs (suc f) ms rest g h =
+    ap (part (length cs) g) (append-assoc (framesIn cs f ms) w rest) ∙ by (decLt g f) (frame-part cs f ms (w ++ rest) g)
+  where
+    w : List ℕ
+    w = encodedIn cs (part (others cs) f ms)
+
+    by : Dec (g < f) → (g < f → part (length cs) g (framesIn cs f ms ++ (w ++ rest)) ≡ encodedIn cs (part (others cs) g ms))
+        → part (length cs) g (framesIn cs f ms ++ (w ++ rest)) ≡ encodedIn cs (part (others cs) g ms)
+    by (yes l) ih = ih l
+    by (no l) ih =
+        let e : g ≡ f = omega arith in
+        rw (e, drop-at (framesIn cs f ms) (w ++ rest) (f * length cs) (length-frames cs f ms)) (take-at w rest (length cs) (length-encoded cs (part (others cs) f ms)))
 
 -- ---- a word whose last 1 stands in column j, before `more` zeros
 abbrev lastOne : List ℕ → ℕ → List ℕ

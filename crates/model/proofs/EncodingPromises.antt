@@ -19,6 +19,7 @@ use Rattle.model.specs.Points.{Bits, Codeword}
 use Rattle.model.specs.Reflection.{reflect, sumOfWords}
 use Rattle.model.specs.Calls.{unequal, notBinary, wordCauses, Lists, Decoded, noRoom, decoderCause, decoder, Costs, reflector}
 use Rattle.model.specs.Order.{oddCauses, oneToNine}
+use Rattle.model.specs.Told.{Refuses}
 use Rattle.model.specs.DecoderClaims.{Small, ReflectedCalls}
 use Rattle.model.specs.Encoding.{reduced, messageLength, encoded, messageOf, part, framesIn, encodedFrames, sizeCauses, messageSize, Encoding, messageCauses}
 use Rattle.model.specs.Encoding.{encoderCauses, encoder, framesCauses, framesEncoder, Recovered, recoveryCauses, recovery, Encodes}
@@ -27,12 +28,12 @@ use Rattle.model.proofs.Causes.{stays, clear, unless}
 use Rattle.model.proofs.Accepted as Accepted
 use Rattle.model.proofs.Order.{Listed, listed, whole, follow, after-records, word-order}
 use Rattle.model.proofs.WordClaims.{bits-tested}
-use Rattle.model.proofs.WordCalls.{numbers, answer-codeword, codeword-answer, answer-odd, answer-place, test-is}
+use Rattle.model.proofs.WordCalls.{numbers, word-refuses, answer-codeword, codeword-answer, answer-odd, answer-place, test-is}
 use Rattle.model.proofs.Composition.{sum-bits}
 use Rattle.model.proofs.ComposedCalls.{reflector-is, reflected-taken}
 use Rattle.model.proofs.ReflectedCalls.{reflected-calls}
 use Rattle.model.proofs.Reduction.{columns}
-use Rattle.model.proofs.Encoding.{length-encoded, length-message, encoding}
+use Rattle.model.proofs.Encoding.{length-encoded, frame-part, encoding}
 
 -- ---- parts of a list
 pub part-bits : (size f g : ℕ) (l : List ℕ) → g < f → Bits (f * size) l → Bits size (part size g l)
@@ -69,9 +70,9 @@ module _ (b : List ℕ) where
 
   -- ---- messages that have `long` entries, for words that have `room`
   module _ (long room : ℕ) (ms old : List ℕ) where
-    pub message-passes : (firstOf (judge b ∷ messageCauses k long room ms old) ≡ 0) ↔ (Encodable b × Bits long ms × (room ≤ length old))
+    pub message-passes : (firstOf (judge b ∷ (sizeCauses k ++ messageCauses long room ms old)) ≡ 0) ↔ (Encodable b × Bits long ms × (room ≤ length old))
     message-passes =
-        let rest : List ℕ = 12 if unequal ms long ∷ 15 if some notBinary ms ∷ 10 if short room old ∷ [] in (
+        let rest = messageCauses long room ms old in (
           λ h.
               let x = size-passes rest .0 h in
               let y = clear rest (x .1) in (
@@ -113,6 +114,10 @@ module _ (b : List ℕ) where
 
     room-listed : Listed numbers no-room
     room-listed = listed numbers ((10, short L old) ∷ []) refl
+
+    -- the number of a refusal is a refusal's
+    pub recovery-refuses : (c : ℕ) → firstOf (judge b ∷ recoveryCauses k w old) ≡ suc c → Refuses (suc c)
+    recovery-refuses = word-refuses b w (sizeCauses k) no-room size-listed room-listed
 
     pub recovery-is : Encodable b → Codeword k w → L ≤ length old
         → recovery b w old ≡ record { outcome = record { number = 0; place = 0 }; message = written (messageOf k w) old }
@@ -225,27 +230,6 @@ module _ (b : List ℕ) where
         })
 
   -- ---- many frames
-  frames-long : (f : ℕ) (ms : List ℕ) → length (encodedFrames k f ms) ≡ f * n
-  unfolding framesIn
-  frames-long zero ms = omega arith
-  frames-long (suc f) ms = length-append (encodedFrames k f ms) _ ∙ omega (arith, frames-long f ms, word-long (part L f ms))
-
-  -- a frame's part
-  frame-part : (f : ℕ) (ms rest : List ℕ) (g : ℕ) → g < f → part n g (encodedFrames k f ms ++ rest) ≡ encoded k (part L g ms)
-  unfolding framesIn
-  frame-part zero ms rest g h = absurd (omega arith)
-  frame-part (suc f) ms rest g h =
-      ap (part n g) (append-assoc (encodedFrames k f ms) w rest) ∙ by (decLt g f) (frame-part f ms (w ++ rest) g)
-    where
-      w : List ℕ
-      w = encoded k (part L f ms)
-
-      by : Dec (g < f) → (g < f → part n g (encodedFrames k f ms ++ (w ++ rest)) ≡ encoded k (part L g ms)) → part n g (encodedFrames k f ms ++ (w ++ rest)) ≡ encoded k (part L g ms)
-      by (yes l) ih = ih l
-      by (no l) ih =
-          let e : g ≡ f = omega arith in
-          rw (e, drop-at (encodedFrames k f ms) (w ++ rest) (f * n) (frames-long f ms)) (take-at w rest n (word-long (part L f ms)))
-
   module _ (f : ℕ) (ms old : List ℕ) where
     frames-exactly : (framesEncoder b f ms old .number ≡ 0) ↔ (Encodable b × Bits (f * L) ms × (f * n ≤ length old))
     unfolding framesEncoder
@@ -294,6 +278,6 @@ module _ (b : List ℕ) where
               let x = frames-exactly .0 h in
               encoder-is (part L g ms) out (x .0) (part-bits L f g ms l (x .1)) room
               ∙ ap (λ (w : List ℕ). record { number = 0; words = written w out })
-              (sym (ap (part n g) (frames-is h) ∙ frame-part f ms (drop (length (encodedFrames k f ms)) old) g l));
+              (sym (ap (part n g) (frames-is h) ∙ ap (λ (m : ℕ). part m g (written (encodedFrames k f ms) old)) (sym (columns k)) ∙ frame-part (reduced k) f ms (drop (length (encodedFrames k f ms)) old) g l));
           single = single;
         })

@@ -116,11 +116,11 @@ pub record Encoding : Type 0 where
   pub words : List ℕ
 
 -- "a message of the wrong length gets 12, an entry other than 0 or 1 gets 15": of messages that have `long` entries, for words that have `room`
-abbrev pub messageCauses : Code → ℕ → ℕ → List ℕ → List ℕ → List ℕ
-messageCauses k long room ms old = sizeCauses k ++ (12 if unequal ms long ∷ 15 if some notBinary ms ∷ 10 if short room old ∷ [])
+abbrev pub messageCauses : ℕ → ℕ → List ℕ → List ℕ → List ℕ
+messageCauses long room ms old = 12 if unequal ms long ∷ 15 if some notBinary ms ∷ 10 if short room old ∷ []
 
 abbrev pub encoderCauses : Code → List ℕ → List ℕ → List ℕ
-encoderCauses k m old = messageCauses k (messageLength k) (k .bits) m old
+encoderCauses k m old = sizeCauses k ++ messageCauses (messageLength k) (k .bits) m old
 
 unfoldable pub encoder : List ℕ → List ℕ → List ℕ → Encoding
 encoder b m old =
@@ -130,7 +130,7 @@ encoder b m old =
 
 -- of f frames
 abbrev pub framesCauses : Code → ℕ → List ℕ → List ℕ → List ℕ
-framesCauses k f ms old = messageCauses k (f * messageLength k) (f * k .bits) ms old
+framesCauses k f ms old = sizeCauses k ++ messageCauses (f * messageLength k) (f * k .bits) ms old
 
 unfoldable pub framesEncoder : List ℕ → ℕ → List ℕ → List ℕ → Encoding
 framesEncoder b f ms old =
