@@ -210,8 +210,8 @@ fn encodings_catch_what_breaks_them() {
         (Fault::MessageBackwards, "do not rise"),
         (Fault::RowNotCleared, "is no codeword"),
         (Fault::PivotCounted, "is no codeword"),
-        (Fault::RankTold, ""),
-        (Fault::DependentChecksCounted, ""),
+        (Fault::RankTold, "as another message"),
+        (Fault::DependentChecksCounted, "is no codeword"),
         (Fault::PivotsRead, "as another message"),
         (Fault::NoMessageRefused, "refused with 12"),
         (Fault::NoFramesRefused, "refused with 12"),
@@ -222,7 +222,6 @@ fn encodings_catch_what_breaks_them() {
             Fault::Overlooked(Cause::NotCodeword),
             "number 0 where 17 is due",
         ),
-        (Fault::LastOddCheck, ""),
         (Fault::RestCleared, "an entry past"),
     ] {
         let found = check_encodings(&with(fault), encodings::SEED).unwrap_err();

@@ -145,7 +145,7 @@ impl Reference {
         } else {
             encoding.reduction.others
         };
-        for (entry, column) in message.iter_mut().zip(columns) {
+        for (entry, column) in message.iter_mut().zip(columns).take(length) {
             *entry = word[column];
         }
         Ok(())

@@ -20,12 +20,12 @@ pub fn families() -> Vec<Family> {
         Family::listed("messages with one wrong entry", wrong_entries),
         Family::listed("codes about 256 bits", about_256_bits),
         Family::listed("codes of many checks", many_checks),
-        Family::listed("many frames", many_frames),
         Family::random("encoder", 2_000, |random| of(random, encoded_code)),
         Family::random("encoder, few codewords", 300, |random| {
             of(random, crammed_code)
         }),
         Family::random("encoder, 256 bits", 60, |random| of(random, longest_code)),
+        Family::random("encoder, many frames", 10, many_frames),
     ]
 }
 
@@ -250,28 +250,21 @@ fn many_checks() -> Vec<Case> {
     cases
 }
 
-fn many_frames() -> Vec<Case> {
-    let mut random = Random::new(21);
-    let mut cases = Vec::new();
-    for (code, frames) in [
-        (hamming(), 100),
-        (hamming(), 3_000),
-        (only_zeros(), 1_000),
-        (training_code(), 200),
-        (longest_code(&mut random), 100),
-    ] {
-        let messages = random.word(frames * length_of(&code));
-        let needed = frames * code.bits;
-        for room in [needed - 1, needed, needed + 3] {
-            cases.push(Case::EncodeFrames {
-                code: records(&code),
-                frames,
-                messages: messages.clone(),
-                room,
-            });
-        }
+/// Some hundreds of frames in one call.
+fn many_frames(random: &mut Random) -> Case {
+    let code = match random.below(4) {
+        0 => only_zeros(),
+        1 => training_code(),
+        _ => encoded_code(random),
+    };
+    let frames = random.between(100, 400);
+    let needed = frames * code.bits;
+    Case::EncodeFrames {
+        code: records(&code),
+        frames,
+        messages: random.word(frames * length_of(&code)),
+        room: random.pick(&[needed - 1, needed, needed, needed + 3]),
     }
-    cases
 }
 
 /// A call for a code that is drawn, with lists that are long enough.
