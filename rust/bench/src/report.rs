@@ -179,7 +179,7 @@ pub fn encoder_heading(names: Vec<&str>) {
     let ratios: Vec<&str> = ratios.iter().map(String::as_str).collect();
     println!();
     println!(
-        "The encoder, calls for one message; the least time of interleaved rounds:\ncode       bits checks length call          | us a call: {} | {} |  bar ms",
+        "The encoder, calls for one message; the least time of interleaved rounds:\ncode       bits checks length call          | microseconds a call: {} | {} |  bar ms",
         columns(&names, 9),
         columns(&ratios, RATIO_WIDTH),
     );
@@ -187,7 +187,7 @@ pub fn encoder_heading(names: Vec<&str>) {
 
 pub fn encoder_line(task: &encoder::Task, seconds: &[f64]) {
     println!(
-        "{:<9} {:>5} {:>6} {:>6} {:<13} | {:10} {} | {} | {}",
+        "{:<9} {:>5} {:>6} {:>6} {:<13} | {:20} {} | {} | {}",
         task.name,
         task.bits,
         task.checks,
@@ -205,7 +205,7 @@ pub fn frames_heading(names: Vec<&str>) {
     let ratios: Vec<&str> = ratios.iter().map(String::as_str).collect();
     println!();
     println!(
-        "The encoder, many messages of a code:\ncode       bits length calls         | us a frame: {} | frames/s: {} | {}",
+        "The encoder, many messages of a code:\ncode       bits length calls         | microseconds a frame: {} | frames/s: {} | {}",
         columns(&names, 9),
         columns(&names, 9),
         columns(&ratios, RATIO_WIDTH),
@@ -216,7 +216,7 @@ pub fn frames_line(task: &encoder::Task, seconds: &[f64]) {
     let frames = task.frames() as f64;
     let times = seconds.iter();
     println!(
-        "{:<9} {:>5} {:>6} {:<13} | {:11} {} | {:9} {} | {}",
+        "{:<9} {:>5} {:>6} {:<13} | {:21} {} | {:9} {} | {}",
         task.name,
         task.bits,
         task.length,
