@@ -13,8 +13,10 @@ pub struct Messages {
 }
 
 impl Messages {
-    /// Random messages of this length, with lists of exactly the lengths needed.
-    pub fn random(random: &mut Random, bits: usize, length: usize) -> Messages {
+    /// Random messages of this length, with lists of exactly the lengths needed. What is drawn
+    /// later does not depend on the length.
+    pub fn random(random: &Random, bits: usize, length: usize) -> Messages {
+        let mut random = random.clone();
         let frames = random.pick(&[0, 1, 2, 2, 3, 5]);
         Messages {
             one: random.word(length),
