@@ -79,9 +79,9 @@ pub fn longest_code(random: &mut Random) -> Code {
 pub fn encoded_code(random: &mut Random) -> Code {
     let code = match random.below(40) {
         0 => training_code(),
-        1 => longest_code(random),
-        2..=3 => code_within(random, MOST_ENCODED_BITS, 150, 1_000),
-        4..=7 => crammed_code(random),
+        1..=2 => longest_code(random),
+        3..=4 => code_within(random, MOST_ENCODED_BITS, 150, 1_000),
+        5..=7 => crammed_code(random),
         8..=22 => small_code(random),
         _ => tiny_code(random),
     };
