@@ -129,34 +129,40 @@ fn slowest() -> Code {
     }
 }
 
+fn training() -> (&'static str, Code) {
+    ("96 bits", training_code())
+}
+
+fn regular_256() -> (&'static str, Code) {
+    ("256 bits", regular(MOST_ENCODED_BITS))
+}
+
+/// Each of these calls for each of these codes.
+fn tasks(codes: &[(&'static str, Code)], calls: &[Call]) -> Vec<Task> {
+    let of_code = |(name, code)| calls.iter().map(move |&call| Task::new(name, code, call));
+    let codes = codes.iter().map(|(name, code)| (*name, code));
+    codes.flat_map(of_code).collect()
+}
+
 /// The calls for one message.
 pub fn single() -> Vec<Task> {
     let codes = [
-        ("96 bits", training_code()),
-        ("256 bits", regular(MOST_ENCODED_BITS)),
+        training(),
+        regular_256(),
         ("largest", largest()),
         ("slowest", slowest()),
     ];
-    let calls = [Call::MessageLength, Call::Encode, Call::ReadMessage];
-    let of_code = |(name, code)| calls.map(|call| Task::new(name, &code, call));
-    codes.into_iter().flat_map(of_code).collect()
+    tasks(
+        &codes,
+        &[Call::MessageLength, Call::Encode, Call::ReadMessage],
+    )
 }
 
 /// The calls for many messages of one code.
 pub fn many() -> Vec<Task> {
-    let codes = [
-        ("96 bits", training_code()),
-        ("256 bits", regular(MOST_ENCODED_BITS)),
-    ];
-    let calls = [
-        Call::InTurn(100),
-        Call::Frames(1),
-        Call::Frames(8),
-        Call::Frames(100),
-        Call::Frames(10_000),
-    ];
-    let of_code = |(name, code)| calls.map(|call| Task::new(name, &code, call));
-    codes.into_iter().flat_map(of_code).collect()
+    let frames = [1, 8, 100, 10_000].map(Call::Frames);
+    let calls = [&[Call::InTurn(100)], &frames[..]].concat();
+    tasks(&[training(), regular_256()], &calls)
 }
 
 pub struct Encoders {
