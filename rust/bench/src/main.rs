@@ -1,11 +1,12 @@
 //! Measures whole calls side by side: decoders, from code records and costs to the
-//! word and every lent list; import and export of alist texts; and calls on words. Run it with
-//! `--release`; with the feature `library` the compiled library takes part.
+//! word and every lent list; import and export of alist texts; the encoder; and calls on
+//! words. Run it with `--release`; with the feature `library` the compiled library takes part.
 
 #[cfg(feature = "before")]
 mod before;
 mod contest;
 mod conversion;
+mod encoder;
 mod places;
 mod refused;
 mod report;
@@ -15,6 +16,7 @@ mod words;
 
 use contest::{Contest, FEW_ROUNDS, ROUNDS};
 use conversion::{Conversions, Task};
+use encoder::Encoders;
 use std::env;
 use std::process::ExitCode;
 use words::Words;
@@ -55,6 +57,18 @@ fn conversions() {
     }
 }
 
+fn encoders() {
+    let encoders = Encoders::new();
+    report::encoder_heading(encoders.names());
+    for task in encoder::single() {
+        report::encoder_line(&task, &encoders.run(&task));
+    }
+    report::frames_heading(encoders.names());
+    for task in encoder::many() {
+        report::frames_line(&task, &encoders.run(&task));
+    }
+}
+
 fn words() {
     let words = Words::new();
     report::words_heading(words.names());
@@ -71,14 +85,16 @@ fn main() -> ExitCode {
             decoders();
             longest();
             conversions();
+            encoders();
             words();
         }
         Some("decoders") => decoders(),
         Some("longest") => longest(),
         Some("alist") => conversions(),
+        Some("encoder") => encoders(),
         Some("words") => words(),
         Some(_) => {
-            eprintln!("usage: bench [decoders|longest|alist|words]");
+            eprintln!("usage: bench [decoders|longest|alist|encoder|words]");
             return ExitCode::FAILURE;
         }
     }

@@ -2,6 +2,7 @@
 
 use crate::contest::ContestResult;
 use crate::conversion::{Call, Task};
+use crate::encoder;
 use crate::scenario::{Scenario, SCALE, SETTINGS};
 use crate::words;
 
@@ -128,6 +129,11 @@ pub fn longest_line(scenario: &Scenario, result: &ContestResult) {
     );
 }
 
+/// Milliseconds that a call may take, where there is a bar.
+fn bar(seconds: Option<f64>) -> String {
+    seconds.map_or(String::new(), |bar| format!("{:>7.0}", 1e3 * bar))
+}
+
 pub fn conversion_heading(names: Vec<&str>) {
     println!();
     println!(
@@ -143,10 +149,7 @@ pub fn conversion_line(task: &Task, seconds: &[f64]) {
         Call::Import => "import",
         Call::Export => "export",
     };
-    let bar = match task.bar {
-        Some(bar) => format!("{:>7.0}", 1e3 * bar),
-        None => String::new(),
-    };
+    let bar = bar(task.bar);
     let times = seconds.iter();
     println!(
         "{call} {:<28} {:>9} {:>6} | {:3} {} | {:10} {} | {} | {bar}",
@@ -162,6 +165,67 @@ pub fn conversion_line(task: &Task, seconds: &[f64]) {
             2
         ),
         numbers([seconds[0] / seconds[1]].into_iter(), 17, 2),
+    );
+}
+
+/// The ratios of the first to the others.
+fn encoder_ratios(seconds: &[f64]) -> String {
+    let others = seconds[1..].iter().map(|other| seconds[0] / other);
+    numbers(others, RATIO_WIDTH, 2)
+}
+
+pub fn encoder_heading(names: Vec<&str>) {
+    let ratios = ratio_names(&names);
+    let ratios: Vec<&str> = ratios.iter().map(String::as_str).collect();
+    println!();
+    println!(
+        "The encoder, calls for one message; the least time of interleaved rounds:\ncode       bits checks length call          | microseconds a call: {} | {} |  bar ms",
+        columns(&names, 9),
+        columns(&ratios, RATIO_WIDTH),
+    );
+}
+
+pub fn encoder_line(task: &encoder::Task, seconds: &[f64]) {
+    println!(
+        "{:<9} {:>5} {:>6} {:>6} {:<13} | {:20} {} | {} | {}",
+        task.name,
+        task.bits,
+        task.checks,
+        task.length,
+        format!("{:?}", task.call),
+        "",
+        numbers(seconds.iter().map(|seconds| 1e6 * seconds), 9, 1),
+        encoder_ratios(seconds),
+        bar(task.bar()),
+    );
+}
+
+pub fn frames_heading(names: Vec<&str>) {
+    let ratios = ratio_names(&names);
+    let ratios: Vec<&str> = ratios.iter().map(String::as_str).collect();
+    println!();
+    println!(
+        "The encoder, many messages of a code:\ncode       bits length calls         | microseconds a frame: {} | frames/s: {} | {}",
+        columns(&names, 9),
+        columns(&names, 9),
+        columns(&ratios, RATIO_WIDTH),
+    );
+}
+
+pub fn frames_line(task: &encoder::Task, seconds: &[f64]) {
+    let frames = task.frames() as f64;
+    let times = seconds.iter();
+    println!(
+        "{:<9} {:>5} {:>6} {:<13} | {:21} {} | {:9} {} | {}",
+        task.name,
+        task.bits,
+        task.length,
+        format!("{:?}", task.call),
+        "",
+        numbers(times.clone().map(|seconds| 1e6 * seconds / frames), 9, 2),
+        "",
+        numbers(times.map(|seconds| frames / seconds), 9, 0),
+        encoder_ratios(seconds),
     );
 }
 

@@ -49,6 +49,25 @@ pub enum Case {
     ExportSize {
         code: Vec<u8>,
     },
+    MessageLength {
+        code: Vec<u8>,
+    },
+    Encode {
+        code: Vec<u8>,
+        message: Vec<u8>,
+        room: usize,
+    },
+    EncodeFrames {
+        code: Vec<u8>,
+        frames: usize,
+        messages: Vec<u8>,
+        room: usize,
+    },
+    ReadMessage {
+        code: Vec<u8>,
+        word: Vec<u8>,
+        room: usize,
+    },
     Frames {
         input: Vec<u8>,
     },
@@ -92,6 +111,10 @@ impl Case {
             Case::Import { .. } => "import",
             Case::Export { .. } => "export",
             Case::ExportSize { .. } => "export_size",
+            Case::MessageLength { .. } => "message_length",
+            Case::Encode { .. } => "encode",
+            Case::EncodeFrames { .. } => "encode_frames",
+            Case::ReadMessage { .. } => "read_message",
             Case::Frames { .. } => "frames",
         }
     }

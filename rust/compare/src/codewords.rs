@@ -48,6 +48,11 @@ impl Codewords {
         }
     }
 
+    /// How many bits are no pivots.
+    pub fn message_length(&self) -> usize {
+        self.bits - self.pivots.len()
+    }
+
     /// A codeword with random entries outside the pivots.
     pub fn random(&self, random: &mut Random) -> Vec<u8> {
         let mut word = random.word(self.bits);

@@ -22,6 +22,10 @@ pub enum Damage {
     WordLength,
     WordEntry,
     Room,
+    Long,
+    MessageLength,
+    MessageEntry,
+    Frames,
 }
 
 const OF_RECORDS: [Damage; 10] = [
@@ -44,6 +48,26 @@ pub fn damages_of(entry: Entry) -> Vec<Damage> {
         Entry::Split | Entry::Export => &[Damage::Room],
         Entry::Test => &[Damage::WordLength, Damage::WordEntry],
         Entry::Extend => &[Damage::WordLength, Damage::WordEntry, Damage::Room],
+        Entry::MessageLength => &[Damage::Long],
+        Entry::Encode => &[
+            Damage::Long,
+            Damage::MessageLength,
+            Damage::MessageEntry,
+            Damage::Room,
+        ],
+        Entry::EncodeFrames => &[
+            Damage::Long,
+            Damage::Frames,
+            Damage::MessageLength,
+            Damage::MessageEntry,
+            Damage::Room,
+        ],
+        Entry::ReadMessage => &[
+            Damage::Long,
+            Damage::WordLength,
+            Damage::WordEntry,
+            Damage::Room,
+        ],
         Entry::Decode => &[
             Damage::Setting,
             Damage::CostsLength,
@@ -71,8 +95,20 @@ pub fn apply(random: &mut Random, draft: &mut Draft, entry: Entry, damage: Damag
         Damage::CostsLength => change_length(random, &mut draft.costs),
         Damage::LowestCost => lowest_cost(random, draft),
         Damage::WordLength => change_length(random, &mut draft.word),
-        Damage::WordEntry => wrong_entry(random, draft),
+        Damage::WordEntry => wrong_entry(random, &mut draft.word),
         Damage::Room => shorten(random, draft, entry),
+        Damage::Long => more_bits(random, draft),
+        Damage::MessageLength => change_length(random, message_of(draft, entry)),
+        Damage::MessageEntry => wrong_entry(random, message_of(draft, entry)),
+        Damage::Frames => wrong_frames(random, draft),
+    }
+}
+
+/// The messages that a call of this entry takes.
+fn message_of(draft: &mut Draft, entry: Entry) -> &mut Vec<u8> {
+    match entry {
+        Entry::EncodeFrames => &mut draft.messages.all,
+        _ => &mut draft.messages.one,
     }
 }
 
@@ -181,6 +217,22 @@ fn more_checks(random: &mut Random, draft: &mut Draft) {
     write_two(&mut draft.records, 4, checks);
 }
 
+/// Adds bits until there are more than 256, with checks of their own.
+fn more_bits(random: &mut Random, draft: &mut Draft) {
+    let mut checks = draft.code.checks.len();
+    let mut bits = draft.code.bits;
+    let most = random.pick(&[257, 257, 258, 300]);
+    while bits < most {
+        let next = most.min(bits + 32);
+        let check = bits.min(next - 3)..next;
+        draft.records.extend([b'L', b'C', check.len() as u8]);
+        check.for_each(|bit| draft.records.extend((bit as u16).to_be_bytes()));
+        (bits, checks) = (next, checks + 1);
+    }
+    write_two(&mut draft.records, 2, bits);
+    write_two(&mut draft.records, 4, checks);
+}
+
 /// One bit more than the checks have.
 fn unused_bit(draft: &mut Draft) {
     write_two(&mut draft.records, 2, draft.code.bits + 1);
@@ -209,11 +261,17 @@ fn lowest_cost(random: &mut Random, draft: &mut Draft) {
     }
 }
 
-fn wrong_entry(random: &mut Random, draft: &mut Draft) {
-    if !draft.word.is_empty() {
-        let place = random.below(draft.word.len());
-        draft.word[place] = random.pick(&[2, 3, 48, 255]);
+fn wrong_entry(random: &mut Random, list: &mut [u8]) {
+    if !list.is_empty() {
+        let place = random.below(list.len());
+        list[place] = random.pick(&[2, 3, 48, 255]);
     }
+}
+
+/// Another number of frames, of which some make no product with a length.
+fn wrong_frames(random: &mut Random, draft: &mut Draft) {
+    let frames = &mut draft.messages.frames;
+    *frames = random.pick(&[0, *frames + 1, 1 << 61, 1 << 63, usize::MAX]);
 }
 
 fn shorten(random: &mut Random, draft: &mut Draft, entry: Entry) {
@@ -221,6 +279,9 @@ fn shorten(random: &mut Random, draft: &mut Draft, entry: Entry) {
         Entry::Split => &mut draft.room[random.below(2)],
         Entry::Extend => &mut draft.point_room,
         Entry::Export => &mut draft.text_room,
+        Entry::Encode => &mut draft.messages.room[0],
+        Entry::EncodeFrames => &mut draft.messages.room[1],
+        Entry::ReadMessage => &mut draft.messages.room[2],
         _ => &mut draft.room[random.below(6)],
     };
     *room = if random.once_in(4) {

@@ -3,6 +3,7 @@
 use crate::case::{Case, DecodeCase};
 use crate::codes::{records, room, text_bytes, Code};
 use crate::codewords::Codewords;
+use crate::messages::Messages;
 use crate::random::Random;
 use interface::Settings;
 
@@ -16,9 +17,21 @@ pub enum Entry {
     Decode,
     Export,
     ExportSize,
+    MessageLength,
+    Encode,
+    EncodeFrames,
+    ReadMessage,
 }
 
-pub const ENTRIES: [Entry; 7] = [
+/// The entries of the encoder.
+pub const OF_ENCODER: [Entry; 4] = [
+    Entry::MessageLength,
+    Entry::Encode,
+    Entry::EncodeFrames,
+    Entry::ReadMessage,
+];
+
+pub const ENTRIES: [Entry; 11] = [
     Entry::Read,
     Entry::Split,
     Entry::Test,
@@ -26,6 +39,10 @@ pub const ENTRIES: [Entry; 7] = [
     Entry::Decode,
     Entry::Export,
     Entry::ExportSize,
+    Entry::MessageLength,
+    Entry::Encode,
+    Entry::EncodeFrames,
+    Entry::ReadMessage,
 ];
 
 /// Inputs and lengths for a call of any such entry.
@@ -40,6 +57,7 @@ pub struct Draft {
     pub room: [usize; 6],
     pub point_room: usize,
     pub text_room: usize,
+    pub messages: Messages,
 }
 
 impl Draft {
@@ -62,6 +80,7 @@ impl Draft {
             room: room(&code),
             point_room: code.variables(),
             text_room: text_bytes(&code),
+            messages: Messages::random(random, code.bits, codewords.message_length()),
             code,
         }
     }
@@ -69,7 +88,8 @@ impl Draft {
     /// Lends lists longer than needed, each by a few entries.
     pub fn lengthen(&mut self, random: &mut Random) {
         let others = [&mut self.point_room, &mut self.text_room];
-        for room in self.room.iter_mut().chain(others) {
+        let of_messages = &mut self.messages.room;
+        for room in self.room.iter_mut().chain(others).chain(of_messages) {
             *room += random.below(4);
         }
     }
@@ -102,6 +122,23 @@ impl Draft {
                 room: self.text_room,
             },
             Entry::ExportSize => Case::ExportSize { code },
+            Entry::MessageLength => Case::MessageLength { code },
+            Entry::Encode => Case::Encode {
+                code,
+                message: self.messages.one.clone(),
+                room: self.messages.room[0],
+            },
+            Entry::EncodeFrames => Case::EncodeFrames {
+                code,
+                frames: self.messages.frames,
+                messages: self.messages.all.clone(),
+                room: self.messages.room[1],
+            },
+            Entry::ReadMessage => Case::ReadMessage {
+                code,
+                word: self.word.clone(),
+                room: self.messages.room[2],
+            },
         }
     }
 }

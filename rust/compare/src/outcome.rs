@@ -1,7 +1,7 @@
 //! What a call left: its answer and every lent list, with the memory around it.
 
 use crate::case::{Case, DecodeCase};
-use interface::{Alist, BytesAnswer, Decoder, Library, Lists, WordAnswer};
+use interface::{Alist, BytesAnswer, Decoder, Encoder, Library, Lists, WordAnswer};
 use reference::Reference;
 
 /// Entries kept before and after each lent list, which no call may touch.
@@ -116,6 +116,7 @@ impl Outcome {
 pub fn outcome(reference: Reference, case: &Case) -> Outcome {
     called(&reference, case)
         .or_else(|| converted(&reference, case))
+        .or_else(|| encoded(&reference, case))
         .or_else(|| printed(|input| reference.frames(input).into(), case))
         .expect("a case is a call or an input")
 }
@@ -156,6 +157,41 @@ pub fn converted(alist: &dyn Alist, case: &Case) -> Option<Outcome> {
         Case::ExportSize { code } => Some(Outcome::of_bytes(alist.export_size(code))),
         _ => None,
     }
+}
+
+/// What a case leaves with an encoder; nothing unless it is a call of that.
+pub fn encoded(encoder: &dyn Encoder, case: &Case) -> Option<Outcome> {
+    Some(match case {
+        Case::MessageLength { code } => {
+            let answer = encoder.message_length(code);
+            Outcome::new(answer.number, &[("length", answer.length)])
+        }
+        Case::Encode {
+            code,
+            message,
+            room,
+        } => {
+            let mut word = bytes(*room);
+            let number = encoder.encode(code, message, word.list());
+            Outcome::new(number, &[]).with(word.seen("word"))
+        }
+        Case::EncodeFrames {
+            code,
+            frames,
+            messages,
+            room,
+        } => {
+            let mut words = bytes(*room);
+            let number = encoder.encode_frames(code, *frames, messages, words.list());
+            Outcome::new(number, &[]).with(words.seen("words"))
+        }
+        Case::ReadMessage { code, word, room } => {
+            let mut message = bytes(*room);
+            let answer = encoder.read_message(code, word, message.list());
+            Outcome::of_word(answer).with(message.seen("message"))
+        }
+        _ => return None,
+    })
 }
 
 /// What a case leaves with a library; nothing unless it is a call of `Library`.

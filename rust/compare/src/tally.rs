@@ -1,6 +1,7 @@
 //! Counts of what the compared cases met, so that no comparison is empty.
 
 use crate::case::{Case, DecodeCase};
+use crate::encoder_events::{encoder_events, OF_FRAMES, OF_WORDS};
 use crate::families::seed;
 use crate::limit_events::{limit_end_events, limit_events, OF_LIMITS};
 use crate::outcome::Outcome;
@@ -13,7 +14,7 @@ use std::collections::{BTreeMap, BTreeSet};
 
 /// Every entry with all the numbers it can give; of the frame program the kinds of
 /// lines, and nothing for the end without one.
-const KINDS: [(&str, &str); 14] = [
+const KINDS: [(&str, &str); 18] = [
     ("read", "0,1,2,3,4,5,6,7,8,9"),
     ("split", "0,1,2,3,4,5,6,7,8,9,10"),
     ("gaussian", "0,10,11,14"),
@@ -27,14 +28,18 @@ const KINDS: [(&str, &str); 14] = [
     ("import", "0,3,4,6,7,8,10,18,19"),
     ("export", "0,1,2,3,4,5,6,7,8,9,10"),
     ("export_size", "0,1,2,3,4,5,6,7,8,9"),
+    ("message_length", "0,1,2,3,4,5,6,7,8,9,20"),
+    ("encode", "0,1,2,3,4,5,6,7,8,9,10,12,15,20"),
+    ("encode_frames", "0,1,2,3,4,5,6,7,8,9,10,12,15,20"),
+    ("read_message", "0,1,2,3,4,5,6,7,8,9,10,12,15,17,20"),
     (
         "frames",
         ",W,U,N,R 1,R 2,R 3,R 4,R 5,R 6,R 8,R 10,R 11,R 13",
     ),
 ];
 
-/// What must happen in some run, accepted import, accepted export and frame.
-const EVENTS: [(&str, &[&str]); 5] = [
+/// What must happen in some run, accepted import, accepted export, accepted encoding and frame.
+const EVENTS: [(&str, &[&str]); 7] = [
     ("decode", &OF_RUNS),
     ("decode", &OF_LIMITS),
     ("import", &OF_TEXTS),
@@ -42,6 +47,8 @@ const EVENTS: [(&str, &[&str]); 5] = [
         "export",
         &["text in a longer list", "text in a list of its length"],
     ),
+    ("encode", &OF_WORDS),
+    ("encode_frames", &OF_FRAMES),
     ("frames", &[LONGEST_FRAME]),
 ];
 
@@ -86,6 +93,9 @@ impl Tally {
                     longer
                 });
             }
+            Case::Encode { .. } | Case::EncodeFrames { .. } if is_accepted(outcome) => {
+                self.add_events(encoder_events(case));
+            }
             _ => (),
         }
     }
@@ -112,7 +122,7 @@ impl Tally {
         }
     }
 
-    fn add_events<const N: usize>(&mut self, events: [(&'static str, bool); N]) {
+    fn add_events(&mut self, events: impl IntoIterator<Item = (&'static str, bool)>) {
         for (event, _) in events.into_iter().filter(|&(_, happened)| happened) {
             self.count(event);
         }

@@ -147,5 +147,10 @@ cases! {
     "import": text, room => { Case::Import { text, room } }
     "export": code, room => { Case::Export { code, room } }
     "export_size": code => { Case::ExportSize { code } }
+    "message_length": code => { Case::MessageLength { code } }
+    "encode": code, message, room => { Case::Encode { code, message, room } }
+    "encode_frames": code, frames, messages, room =>
+        { Case::EncodeFrames { code, frames, messages, room } }
+    "read_message": code, word, room => { Case::ReadMessage { code, word, room } }
     "frames": input => { Case::Frames { input } }
 }

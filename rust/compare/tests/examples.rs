@@ -5,7 +5,7 @@ use std::env;
 use std::fmt::{Display, Write};
 use std::path::{Path, PathBuf};
 use std::process::{Command, Output};
-use widagbe::{Alist, Channel, Decoder, Library, OwnLists, Widagbe};
+use widagbe::{Alist, Channel, Decoder, Encoder, Library, OwnLists, Widagbe};
 
 #[allow(dead_code)]
 #[path = "../../widagbe/examples/decode.rs"]
@@ -36,6 +36,12 @@ fn the_c_example_of_alist_text_prints_what_is_stored() {
 fn the_c_example_of_a_chain_prints_what_is_stored() {
     let expected = include_str!("../../../examples/chain-expected.txt");
     assert_eq!(run_c("../../examples/c/chain.c", "-std=c99"), expected);
+}
+
+#[test]
+fn the_c_example_of_the_encoder_prints_what_is_stored() {
+    let expected = include_str!("../../../examples/encode-expected.txt");
+    assert_eq!(run_c("../../examples/c/encode.c", "-std=c99"), expected);
 }
 
 #[test]
@@ -134,6 +140,25 @@ fn calls() -> String {
     let number = Widagbe.add_words(&codeword, &other, &mut sum);
     line(&mut text, "add_words", &[number]);
     line(&mut text, "", &sum);
+
+    let answer = Widagbe.message_length(&CODE);
+    let (number, length) = (answer.number as usize, answer.length);
+    line(&mut text, "message_length", &[number, length]);
+    let (mut word, mut words) = (vec![0; n + 1], vec![0; 2 * n + 1]);
+    let messages = [1, 0, 1, 0, 1, 1];
+    let number = Widagbe.encode(&CODE, &messages[..length], &mut word);
+    line(&mut text, "encode", &[number]);
+    line(&mut text, "", &word);
+    let number = Widagbe.encode_frames(&CODE, 2, &messages, &mut words);
+    line(&mut text, "encode_frames", &[number]);
+    line(&mut text, "", &words);
+    let mut message = vec![0; length + 1];
+    for word in [codeword, other] {
+        let answer = Widagbe.read_message(&CODE, &word, &mut message);
+        let fields = [answer.number as usize, answer.place];
+        line(&mut text, "read_message", &fields);
+        line(&mut text, "", &message);
+    }
 
     let mut lists = OwnLists::exact(n + 1, v + 1, t, 0);
     lists.triples.push(0);

@@ -3,6 +3,7 @@
 
 use compare::case::Case;
 use compare::chains::{self, check_chains};
+use compare::encodings::{self, check_encodings};
 use compare::families::{all, Effort};
 use compare::limit_edges::{first, late, Edge};
 use compare::outcome::{outcome, Outcome};
@@ -198,6 +199,33 @@ fn laws_of_sums_catch_what_breaks_them() {
         (Fault::SumNotReduced, "refused with 15"),
     ] {
         let found = check_laws(&with(fault), &mut Random::new(1), 20).unwrap_err();
+        assert!(found.contains(what), "{fault:?}: {found}");
+    }
+}
+
+#[test]
+fn encodings_catch_what_breaks_them() {
+    for (fault, what) in [
+        (Fault::LastPivots, "do not rise"),
+        (Fault::MessageBackwards, "do not rise"),
+        (Fault::RowNotCleared, "is no codeword"),
+        (Fault::PivotCounted, "is no codeword"),
+        (Fault::RankTold, "as another message"),
+        (Fault::DependentChecksCounted, "is no codeword"),
+        (Fault::PivotsRead, "as another message"),
+        (Fault::NoMessageRefused, "refused with 12"),
+        (Fault::NoFramesRefused, "refused with 12"),
+        (Fault::WordsOverlap, "frames are other words"),
+        (Fault::FirstMessageJudged, "number 0 where 15 is due"),
+        (Fault::OneLess(256), "number: 20"),
+        (
+            Fault::Overlooked(Cause::NotCodeword),
+            "number 0 where 17 is due",
+        ),
+        (Fault::RestCleared, "an entry past"),
+    ] {
+        let found = check_encodings(&with(fault), encodings::SEED).unwrap_err();
+        println!("{fault:?}: {found}");
         assert!(found.contains(what), "{fault:?}: {found}");
     }
 }

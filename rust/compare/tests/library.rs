@@ -2,8 +2,9 @@
 
 use compare::chains::assert_chains;
 use compare::comparison::compare;
-use compare::families::{calls, conversions, Effort};
-use compare::outcome::{called, converted};
+use compare::encodings::assert_encodings;
+use compare::families::{calls, conversions, encodings, Effort};
+use compare::outcome::{called, converted, encoded};
 use compare::reflections::assert_reflects;
 use compare::round_trips::assert_round_trips;
 use widagbe::Widagbe;
@@ -23,6 +24,8 @@ const ENTRIES: [&str; 10] = [
 
 const CONVERSIONS: [&str; 3] = ["import", "export", "export_size"];
 
+const ENCODER: [&str; 4] = ["message_length", "encode", "encode_frames", "read_message"];
+
 #[test]
 fn the_library_equals_the_reference() {
     let tally = compare(|case| called(&Widagbe, case), calls(), Effort::Full).unwrap();
@@ -36,6 +39,18 @@ fn import_and_export_equal_the_reference() {
     let tally = compare(|case| converted(&Widagbe, case), families, Effort::Full).unwrap();
     println!("{}", tally.summary());
     tally.assert_complete(&CONVERSIONS, 20);
+}
+
+#[test]
+fn the_encoder_equals_the_reference() {
+    let tally = compare(|case| encoded(&Widagbe, case), encodings(), Effort::Full).unwrap();
+    println!("{}", tally.summary());
+    tally.assert_complete(&ENCODER, 20);
+}
+
+#[test]
+fn encodings_of_the_library() {
+    assert_encodings(&Widagbe);
 }
 
 #[test]

@@ -1,8 +1,9 @@
-//! What the reference alone must have: reflection, chains of reflections, and points
-//! that are exactly the codewords' points.
+//! What the reference alone must have: reflection, chains of reflections, encodings, and
+//! points that are exactly the codewords' points.
 
 use compare::chains::assert_chains;
 use compare::codes::tiny_code;
+use compare::encodings::assert_encodings;
 use compare::random::Random;
 use compare::reflections::assert_reflects;
 use reference::iteration::{SIGNS, UNIT};
@@ -17,6 +18,11 @@ fn the_reference_reflects() {
 #[test]
 fn chains_of_the_reference() {
     assert_chains(&SOUND);
+}
+
+#[test]
+fn encodings_of_the_reference() {
+    assert_encodings(&SOUND);
 }
 
 /// Whether all four sums of each triple are at most U at the centred values.

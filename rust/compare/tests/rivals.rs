@@ -1,13 +1,13 @@
 //! The rivals against the reference: written apart.
 
 use compare::comparison::compare;
-use compare::families::{calls, conversions, Effort};
-use compare::outcome::{converted, decoded};
+use compare::families::{calls, conversions, encodings, Effort};
+use compare::outcome::{converted, decoded, encoded};
 use compare::reflections::assert_reflects;
 use compare::round_trips::assert_round_trips;
 use interface::Decoder;
 use reference::SOUND;
-use rivals::{Plain, Tuned, Vectors};
+use rivals::{Packed, Plain, Tuned, Vectors};
 
 fn assert_equals_the_reference(decoder: &dyn Decoder) {
     let tally = compare(|case| decoded(decoder, case), calls(), Effort::Full).unwrap();
@@ -42,4 +42,12 @@ fn vectors_equals_the_reference() {
 #[test]
 fn round_trips_of_vectors() {
     assert_round_trips(&Vectors);
+}
+
+#[test]
+fn packed_equals_the_reference() {
+    let tally = compare(|case| encoded(&Packed, case), encodings(), Effort::Full).unwrap();
+    println!("{}", tally.summary());
+    let entries = ["message_length", "encode", "encode_frames", "read_message"];
+    tally.assert_complete(&entries, 20);
 }

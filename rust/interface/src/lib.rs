@@ -15,7 +15,8 @@ pub struct CodeAnswer {
     pub triples: usize,
 }
 
-/// What the codeword test and the extension hand back; the place is a check.
+/// What the codeword test, the extension and the reader of messages hand back; the place is
+/// a check.
 #[repr(C)]
 #[derive(Clone, Copy, Debug, Default, PartialEq, Eq)]
 pub struct WordAnswer {
@@ -39,6 +40,14 @@ pub struct DecodeAnswer {
 pub struct BytesAnswer {
     pub number: u32,
     pub bytes: usize,
+}
+
+/// How many entries a message has.
+#[repr(C)]
+#[derive(Clone, Copy, Debug, Default, PartialEq, Eq)]
+pub struct LengthAnswer {
+    pub number: u32,
+    pub length: usize,
 }
 
 /// The settings of a run: W, A, K and X of document 01.
@@ -174,4 +183,19 @@ pub trait Alist {
 
     /// How many bytes that text has.
     fn export_size(&self, code: &[u8]) -> BytesAnswer;
+}
+
+/// The encoder of codes of at most 256 bits (document 02, L5).
+pub trait Encoder {
+    /// How many entries a message has: one for each bit that is no pivot.
+    fn message_length(&self, code: &[u8]) -> LengthAnswer;
+
+    /// The word of a message.
+    fn encode(&self, code: &[u8], message: &[u8], word: &mut [u8]) -> u32;
+
+    /// The words of so many messages; messages and words stand one behind the other.
+    fn encode_frames(&self, code: &[u8], frames: usize, messages: &[u8], words: &mut [u8]) -> u32;
+
+    /// The message of a codeword.
+    fn read_message(&self, code: &[u8], word: &[u8], message: &mut [u8]) -> WordAnswer;
 }

@@ -24,6 +24,7 @@ pub enum Cause {
     NotCodeword = 17,
     Text = 18,
     Places = 19,
+    TooLong = 20,
 }
 
 /// 0 for success, otherwise the cause's number.

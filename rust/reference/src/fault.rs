@@ -2,6 +2,7 @@
 //! that a test can show that a comparison notices it.
 
 use crate::cause::Cause::{self, *};
+use crate::encoder::MOST_ENCODED_BITS;
 use crate::run::{FORMER_MOST_ITERATIONS, MOST_ITERATIONS};
 use crate::Reference;
 
@@ -28,15 +29,17 @@ macro_rules! faults {
 }
 
 faults! {
-    ["read", "split", "test", "extend", "decode", "export", "export_size"]:
+    ["read", "split", "test", "extend", "decode", "export", "export_size", "message_length",
+     "encode", "encode_frames", "read_message"]:
         CutMarkJudged, SizesReadTogether, HighIndexJudgedLast, TriplesJudgedAtOnce;
     ["read"]:
         SizesWithRefusal;
     ["split", "decode"]:
         LastTripleTurned, CountsOfRows;
-    ["split", "decode", "import", "export", "reflect", "extend", "add_words"]:
+    ["split", "decode", "import", "export", "reflect", "extend", "add_words", "encode",
+     "encode_frames", "read_message"]:
         RestCleared;
-    ["test", "extend"]:
+    ["test", "extend", "read_message"]:
         LastOddCheck, OddCheckFromOne;
     ["extend"]:
         AuxiliaryOfLastTwo, AuxiliaryOfFirst, AuxiliaryIsOr;
@@ -76,6 +79,18 @@ faults! {
         OneByteMoreNeeded, WrittenAsFarAsRoom;
     ["import", "export", "export_size"]:
         BytesToldShort, BytesWithRefusal;
+    ["message_length"]:
+        LengthWithRefusal;
+    ["message_length", "encode", "encode_frames", "read_message"]:
+        RankTold, DependentChecksCounted;
+    ["encode", "encode_frames", "read_message"]:
+        LastPivots, MessageBackwards;
+    ["encode", "encode_frames"]:
+        RowNotCleared, PivotCounted, NoMessageRefused;
+    ["encode_frames"]:
+        WordsOverlap, NoFramesRefused, FramesWrapped, FirstMessageJudged, RoomForOneFrame;
+    ["read_message"]:
+        PivotsRead;
     ["frames"]:
         RoomJudgedBeforeChecks, RoomJudgedBeforeIndices, MarkAfterCodeIsNine,
         HalfMarkEndsQuietly, CostJudgedBeforeCut;
@@ -89,7 +104,12 @@ const OF_RECORDS: &[&str] = &[
     "decode",
     "export",
     "export_size",
+    "message_length",
+    "encode",
+    "encode_frames",
+    "read_message",
 ];
+const OF_ENCODER: &[&str] = &["message_length", "encode", "encode_frames", "read_message"];
 const OF_CHANNELS: &[&str] = &["gaussian", "hard", "erasing"];
 const OF_FIELDS: &[Cause] = &[Mark, Size, Degree, IndexTooHigh, IndexNotRising];
 const OF_IMPORT: &[Cause] = &[
@@ -106,6 +126,7 @@ const OF_IMPORT: &[Cause] = &[
 /// Limits to move.
 const LIMITS: &[(&[&str], &[usize])] = &[
     (OF_RECORDS, &[3, 32, 2_048, 4_096, 8_192]),
+    (OF_ENCODER, &[MOST_ENCODED_BITS]),
     (OF_CHANNELS, &[32_767]),
     (&["decode"], &[1_023, MOST_ITERATIONS, 16_384, 65_535]),
     (&["import"], &[3, 32, 2_048, 4_096, 8_192, 65_535]),
@@ -123,6 +144,14 @@ const TOGETHER: &[(&[&str], &[Cause])] = &[
         &["extend"],
         &[Lengths, WordEntry, ListTooShort, NotCodeword],
     ),
+    (
+        &["encode", "encode_frames"],
+        &[TooLong, Lengths, WordEntry, ListTooShort],
+    ),
+    (
+        &["read_message"],
+        &[TooLong, Lengths, WordEntry, ListTooShort, NotCodeword],
+    ),
     (&["decode"], &[Setting, Lengths, Cost, ListTooShort]),
     (&["decode", "frames"], &[Undecided, NotCodeword]),
     (&["import"], OF_IMPORT),
@@ -132,6 +161,7 @@ const TOGETHER: &[(&[&str], &[Cause])] = &[
 const ALONE: &[(&[&str], &[Cause])] = &[
     (OF_RECORDS, OF_FIELDS),
     (&["split", "export"], &[ListTooShort]),
+    (&["message_length"], &[TooLong]),
     (&["frames"], OF_FIELDS),
     (&["frames"], &[UnusedBit, ListTooShort, Setting, Cost]),
 ];

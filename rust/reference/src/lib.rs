@@ -7,6 +7,7 @@ mod bytes;
 pub mod cause;
 mod channel;
 mod decoder;
+pub mod encoder;
 mod export;
 pub mod fault;
 mod frames;
@@ -14,6 +15,7 @@ mod import;
 pub mod iteration;
 pub mod quotient;
 pub mod records;
+pub mod reduction;
 pub mod run;
 pub mod splitting;
 mod words;
@@ -21,8 +23,8 @@ mod words;
 use cause::number_of;
 use fault::Fault;
 use interface::{
-    Alist, BytesAnswer, Channel, CodeAnswer, DecodeAnswer, Decoder, Library, Lists, Settings,
-    WordAnswer,
+    Alist, BytesAnswer, Channel, CodeAnswer, DecodeAnswer, Decoder, Encoder, LengthAnswer, Library,
+    Lists, Settings, WordAnswer,
 };
 
 /// The reference, with its fault if it has one.
@@ -98,5 +100,24 @@ impl Alist for Reference {
 
     fn export_size(&self, code: &[u8]) -> BytesAnswer {
         self.bytes_answer(self.try_export_size(code))
+    }
+}
+
+impl Encoder for Reference {
+    fn message_length(&self, code: &[u8]) -> LengthAnswer {
+        self.length_answer(code)
+    }
+
+    fn encode(&self, code: &[u8], message: &[u8], word: &mut [u8]) -> u32 {
+        self.encode_frames(code, 1, message, word)
+    }
+
+    fn encode_frames(&self, code: &[u8], frames: usize, messages: &[u8], words: &mut [u8]) -> u32 {
+        number_of(self.try_encode_frames(code, frames, messages, words))
+    }
+
+    fn read_message(&self, code: &[u8], word: &[u8], message: &mut [u8]) -> WordAnswer {
+        let result = self.try_read_message(code, word, message);
+        result.err().unwrap_or_default()
     }
 }

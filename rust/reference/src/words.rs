@@ -9,7 +9,7 @@ use crate::Reference;
 use interface::WordAnswer;
 
 /// Whether every entry is 0 or 1.
-fn is_binary(word: &[u8]) -> bool {
+pub(crate) fn is_binary(word: &[u8]) -> bool {
     word.iter().all(|&entry| entry <= 1)
 }
 
@@ -46,18 +46,18 @@ impl Reference {
         }
     }
 
-    /// The codeword test and, with the room for its point, what the extension
-    /// judges.
-    pub(crate) fn try_test(
+    /// Judges a word for a code, and whether a list is too short; with a fault of the encoder
+    /// also, again, whether the code is too long.
+    pub(crate) fn judge_word(
         self,
-        code: &[u8],
+        code: &Code,
         word: &[u8],
-        room: Option<usize>,
-    ) -> Result<Code, WordAnswer> {
-        let code = self.read_code(code)?;
-        let odd = self.first_odd_check(&code, word);
-        let short = room.is_some_and(|room| room < code.variables());
+        short: bool,
+        too_long: bool,
+    ) -> Result<(), WordAnswer> {
+        let odd = self.first_odd_check(code, word);
         let judged = self.judge(&[
+            (Cause::TooLong, too_long),
             (Cause::Lengths, word.len() != code.bits),
             (Cause::WordEntry, !is_binary(word)),
             (Cause::ListTooShort, short),
@@ -68,13 +68,24 @@ impl Reference {
             Some(check) if cause == Cause::NotCodeword => check + first,
             _ => 0,
         };
-        match judged {
-            Ok(()) => Ok(code),
-            Err(cause) => Err(WordAnswer {
-                number: cause as u32,
-                place: place_of(cause),
-            }),
-        }
+        judged.map_err(|cause| WordAnswer {
+            number: cause as u32,
+            place: place_of(cause),
+        })
+    }
+
+    /// The codeword test and, with the room for its point, what the extension
+    /// judges.
+    pub(crate) fn try_test(
+        self,
+        code: &[u8],
+        word: &[u8],
+        room: Option<usize>,
+    ) -> Result<Code, WordAnswer> {
+        let code = self.read_code(code)?;
+        let short = room.is_some_and(|room| room < code.variables());
+        self.judge_word(&code, word, short, false)?;
+        Ok(code)
     }
 
     pub(crate) fn try_extend(

@@ -56,7 +56,12 @@ fn records_from_every_entry() {
         let answer = WordAnswer { number, place: 0 };
         assert_eq!(SOUND.test(&bytes, &[2; 3]), answer);
         assert_eq!(SOUND.extend(&bytes, &[2; 3], &mut point), answer);
+        assert_eq!(SOUND.read_message(&bytes, &[2; 3], &mut point), answer);
+        assert_eq!(SOUND.encode(&bytes, &[2; 3], &mut point), number);
+        assert_eq!(SOUND.encode_frames(&bytes, 2, &[2], &mut point), number);
         assert_eq!(point, [77; 3]);
+        let refused = LengthAnswer { number, length: 0 };
+        assert_eq!(SOUND.message_length(&bytes), refused);
     }
 }
 

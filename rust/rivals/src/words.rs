@@ -1,6 +1,6 @@
 //! The reflector and the sum of two words, as iterators write them.
 
-fn is_binary(word: &[u8]) -> bool {
+pub fn is_binary(word: &[u8]) -> bool {
     word.iter().fold(0, |most, &entry| most.max(entry)) <= 1
 }
 

@@ -1,7 +1,7 @@
 //! The C functions of the compiled library, but for the decoder's, which `decoder!`
 //! declares. A list is a pointer and a length.
 
-use interface::{BytesAnswer, CodeAnswer, WordAnswer};
+use interface::{BytesAnswer, CodeAnswer, LengthAnswer, WordAnswer};
 
 extern "C" {
     pub fn widagbe_read(code: *const u8, code_len: usize) -> CodeAnswer;
@@ -89,4 +89,34 @@ extern "C" {
     ) -> BytesAnswer;
 
     pub fn widagbe_export_size(code: *const u8, code_len: usize) -> BytesAnswer;
+
+    pub fn widagbe_message_length(code: *const u8, code_len: usize) -> LengthAnswer;
+
+    pub fn widagbe_encode(
+        code: *const u8,
+        code_len: usize,
+        message: *const u8,
+        message_len: usize,
+        word: *mut u8,
+        word_len: usize,
+    ) -> u32;
+
+    pub fn widagbe_encode_frames(
+        code: *const u8,
+        code_len: usize,
+        frames: usize,
+        messages: *const u8,
+        messages_len: usize,
+        words: *mut u8,
+        words_len: usize,
+    ) -> u32;
+
+    pub fn widagbe_read_message(
+        code: *const u8,
+        code_len: usize,
+        word: *const u8,
+        word_len: usize,
+        message: *mut u8,
+        message_len: usize,
+    ) -> WordAnswer;
 }

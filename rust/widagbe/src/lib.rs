@@ -68,3 +68,21 @@ impl Alist for Widagbe {
         call! { widagbe_export_size([code]) }
     }
 }
+
+impl Encoder for Widagbe {
+    fn message_length(&self, code: &[u8]) -> LengthAnswer {
+        call! { widagbe_message_length([code]) }
+    }
+
+    fn encode(&self, code: &[u8], message: &[u8], word: &mut [u8]) -> u32 {
+        call! { widagbe_encode([code], [message], [mut word]) }
+    }
+
+    fn encode_frames(&self, code: &[u8], frames: usize, messages: &[u8], words: &mut [u8]) -> u32 {
+        call! { widagbe_encode_frames([code], frames, [messages], [mut words]) }
+    }
+
+    fn read_message(&self, code: &[u8], word: &[u8], message: &mut [u8]) -> WordAnswer {
+        call! { widagbe_read_message([code], [word], [mut message]) }
+    }
+}

@@ -1,8 +1,8 @@
 //! Replays cases: reads them from standard input, one a line, and shows where
-//! an implementation (plain, tuned, vectors or library) differs from the reference.
+//! an implementation (plain, tuned, vectors, packed or library) differs from the reference.
 
 use compare::case::Case;
-use compare::outcome::{converted, decoded, outcome, Outcome};
+use compare::outcome::{converted, decoded, encoded, outcome, Outcome};
 use reference::SOUND;
 use std::env;
 use std::io::{self, BufRead};
@@ -15,12 +15,14 @@ fn subject(name: &str) -> Option<Subject> {
         "plain" => Some(|case| decoded(&rivals::Plain, case)),
         "tuned" => Some(|case| decoded(&rivals::Tuned, case)),
         "vectors" => Some(|case| converted(&rivals::Vectors, case)),
+        "packed" => Some(|case| encoded(&rivals::Packed, case)),
         #[cfg(feature = "library")]
         "library" => Some(|case| {
             use compare::outcome::{called, printed};
             use compare::program;
             called(&widagbe::Widagbe, case)
                 .or_else(|| converted(&widagbe::Widagbe, case))
+                .or_else(|| encoded(&widagbe::Widagbe, case))
                 .or_else(|| printed(program::frames, case))
         }),
         _ => None,
@@ -41,7 +43,7 @@ fn replay(subject: Subject, line: &str) -> Result<(), String> {
 
 fn main() -> ExitCode {
     let Some(subject) = env::args().nth(1).and_then(|name| subject(&name)) else {
-        eprintln!("usage: replay plain|tuned|vectors|library < CASES");
+        eprintln!("usage: replay plain|tuned|vectors|packed|library < CASES");
         return ExitCode::FAILURE;
     };
     let mut code = ExitCode::SUCCESS;

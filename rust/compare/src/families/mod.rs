@@ -2,6 +2,7 @@
 
 mod channels;
 mod decoding;
+mod encoder;
 mod exports;
 mod imports;
 mod limit;
@@ -92,6 +93,7 @@ impl Family {
 pub fn all() -> Vec<Family> {
     let mut families = calls();
     families.extend(texts());
+    families.extend(encoder::families());
     families.extend(program());
     families
 }
@@ -111,6 +113,13 @@ pub fn calls() -> Vec<Family> {
 pub fn conversions() -> Vec<Family> {
     let mut families = records::families();
     families.extend(texts());
+    families
+}
+
+/// The families with calls of the encoder.
+pub fn encodings() -> Vec<Family> {
+    let mut families = records::families();
+    families.extend(encoder::families());
     families
 }
 

@@ -4,7 +4,7 @@
 
 #include "widagbe.h"
 
-enum { N = 5, M = 2, T = 3, V = N + T - M };
+enum { N = 5, M = 2, T = 3, V = N + T - M, L = N - M };
 
 static const uint8_t code[] = {
     0x4c, 0x48, 0, N, 0, M,
@@ -63,6 +63,21 @@ int main(void)
     uint8_t sum[N + 1] = {0};
     printf("add_words %" PRIu32 "\n", widagbe_add_words(LIST(codeword), LIST(other), LIST(sum)));
     SHOW(sum);
+
+    static const uint8_t messages[2 * L] = {1, 0, 1, 0, 1, 1};
+    widagbe_length_answer length = widagbe_message_length(LIST(code));
+    printf("message_length %" PRIu32 " %zu\n", length.number, length.length);
+    uint8_t encoded[N + 1] = {0}, words[2 * N + 1] = {0}, message[L + 1] = {0};
+    printf("encode %" PRIu32 "\n", widagbe_encode(LIST(code), messages, L, LIST(encoded)));
+    SHOW(encoded);
+    printf("encode_frames %" PRIu32 "\n", widagbe_encode_frames(LIST(code), 2, LIST(messages), LIST(words)));
+    SHOW(words);
+    answer = widagbe_read_message(LIST(code), LIST(codeword), LIST(message));
+    printf("read_message %" PRIu32 " %zu\n", answer.number, answer.place);
+    SHOW(message);
+    answer = widagbe_read_message(LIST(code), LIST(other), LIST(message));
+    printf("read_message %" PRIu32 " %zu\n", answer.number, answer.place);
+    SHOW(message);
 
     int64_t sums[V + 1] = {0};
     int16_t values[V + 1] = {0};
