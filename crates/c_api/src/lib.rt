@@ -4,11 +4,13 @@ ghost use mathlib.Core.Path.{_≡_};
 ghost use Rattle.model.specs.declared.Settings.{Settings};
 ghost use Rattle.model.specs.Calls.{readingTold, verdictTold, listsOf, decodingTold};
 ghost use Rattle.model.specs.Promises.{ReaderCall, SplitterCall, FrontCall, ReflectorCall, AdderCall, TestCall, ExtensionCall, DecoderCall};
+ghost use Rattle.model.specs.EncodingPromises.{LengthCall, EncoderCall, FramesCall, RecoveryCall};
 ghost use Rattle.model.specs.AlistPromises.{ImportCall, ExportCall, SizeCall};
 ghost use Rattle.c_api.specs.Answers.{codeAnswer, wordAnswer, decodeAnswer};
 use model::Channel;
 use model::Decoding;
 use model::Erasure;
+use model::Length;
 use model::Reading;
 use model::Settings;
 use model::Verdict;
@@ -37,6 +39,13 @@ pub struct WordAnswer {
 pub struct BytesAnswer {
     pub number: u32,
     pub bytes: usize,
+}
+
+// How long a message is.
+#[repr(C)]
+pub struct LengthAnswer {
+    pub number: u32,
+    pub length: usize,
 }
 
 // The answer of a run; the place is a bit or a check.
@@ -90,6 +99,15 @@ fn bytes_answer(written: Written) -> BytesAnswer
     BytesAnswer {
         number: written.number,
         bytes: written.bytes,
+    }
+}
+
+fn length_answer(told: Length) -> LengthAnswer
+    ensures { λ r. ⌜ (r .number ≡ told .number) × (r .length ≡ told .length) ⌝ }
+{
+    LengthAnswer {
+        number: told.number,
+        length: told.length,
     }
 }
 
@@ -224,6 +242,42 @@ pub extern "C" fn widagbe_extend(code: &[u8], word: &[u8], point: &mut [u8]) -> 
         (record { outcome = wordAnswer r; point = now (point .exit) }) ⌝ }
 {
     word_answer(codeword::extend(code, word, point))
+}
+
+// ---- the encoder
+
+#[no_mangle]
+pub extern "C" fn widagbe_message_length(code: &[u8]) -> LengthAnswer
+    ensures { λ r. ⌜ LengthCall (now (code .entry)) (record { number = r .number; length = r .length }) ⌝ }
+{
+    length_answer(encoder::message_length(code))
+}
+
+#[no_mangle]
+pub extern "C" fn widagbe_encode(code: &[u8], message: &[u8], word: &mut [u8]) -> u32
+    ensures { λ r. ⌜ EncoderCall (now (code .entry)) (now (message .entry)) (now (word .entry)) (record { number = r; words = now (word .exit) }) ⌝ }
+{
+    encoder::encode(code, message, word)
+}
+
+#[no_mangle]
+pub extern "C" fn widagbe_encode_frames(
+    code: &[u8],
+    frames: usize,
+    messages: &[u8],
+    words: &mut [u8],
+) -> u32
+    ensures { λ r. ⌜ FramesCall (now (code .entry)) frames (now (messages .entry)) (now (words .entry)) (record { number = r; words = now (words .exit) }) ⌝ }
+{
+    encoder::encode_frames(code, frames, messages, words)
+}
+
+#[no_mangle]
+pub extern "C" fn widagbe_read_message(code: &[u8], word: &[u8], message: &mut [u8]) -> WordAnswer
+    ensures { λ r. ⌜ RecoveryCall (now (code .entry)) (now (word .entry)) (now (message .entry))
+        (record { outcome = wordAnswer r; message = now (message .exit) }) ⌝ }
+{
+    word_answer(encoder::read_message(code, word, message))
 }
 
 // ---- the decoder
