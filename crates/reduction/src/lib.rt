@@ -85,8 +85,8 @@ pub fn count_others(rows: &[[u8; MOST_ENCODED_BITS]], bits: usize) -> usize
     ensures { λ r. ⌜ r ≡ others (columnsIn bits (now (rows .entry))) ⌝ }
 {
     let mut count = 0usize;
-    for j in 0..bits {
-        if !is_pivot(rows, j) {
+    for column in 0..bits {
+        if !is_pivot(rows, column) {
             count += 1;
         }
     }

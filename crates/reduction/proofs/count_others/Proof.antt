@@ -10,17 +10,17 @@ use Rattle.reduction.proofs.count_others.Statement.{statement}
 use Rattle.reduction.proofs.count_others.Tie as tie
 
 abbrev Inv-loop : tie.InvT-loop
-Inv-loop rows bits count₀ j₀ count j = (j ≤ bits) × (count ≤ j) × (count ≡ others (take j (columnsIn bits rows)))
+Inv-loop rows bits count₀ column₀ count column = (column ≤ bits) × (count ≤ column) × (count ≡ others (take column (columnsIn bits rows)))
 
 abbrev μ-loop : tie.MeasureT-loop
-μ-loop rows bits count₀ j₀ count j = bits - j
+μ-loop rows bits count₀ column₀ count column = bits - column
 
 loop-again : tie.Need-loop-again Inv-loop μ-loop
 loop-again c =
     let v = c .before in
     let l = v .before .before in
     let a = l .before .args in
-    let j = l .loop .j in
+    let j = l .loop .column in
     let next = others-next (a .bits) (a .rows .now) j (v .before .loop-test .taken) in
     let one : c .if1 .count ≡ l .loop .count + 1 if not (isPivot (a .rows .now) j)
     = ⊎-elim (λ w. w .1 ∙ rw (← v .is-pivot .ensures, w .0 .taken)) (λ w. w .1 ∙ rw (← v .is-pivot .ensures, w .0 .left) (omega arith)) (c .if1 .came) in
@@ -30,7 +30,7 @@ returns : tie.Need-returns Inv-loop μ-loop
 returns c =
     let l = c .before in
     let a = l .before .args in
-    l .loop .inv .2 ∙ ap others (take-all (l .loop .j) (columnsIn (a .bits) (a .rows .now)) (omega (arith, length-columns (a .bits) (a .rows .now), c .loop-test .left)))
+    l .loop .inv .2 ∙ ap others (take-all (l .loop .column) (columnsIn (a .bits) (a .rows .now)) (omega (arith, length-columns (a .bits) (a .rows .now), c .loop-test .left)))
 
 pub count-others-spec : {M : Type 1} → statement M
 count-others-spec =
