@@ -4,7 +4,7 @@ ghost use mathlib.Core.Path.{_≡_};
 ghost use Rattle.model.specs.declared.Settings.{Settings};
 ghost use Rattle.model.specs.Calls.{readingTold, verdictTold, listsOf, decodingTold};
 ghost use Rattle.model.specs.Promises.{ReaderCall, SplitterCall, FrontCall, ReflectorCall, AdderCall, TestCall, ExtensionCall, DecoderCall};
-ghost use Rattle.model.specs.EncodingPromises.{LengthCall, EncoderCall, FramesCall, RecoveryCall};
+ghost use Rattle.model.specs.EncodingPromises.{LengthCall, EncoderCall, FramesCall, MessageCall};
 ghost use Rattle.model.specs.AlistPromises.{ImportCall, ExportCall, SizeCall};
 ghost use Rattle.c_api.specs.Answers.{codeAnswer, wordAnswer, decodeAnswer};
 use model::Channel;
@@ -274,7 +274,7 @@ pub extern "C" fn widagbe_encode_frames(
 
 #[no_mangle]
 pub extern "C" fn widagbe_read_message(code: &[u8], word: &[u8], message: &mut [u8]) -> WordAnswer
-    ensures { λ r. ⌜ RecoveryCall (now (code .entry)) (now (word .entry)) (now (message .entry))
+    ensures { λ r. ⌜ MessageCall (now (code .entry)) (now (word .entry)) (now (message .entry))
         (record { outcome = wordAnswer r; message = now (message .exit) }) ⌝ }
 {
     word_answer(encoder::read_message(code, word, message))

@@ -1,22 +1,20 @@
 -- The answers of the encoder's functions, by their causes in order. Assumes nothing.
-use Rattle.integers.proofs.Prelude.{_≡_, refl, sym, ap, ap₂, _∙_, List, [], _∷_, _++_, ℕ, zero, suc, _*_, _≤_, _<_, arith, lt-ltb, le-ltb, ltb, length}
+use Rattle.integers.proofs.Prelude.{_≡_, refl, sym, ap, ap₂, _∙_, List, [], _∷_, _++_, ℕ, zero, suc, _*_, _≤_, _<_, arith, lt-ltb, le-ltb, length}
 use Rattle.lists.specs.Tabulated.{written}
-use Rattle.lists.specs.Entries.{some}
 use Rattle.model.specs.declared.Verdict.{Verdict}
-use Rattle.model.specs.Limits.{mostEncodedBits}
 use Rattle.model.specs.Causes.{_if_, firstOf, short, accepted}
 use Rattle.model.specs.Records.{codeOf, judge}
 use Rattle.model.specs.Words.{tested}
-use Rattle.model.specs.Calls.{unequal, notBinary, verdictTold, wordCauses}
+use Rattle.model.specs.Calls.{verdictTold, wordCauses}
 use Rattle.model.specs.Told.{verdictKind}
-use Rattle.model.specs.Encoding.{others, messageIn, messageOf, framesIn, messageLength, messageCauses, framesCauses, framesEncoder, recoveryCauses, recovery}
-use Rattle.model.specs.EncodingPromises.{FramesCall, RecoveryCall}
+use Rattle.model.specs.Encoding.{messageIn, framesIn, messageLength, messageCauses, framesCauses, framesEncoder, messageReaderCauses, messageReader}
+use Rattle.model.specs.EncodingPromises.{FramesCall, MessageCall}
 use Rattle.model.proofs.Causes.{refused, first-in}
-use Rattle.model.proofs.EncodingPromises.{message-passes, frames-call, recovery-call, recovery-refuses}
+use Rattle.model.proofs.EncodingPromises.{message-passes, frames-call, reading-call, reading-refuses}
 use Rattle.codeword.proofs.Verdicts.{word-cause, word-long}
 use Rattle.reduction.specs.Table.{columnsIn}
 use Rattle.encoder.specs.Ready.{Ready}
-use Rattle.encoder.proofs.Readiness.{after-some, after-none, size-told, size-counted}
+use Rattle.encoder.proofs.Readiness.{after-some, after-none, size-told}
 
 module _ (b : List ℕ) (number n m size : ℕ) (rows : List (List ℕ)) (r : Ready b number n m size rows) where
   -- ---- many frames
@@ -60,23 +58,23 @@ module _ (b : List ℕ) (number n m size : ℕ) (rows : List (List ℕ)) (r : Re
 
   -- ---- the message of a word
   module _ (w old : List ℕ) where
-    abbrev pub Recovers : Verdict → List ℕ → Type 0
-    Recovers v l = RecoveryCall b w old (record { outcome = verdictTold v; message = l }) × verdictKind v
+    abbrev pub Reads : Verdict → List ℕ → Type 0
+    Reads v l = MessageCall b w old (record { outcome = verdictTold v; message = l }) × verdictKind v
 
     abbrev no-room : List ℕ
     no-room = 10 if short (messageLength (codeOf b)) old ∷ []
 
     abbrev word-causes : ℕ
-    word-causes = firstOf (judge b ∷ recoveryCauses (codeOf b) w old)
+    word-causes = firstOf (judge b ∷ messageReaderCauses (codeOf b) w old)
 
-    word-refuses : (c : ℕ) → word-causes ≡ c → (c ≡ 0 → ⊥) → Recovers (Verdict.Refused c) old
-    unfolding recovery
+    word-refuses : (c : ℕ) → word-causes ≡ c → (c ≡ 0 → ⊥) → Reads (Verdict.Refused c) old
+    unfolding messageReader
     word-refuses zero e h = absurd (h refl)
-    word-refuses (suc c) e h = (recovery-call b w old _ (rw e), recovery-refuses b w old c e)
+    word-refuses (suc c) e h = (reading-call b w old _ (rw e), reading-refuses b w old c e)
 
     -- the code is refused,
-    pub recovery-unready : (number ≡ 0 → ⊥) → Recovers (Verdict.Refused number) old
-    recovery-unready h = word-refuses number (after-some b number n m size rows r (wordCauses (codeOf b .bits) w ++ no-room) h) h
+    pub reading-unready : (number ≡ 0 → ⊥) → Reads (Verdict.Refused number) old
+    reading-unready h = word-refuses number (after-some b number n m size rows r (wordCauses (codeOf b .bits) w ++ no-room) h) h
 
     -- or the word is,
     module _ (z : number ≡ 0) where
@@ -85,25 +83,25 @@ module _ (b : List ℕ) (number n m size : ℕ) (rows : List (List ℕ)) (r : Re
           after-none b number n m size rows r z (wordCauses (codeOf b .bits) w ++ no-room)
           ∙ ap (λ (k : ℕ). firstOf (wordCauses k w ++ no-room)) (sym (r .bits-is z)) ∙ sym (first-in (wordCauses n w) no-room)
 
-      pub recovery-refused : (c : ℕ) → c ≡ word-cause n w → (c ≡ 0 → ⊥) → Recovers (Verdict.Refused c) old
-      recovery-refused c e h = word-refuses c (word-judged ∙ ap (λ (x : ℕ). firstOf (x ∷ no-room)) (sym e) ∙ refused c no-room h) h
+      pub reading-refused : (c : ℕ) → c ≡ word-cause n w → (c ≡ 0 → ⊥) → Reads (Verdict.Refused c) old
+      reading-refused c e h = word-refuses c (word-judged ∙ ap (λ (x : ℕ). firstOf (x ∷ no-room)) (sym e) ∙ refused c no-room h) h
 
       -- or there is no room,
       module _ (c : ℕ) (e : c ≡ word-cause n w) (none : c ≡ 0) where
         word-passes : word-causes ≡ firstOf no-room
         word-passes = word-judged ∙ rw (← e, none)
 
-        pub recovery-short : length old < size → Recovers (Verdict.Refused 10) old
-        recovery-short h =
+        pub reading-short : length old < size → Reads (Verdict.Refused 10) old
+        reading-short h =
             word-refuses 10 (word-passes ∙ rw (lt-ltb (length old) (messageLength (codeOf b)) (omega (arith, size-told b number n m size rows r z)))) (λ x. omega arith)
 
-        pub recovery-long : length w ≡ n
-        recovery-long = word-long n w (sym e ∙ none)
+        pub reading-long : length w ≡ n
+        reading-long = word-long n w (sym e ∙ none)
 
         -- or the word is tested
-        pub recovery-told : size ≤ length old → (v : Verdict) (l : List ℕ) → verdictKind v → verdictTold v ≡ tested (codeOf b) w
-            → l ≡ accepted (verdictTold v .number) (written (messageIn (columnsIn n rows) w) old) old → Recovers v l
-        unfolding recovery
-        recovery-told h v l k t is =
+        pub reading-told : size ≤ length old → (v : Verdict) (l : List ℕ) → verdictKind v → verdictTold v ≡ tested (codeOf b) w
+            → l ≡ accepted (verdictTold v .number) (written (messageIn (columnsIn n rows) w) old) old → Reads v l
+        unfolding messageReader
+        reading-told h v l k t is =
             let all : word-causes ≡ 0 = word-passes ∙ rw (le-ltb (length old) (messageLength (codeOf b)) (omega (arith, size-told b number n m size rows r z))) in
-            (recovery-call b w old _ (rw (all, ← t, is, r .columns z)), k)
+            (reading-call b w old _ (rw (all, ← t, is, r .columns z)), k)

@@ -1,12 +1,12 @@
 -- Frames one behind the other: their number, and one more. Assumes nothing.
-use Rattle.integers.proofs.Prelude.{_≡_, refl, sym, ap, ap₂, _∙_, Bool, true, _&&_, List, ℕ, suc, _+_, _*_, _/_, _%_, _≤_, _<_, arith, add-one, eqb-true, eq-eqb, eqb, length, take, drop, length-drop, length-take-le}
+use Rattle.integers.proofs.Prelude.{_≡_, sym, ap, ap₂, _∙_, true, _&&_, List, ℕ, suc, _+_, _*_, _/_, _%_, _≤_, _<_, arith, add-one, eqb-true, eq-eqb, eqb, length, take, drop, length-drop, length-take-le}
 use native.Mathlib.Nat.{div-add-mod', mul-div-cancel, mul-mod-left}
 use borrow.Rule.Slice.PartMut.{putMid}
-use Rattle.lists.specs.Tabulated.{written}
+use Rattle.lists.specs.Tabulated.{written, part}
 use Rattle.lists.proofs.Tabulated.{length-written}
 use Rattle.lists.proofs.Parts.{written-part}
 use Rattle.lists.proofs.Tests.{and-left, and-right, and-both, same-test}
-use Rattle.model.specs.Encoding.{Column, others, encodedIn, part, framesIn}
+use Rattle.model.specs.Encoding.{Column, others, encodedIn, framesIn}
 use Rattle.model.proofs.Encoding.{length-encoded, length-frames}
 
 -- a total that so many parts of one size make is divided by it, and the quotient is their number

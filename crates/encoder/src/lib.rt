@@ -9,7 +9,7 @@ ghost use Rattle.model.specs.Causes.{firstOf};
 ghost use Rattle.model.specs.Calls.{verdictTold};
 ghost use Rattle.model.specs.Told.{verdictKind};
 ghost use Rattle.model.specs.Encoding.{others, framesIn, messageCauses};
-ghost use Rattle.model.specs.EncodingPromises.{LengthCall, EncoderCall, FramesCall, RecoveryCall};
+ghost use Rattle.model.specs.EncodingPromises.{LengthCall, EncoderCall, FramesCall, MessageCall};
 ghost use Rattle.reduction.specs.Table.{columnsIn};
 ghost use Rattle.encoder.specs.Ready.{Ready};
 use model::Length;
@@ -155,7 +155,7 @@ pub fn encode(code: &[u8], message: &[u8], word: &mut [u8]) -> u32
 
 // The message of a codeword; or why the list is left as it was.
 pub fn read_message(code: &[u8], word: &[u8], message: &mut [u8]) -> Verdict
-    ensures call { λ r. ⌜ RecoveryCall (now (code .entry)) (now (word .entry)) (now (message .entry))
+    ensures call { λ r. ⌜ MessageCall (now (code .entry)) (now (word .entry)) (now (message .entry))
         (record { outcome = verdictTold r; message = now (message .exit) }) ⌝ }
     ensures kind { λ r. ⌜ verdictKind r ⌝ }
 {

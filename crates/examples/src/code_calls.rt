@@ -81,7 +81,7 @@ pub fn splitting_many(last: &[u8], rooms: &[u8]) {
 
 // ---- codeword test and extension
 
-fn verdict(name: &[u8], v: Verdict) {
+pub fn verdict(name: &[u8], v: Verdict) {
     text(name);
     match v {
         Verdict::Codeword => {

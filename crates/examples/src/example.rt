@@ -3,6 +3,7 @@
 use crate::code_calls;
 use crate::cost_calls;
 use crate::decoder_calls;
+use crate::encoder_calls;
 use crate::show::text;
 use model::Channel;
 
@@ -32,6 +33,15 @@ pub enum Example {
     Adding,
     // costs, word, other word: two reflections, the sum of the words, one reflection by it
     Chaining,
+    // code, message, room: the length of a message too
+    Encoding,
+    EncodingMany,
+    // bits, checks, degree, step; message, room
+    EncodingLong,
+    // code, messages, frames and room
+    Frames,
+    // code, word, room
+    ReadingMessage,
     // settings, costs, room of all six lists
     Decoding(u8),
 }
@@ -54,6 +64,11 @@ pub fn run(label: &[u8], x: &[u8], y: &[u8], z: &[u8], example: Example) {
         Example::Reflecting => cost_calls::reflecting(x, y, z),
         Example::Adding => cost_calls::adding(x, y, z),
         Example::Chaining => cost_calls::chaining(x, y, z),
+        Example::Encoding => encoder_calls::encoding(x, y, z),
+        Example::EncodingMany => encoder_calls::encoding_many(x, y, z),
+        Example::EncodingLong => encoder_calls::longest(x, y, z),
+        Example::Frames => encoder_calls::frames(x, y, z),
+        Example::ReadingMessage => encoder_calls::reading(x, y, z),
         Example::Decoding(mark) => decoder_calls::decoding(x, y, z, mark),
     }
     text(b"\n");

@@ -3,6 +3,7 @@ mod code_calls;
 mod codes;
 mod cost_calls;
 mod decoder_calls;
+mod encoder_calls;
 mod example;
 mod show;
 mod table;

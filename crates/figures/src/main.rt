@@ -2,6 +2,7 @@
 // line each. The stored output is what they should be. A section is a module of tables with a function `run`.
 mod codewords;
 mod decoding;
+mod encoding;
 mod front;
 mod reader;
 mod reflection;
@@ -13,5 +14,6 @@ fn main() {
     front::run();
     reflection::run();
     codewords::run();
+    encoding::run();
     decoding::run();
 }

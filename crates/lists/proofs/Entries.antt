@@ -1,9 +1,11 @@
 -- Tests and sums of a list's entries, and the first index that passes. Assumes nothing.
-use Rattle.integers.proofs.Prelude.{_≡_, refl, sym, ap, subst, _∙_, Bool, true, false, not, cond, _&&_, _||_, List, [], _∷_, _++_, map, ℕ, zero, suc, _+_}
+use Rattle.integers.proofs.Prelude.{_≡_, refl, sym, ap, ap₂, subst, _∙_, Bool, true, false, not, cond, _&&_, _||_, List, [], _∷_, _++_, map, ℕ, zero, suc, _+_}
 use Rattle.integers.proofs.Prelude.{_≤_, _<_, arith, add-one, ltb-true, ltb-false, T, ltb, length, getD, take, drop, length-map}
 use Rattle.integers.proofs.Prelude.{take-append-drop, drop-of-length-le, take-suc, drop-cons}
 use mathlib.Core.Bool.{or-assoc, or-false, and-assoc}
 use lib.ListN.{replicate}
+use Rattle.integers.specs.Sum.{sumℕ}
+use Rattle.integers.proofs.Sums.{sumℕ-first}
 use Rattle.lists.specs.Tabulated.{tab}
 use Rattle.lists.specs.Entries.{every, some, Each, total, first}
 use Rattle.lists.proofs.Tests.{and-left, and-right, and-both}
@@ -175,6 +177,11 @@ module _ {A : Type 0} where
 
   pub total-part : (f : A → ℕ) (l : List A) (i : ℕ) → total f (take i l) ≤ total f l
   total-part f l i = omega (arith, total-append f (take i l) (drop i l), ap (total f) (take-append-drop i l))
+
+-- over the indices
+pub total-entries : {A : Type 0} (f : A → ℕ) (l : List A) (d : A) → total f l ≡ sumℕ (length l) (λ i. f (getD l i d))
+total-entries f [] d = refl
+total-entries f (x ∷ l) d = ap₂ _+_ refl (total-entries f l d) ∙ sym (sumℕ-first (length l) (λ i. f (getD (x ∷ l) i d)))
 
 pub total-map : {A B : Type 0} (f : B → ℕ) (g : A → B) (l : List A) → total f (map g l) ≡ total (λ x. f (g x)) l
 total-map f g [] = refl

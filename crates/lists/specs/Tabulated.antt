@@ -1,7 +1,7 @@
 -- Lists given by their entries. Definitions only.
 use mathlib.Core.List.{List, [], _∷_, _++_}
-use Prim.Native.Nat.{ℕ, zero, suc}
-use lib.ListN.{length, drop}
+use Prim.Native.Nat.{ℕ, zero, suc, _*_}
+use lib.ListN.{length, take, drop}
 
 module _ {ℓ} {A : Type ℓ} where
   -- f 0, f 1, .., f (n − 1)
@@ -16,3 +16,7 @@ module _ {ℓ} {A : Type ℓ} where
   -- l, and beyond it what old has there: a lent list after l was written to it
   abbrev pub written : List A → List A → List A
   written l old = l ++ drop (length l) old
+
+  -- part f of a list in which parts of one size stand one behind the other
+  abbrev pub part : ℕ → ℕ → List A → List A
+  part size f l = take size (drop (f * size) l)

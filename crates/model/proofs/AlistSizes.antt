@@ -1,10 +1,10 @@
 -- Columns and rows that name the same places name as many, and the records of an accepted code are not longer than a text of it. Assumes nothing.
-use Rattle.integers.proofs.Prelude.{_≡_, refl, sym, ap₂, _∙_, true, List, [], _∷_, map, ℕ, suc, _+_, _*_, _≤_, arith, ltb, leb, length, getD}
+use Rattle.integers.proofs.Prelude.{_≡_, refl, sym, _∙_, true, List, [], _∷_, map, ℕ, suc, _+_, _*_, _≤_, arith, ltb, leb, length, getD}
 use Rattle.integers.proofs.Prelude.{length-map}
 use Rattle.integers.specs.Sum.{sumℕ}
-use Rattle.integers.proofs.Sums.{sumℕ-same, sumℕ-first, sumℕ-swap}
+use Rattle.integers.proofs.Sums.{sumℕ-same, sumℕ-swap}
 use Rattle.lists.specs.Entries.{every, total}
-use Rattle.lists.proofs.Entries.{every-at, total-map, total-lengths}
+use Rattle.lists.proofs.Entries.{every-at, total-entries, total-map, total-lengths}
 use Rattle.model.specs.Code.{tripleCount}
 use Rattle.model.specs.Records.{recordsOf, recordSize}
 use Rattle.model.specs.Sound.{SoundChecks, Sound}
@@ -14,15 +14,11 @@ use Rattle.model.proofs.RecordClaims.{length-code}
 use Rattle.model.proofs.Agreement.{times-length, columns-upTo, rows-upTo}
 
 -- ---- double counting
-total-sum : {A : Type 0} (f : A → ℕ) (l : List A) (d : A) → total f l ≡ sumℕ (length l) (λ i. f (getD l i d))
-total-sum f [] d = refl
-total-sum f (x ∷ l) d = ap₂ _+_ refl (total-sum f l d) ∙ sym (sumℕ-first (length l) (λ i. f (getD (x ∷ l) i d)))
-
 -- the indices of a side, all of them in 1..n, by the number that they name
 by-number : (n : ℕ) (ls : List (List ℕ)) → every (every (ltb 0)) ls ≡ true → upTo n ls ≡ true
     → total length ls ≡ sumℕ (length ls) (λ i. sumℕ n (λ c. times (suc c) (getD ls i [])))
 by-number n ls h k =
-    total-sum length ls [] ∙ sumℕ-same (length ls) (λ i. length (getD ls i [])) (λ i. sumℕ n (λ c. times (suc c) (getD ls i [])))
+    total-entries length ls [] ∙ sumℕ-same (length ls) (λ i. length (getD ls i [])) (λ i. sumℕ n (λ c. times (suc c) (getD ls i [])))
     (λ i l. sym (times-length n (getD ls i []) (every-at (every (ltb 0)) ls i [] h l) (every-at (every (λ i. leb i n)) ls i [] k l)))
 
 pub same-total : (cs rs : List (List ℕ)) → every (every (ltb 0)) cs ≡ true → every (every (ltb 0)) rs ≡ true → SamePlaces cs rs

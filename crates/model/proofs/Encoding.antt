@@ -7,17 +7,19 @@ use native.Mathlib.Numerals.{one-add}
 use mathlib.Core.Logic.{_↔_}
 use Rattle.integers.specs.Sum.{sumℕ}
 use Rattle.integers.proofs.Sums.{sumℕ-same, sumℕ-split, sumℕ-first, sumℕ-zero}
+use Rattle.lists.specs.Tabulated.{part}
 use Rattle.lists.specs.Entries.{some, total}
-use Rattle.lists.proofs.Entries.{each-at}
+use Rattle.lists.proofs.Entries.{total-entries}
 use Rattle.model.specs.Causes.{_if_}
 use Rattle.model.specs.Code.{Code}
-use Rattle.model.specs.Sound.{SoundCheck, Sound}
+use Rattle.model.specs.Sound.{Sound}
 use Rattle.model.specs.Words.{bitAt}
 use Rattle.model.specs.Points.{Bits, Codeword}
 use Rattle.model.specs.Reflection.{sumOfWords}
 use Rattle.model.specs.Composition.{zeroWord}
-use Rattle.model.specs.Encoding.{element, Column, pivot, other, reduced, isOther, others, product, encodedIn, messageIn, part, framesIn, messageLength, encoded, messageOf}
+use Rattle.model.specs.Encoding.{element, Column, pivot, other, reduced, isOther, others, innerProduct, encodedIn, messageIn, framesIn, messageLength, encoded, messageOf}
 use Rattle.model.specs.Encoding.{Dependent, isPivot, Encodes}
+use Rattle.model.proofs.Sound.{sound-at}
 use Rattle.model.proofs.Composition.{zero-at, zero-bits, sum-codeword}
 use Rattle.model.proofs.Reduction.{rest-bits, more-bits, no-bits, check-sum, small-if, Meets, columns, codewords}
 
@@ -88,7 +90,7 @@ word-back zero (c ∷ cs) (x ∷ w) e b h = absurd (omega arith)
 word-back (suc n) (other ∷ cs) (x ∷ w) e b h = ap (λ (l : List ℕ). x ∷ l) (word-back n cs w (omega arith) (rest-bits n x w b) h)
 word-back (suc n) (pivot q ∷ cs) (x ∷ w) e b h =
     let ih = word-back n cs w (omega arith) (rest-bits n x w b) (h .1) in
-    let fixed : product q w % 2 ≡ x = omega (arith, h .0, b .binary 0) in
+    let fixed : innerProduct q w % 2 ≡ x = omega (arith, h .0, b .binary 0) in
     rw ih (ap (λ (y : ℕ). y ∷ w) fixed)
 
 -- messages add up as words do
@@ -140,7 +142,7 @@ frame-part cs (suc f) ms rest g h =
 abbrev lastOne : List ℕ → ℕ → List ℕ
 lastOne front more = front ++ (1 ∷ zeroWord more)
 
-product-zeros : (q : List ℕ) (n : ℕ) → product q (zeroWord n) ≡ 0
+product-zeros : (q : List ℕ) (n : ℕ) → innerProduct q (zeroWord n) ≡ 0
 product-zeros [] n = refl
 product-zeros (a ∷ q) zero = refl
 product-zeros (a ∷ q) (suc n) = rw (product-zeros q n) (omega arith)
@@ -167,7 +169,7 @@ last-one (suc j) more (c ∷ cs) e h = by c (last-one j more cs (omega arith) h)
     by : (c : Column) → LastOne cs j more → LastOne (c ∷ cs) (suc j) more
     by other x = record { front = 0 ∷ x .front; before = more-bits j 0 (x .front) (omega arith) (x .before); meets = x .meets }
     by (pivot q) x =
-        let y = product q (lastOne (x .front) more) % 2 in
+        let y = innerProduct q (lastOne (x .front) more) % 2 in
         record { front = y ∷ x .front; before = more-bits j y (x .front) (omega arith) (x .before); meets = (omega arith, x .meets) }
 
 -- and in no pivot
@@ -197,7 +199,8 @@ last-sum j more front f e =
     (sumℕ-same j (λ c. f c * bitAt w c) (λ c. f c * bitAt front c) (λ c l. ap (λ (y : ℕ). f c * y) (List·getD-append front (1 ∷ zeroWord more) 0 c (omega arith))))
     (sumℕ-first more (λ i. f (j + i) * bitAt w (j + i))
     ∙ rw (
-      past 0, add-zero j,
+      past 0,
+      add-zero j,
       sumℕ-zero more (λ i. f (j + suc i) * bitAt w (j + suc i)) (λ i l. ap (λ (y : ℕ). f (j + suc i) * y) (past (suc i) ∙ zero-at more i) ∙ omega arith),
     ) (omega arith))
 
@@ -206,9 +209,12 @@ module _ (k : Code) (s : Sound k) where
   abbrev n : ℕ
   n = k .bits
 
+  abbrev check : ℕ → List ℕ
+  check i = getD (k .checks) i []
+
   -- a check's sum over a word, by the entries of its row
-  check-row : (i : ℕ) → i < length (k .checks) → (x : ℕ → ℕ) → sumℕ n (λ c. element k i c * x c) ≡ total x (getD (k .checks) i [])
-  check-row i l x = check-sum n 0 x (getD (k .checks) i []) (each-at (SoundCheck n) (k .checks) [] (s .checks) i l .rising)
+  check-row : (i : ℕ) → i < length (k .checks) → (x : ℕ → ℕ) → sumℕ n (λ c. element (check i) c * x c) ≡ total x (check i)
+  check-row i l x = check-sum n 0 x (check i) (sound-at n (k .checks) (s .checks) i l .rising)
 
   module _ (j : ℕ) (l : j < n) where
     abbrev more : ℕ
@@ -219,11 +225,11 @@ module _ (k : Code) (s : Sound k) where
 
     -- an even sum of such a word tells that its front makes column j
     last-even : (front : List ℕ) → length front ≡ j → (i : ℕ) → i < length (k .checks)
-        → (total (bitAt (lastOne front more)) (getD (k .checks) i []) % 2 ≡ 0) ↔ (sumℕ j (λ c. element k i c * bitAt front c) % 2 ≡ element k i j)
+        → (total (bitAt (lastOne front more)) (check i) % 2 ≡ 0) ↔ (sumℕ j (λ c. element (check i) c * bitAt front c) % 2 ≡ element (check i) j)
     last-even front e i h =
-        let sum : total (bitAt (lastOne front more)) (getD (k .checks) i []) ≡ sumℕ j (λ c. element k i c * bitAt front c) + element k i j
-        = sym (check-row i h (bitAt (lastOne front more))) ∙ ap (λ (m : ℕ). sumℕ m (λ c. element k i c * bitAt (lastOne front more) c)) all ∙ last-sum j more front (element k i) e in
-        let small = small-if (some (eqb j) (getD (k .checks) i [])) in
+        let sum : total (bitAt (lastOne front more)) (check i) ≡ sumℕ j (λ c. element (check i) c * bitAt front c) + element (check i) j
+        = sym (check-row i h (bitAt (lastOne front more))) ∙ ap (λ (m : ℕ). sumℕ m (λ c. element (check i) c * bitAt (lastOne front more) c)) all ∙ last-sum j more front (element (check i)) e in
+        let small = small-if (some (eqb j) (check i)) in
         (λ g. omega (arith, sum, small, g), λ g. omega (arith, sum, small, g))
 
     last-word : (front : List ℕ) → Bits j front → Bits n (lastOne front more)
@@ -254,11 +260,17 @@ module _ (k : Code) (s : Sound k) where
         by true e h = refl
         by false e h = absurd (h (dependent .0 e))
 
+  twice : (t : Bool) → 1 if t ≡ 1 if not (not t)
+  twice true = refl
+  twice false = refl
+
   pub encoding : Encodes k
   encoding = record {
     columns = columns k;
     earliest = earliest;
     dependent = dependent;
+    counted = total-entries (λ c. 1 if isOther c) (reduced k) other ∙ ap (λ (m : ℕ). sumℕ m (λ j. 1 if isOther (getD (reduced k) j other))) (columns k)
+        ∙ sumℕ-same n (λ j. 1 if isOther (getD (reduced k) j other)) (λ j. 1 if not (isPivot k j)) (λ j l. twice (isOther (getD (reduced k) j other)));
     rising = λ w e j l h. message-at (reduced k) w j (e ∙ sym (columns k)) (omega (arith, columns k)) (not-false _ h);
     codeword = codeword;
     read-back = λ m b. read-back (reduced k) m (b .long);
@@ -283,5 +295,5 @@ module _ (k : Code) (s : Sound k) where
           let u = encoded k l in
           let e : messageOf k (sumOfWords w u) ≡ sumOfWords m l
           = message-sum (reduced k) w u (length-encoded (reduced k) m) (length-encoded (reduced k) l)
-              ∙ ap₂ sumOfWords (read-back (reduced k) m (a .long)) (read-back (reduced k) l (b .long)) in
+          ∙ ap₂ sumOfWords (read-back (reduced k) m (a .long)) (read-back (reduced k) l (b .long)) in
           ap (encoded k) (sym e) ∙ back (sumOfWords w u) (sum-codeword k w u (codeword m a) (codeword l b))

@@ -1,29 +1,26 @@
 -- What the functions of the encoder promise follows from the equations with their definitions. Assumes nothing.
-use Rattle.integers.proofs.Prelude.{_≡_, refl, sym, ap, ap₂, subst, _∙_, Bool, true, false, List, [], _∷_, _++_, append-assoc, ℕ, zero, suc, _+_, _*_, _≤_, _<_}
-use Rattle.integers.proofs.Prelude.{arith, decLt, le-ltb, ltb-false, ltb, ℤ, length, take, drop, length-append, length-drop, length-take-le, getD-take, getD-drop}
-use Rattle.integers.proofs.Prelude.{take-all, take-at, drop-at, List·getD-eq-default}
+use Rattle.integers.proofs.Prelude.{_≡_, refl, sym, ap, ap₂, subst, _∙_, Bool, true, false, List, [], _∷_, _++_, ℕ, zero, suc, _+_, _*_, _≤_, _<_}
+use Rattle.integers.proofs.Prelude.{arith, decLt, le-ltb, ltb-false, ltb, length, take, drop, length-drop, length-take-le, getD-take, getD-drop}
+use Rattle.integers.proofs.Prelude.{take-all, List·getD-eq-default}
 use native.Mathlib.Nat.{zero-mul, mul-le-mul-right}
 use mathlib.Core.Logic.{_↔_}
-use Rattle.lists.specs.Tabulated.{written}
+use Rattle.lists.specs.Tabulated.{written, part}
 use Rattle.lists.specs.Entries.{some}
 use Rattle.lists.proofs.Tabulated.{take-written}
-use Rattle.model.specs.declared.Settings.{Settings}
 use Rattle.model.specs.declared.Length.{Length}
 use Rattle.model.specs.Limits.{mostEncodedBits}
 use Rattle.model.specs.Causes.{_if_, firstOf, short, accepted}
 use Rattle.model.specs.Code.{Code}
-use Rattle.model.specs.Sound.{Sound}
 use Rattle.model.specs.Records.{codeOf, judge}
 use Rattle.model.specs.Words.{bitAt, firstOdd}
 use Rattle.model.specs.Points.{Bits, Codeword}
 use Rattle.model.specs.Reflection.{reflect, sumOfWords}
-use Rattle.model.specs.Calls.{unequal, notBinary, wordCauses, Lists, Decoded, noRoom, decoderCause, decoder, Costs, reflector}
+use Rattle.model.specs.Calls.{unequal, notBinary, Costs}
 use Rattle.model.specs.Order.{oddCauses, oneToNine}
 use Rattle.model.specs.Told.{Refuses}
-use Rattle.model.specs.DecoderClaims.{Small, ReflectedCalls}
-use Rattle.model.specs.Encoding.{reduced, messageLength, encoded, messageOf, part, framesIn, encodedFrames, sizeCauses, messageSize, Encoding, messageCauses}
-use Rattle.model.specs.Encoding.{encoderCauses, encoder, framesCauses, framesEncoder, Recovered, recoveryCauses, recovery, Encodes}
-use Rattle.model.specs.EncodingPromises.{Encodable, LengthCall, EncoderCall, FramesCall, RecoveryCall}
+use Rattle.model.specs.Encoding.{reduced, messageLength, encoded, messageOf, framesIn, encodedFrames, sizeCauses, messageSize, Encoding, messageCauses}
+use Rattle.model.specs.Encoding.{encoderCauses, encoder, framesCauses, framesEncoder, MessageRead, messageReaderCauses, messageReader, Encodes}
+use Rattle.model.specs.EncodingPromises.{Encodable, LengthCall, EncoderCall, FramesCall, MessageCall}
 use Rattle.model.proofs.Causes.{stays, clear, unless}
 use Rattle.model.proofs.Accepted as Accepted
 use Rattle.model.proofs.Order.{Listed, listed, whole, follow, after-records, word-order}
@@ -116,45 +113,45 @@ module _ (b : List ℕ) where
     room-listed = listed numbers ((10, short L old) ∷ []) refl
 
     -- the number of a refusal is a refusal's
-    pub recovery-refuses : (c : ℕ) → firstOf (judge b ∷ recoveryCauses k w old) ≡ suc c → Refuses (suc c)
-    recovery-refuses = word-refuses b w (sizeCauses k) no-room size-listed room-listed
+    pub reading-refuses : (c : ℕ) → firstOf (judge b ∷ messageReaderCauses k w old) ≡ suc c → Refuses (suc c)
+    reading-refuses = word-refuses b w (sizeCauses k) no-room size-listed room-listed
 
-    pub recovery-is : Encodable b → Codeword k w → L ≤ length old
-        → recovery b w old ≡ record { outcome = record { number = 0; place = 0 }; message = written (messageOf k w) old }
-    unfolding recovery
-    recovery-is e c room =
+    pub reading-is : Encodable b → Codeword k w → L ≤ length old
+        → messageReader b w old ≡ record { outcome = record { number = 0; place = 0 }; message = written (messageOf k w) old }
+    unfolding messageReader
+    reading-is e c room =
         rw (codeword-answer b w (sizeCauses k) no-room size-listed room-listed (e .accepted) (rw (le-ltb mostEncodedBits n (e .size))) (rw (le-ltb (length old) L room)) c)
 
-    pub recovery-exactly : (recovery b w old .outcome .number ≡ 0) ↔ (Encodable b × Codeword k w × (L ≤ length old))
-    unfolding recovery
-    recovery-exactly = (
+    pub reading-exactly : (messageReader b w old .outcome .number ≡ 0) ↔ (Encodable b × Codeword k w × (L ≤ length old))
+    unfolding messageReader
+    reading-exactly = (
       λ h.
           let x = answer-codeword b w (sizeCauses k) no-room size-listed room-listed h in (
             record { accepted = x .0 .code; size = ltb-false mostEncodedBits n (unless 19 _ (clear (sizeCauses k) (x .0 .first) .0)) },
             x .1,
             ltb-false (length old) L (unless 9 _ (clear no-room (x .0 .last) .0)),
           ),
-      λ e. ap (λ (a : Recovered). a .outcome .number) (recovery-is (e .0) (e .1) (e .2)),
+      λ e. ap (λ (a : MessageRead). a .outcome .number) (reading-is (e .0) (e .1) (e .2)),
     )
 
-    pub recovery-call : (a : Recovered) → a ≡ recovery b w old → RecoveryCall b w old a
-    unfolding recovery
-    recovery-call a meets =
+    pub reading-call : (a : MessageRead) → a ≡ messageReader b w old → MessageCall b w old a
+    unfolding messageReader
+    reading-call a meets =
         let T = oneToNine ++ (10 ∷ 12 ∷ 15 ∷ 17 ∷ 20 ∷ []) in
         let causes : List (ℕ × Bool) = (20, ltb mostEncodedBits n) ∷ (12, unequal w n) ∷ (15, some notBinary w) ∷ (10, short L old)
-            ∷ (17, ltb (firstOdd k w) (length (k .checks))) ∷ [] in
-        subst (RecoveryCall b w old) (sym meets) (record {
+        ∷ (17, ltb (firstOdd k w) (length (k .checks))) ∷ [] in
+        subst (MessageCall b w old) (sym meets) (record {
           equation = refl;
-          order = after-records (10 ∷ 12 ∷ 15 ∷ 17 ∷ 20 ∷ []) b (recoveryCauses k w old ++ oddCauses k w) _
-              (listed T causes refl) (word-order k w (judge b ∷ recoveryCauses k w old));
+          order = after-records (10 ∷ 12 ∷ 15 ∷ 17 ∷ 20 ∷ []) b (messageReaderCauses k w old ++ oddCauses k w) _
+              (listed T causes refl) (word-order k w (judge b ∷ messageReaderCauses k w old));
           follows = follow (whole b ++ causes) refl;
-          exactly = recovery-exactly;
+          exactly = reading-exactly;
           filled = λ h. rw h;
           encoded-back = λ h out room.
-              let x = recovery-exactly .0 h in
+              let x = reading-exactly .0 h in
               let some = laws (x .0) .some-message w (x .1) in
-              let taken : take L (recovery b w old .message) ≡ messageOf k w
-              = ap (λ (r : Recovered). take L (r .message)) (recovery-is (x .0) (x .1) (x .2)) ∙ take-written (messageOf k w) old L (some .0 .long) in
+              let taken : take L (messageReader b w old .message) ≡ messageOf k w
+              = ap (λ (r : MessageRead). take L (r .message)) (reading-is (x .0) (x .1) (x .2)) ∙ take-written (messageOf k w) old L (some .0 .long) in
               ap (λ (m : List ℕ). encoder b m out) taken ∙ encoder-is (messageOf k w) out (x .0) (some .0) room
               ∙ ap (λ (u : List ℕ). record { number = 0; words = written u out }) (some .1);
           odd = answer-odd b w (sizeCauses k) no-room size-listed room-listed;
@@ -205,18 +202,18 @@ module _ (b : List ℕ) where
           word = is;
           encodes = λ j. encoding k (Accepted.accepted b j);
           tested = λ h. rw (is h) (test-is b (encoded k m) (took h .0 .accepted) (codeword h));
-          recovered = λ h out room.
-              rw (is h) (recovery-is (encoded k m) out (took h .0) (codeword h) (omega (arith, took h .1 .long, room))
+          read-back = λ h out room.
+              rw (is h) (reading-is (encoded k m) out (took h .0) (codeword h) (omega (arith, took h .1 .long, room))
               ∙ ap (λ (l : List ℕ). record { outcome = record { number = 0; place = 0 }; message = written l out }) (laws (took h .0) .read-back m (took h .1)));
           one-message = λ h l out g e.
               laws (took h .0) .one-message l m (encoder-exactly l out .0 g .1) (took h .1) (sym (word-is l out g) ∙ e ∙ is h);
-          sum = λ h l old′ c other g out room.
-              let told : encoder b l old′ .number ≡ 0 = ap (λ (x : Encoding). x .number) (sym other) ∙ g in
-              let bits = encoder-exactly l old′ .0 told .1 in
+          sum = λ h l lent c other g out room.
+              let told : encoder b l lent .number ≡ 0 = ap (λ (x : Encoding). x .number) (sym other) ∙ g in
+              let bits = encoder-exactly l lent .0 told .1 in
               encoder-is (sumOfWords m l) out (took h .0) (sum-bits L m l (took h .1) bits) room
               ∙ ap (λ (u : List ℕ). record { number = 0; words = written u out })
               (laws (took h .0) .sum m l (took h .1) bits
-              ∙ ap₂ sumOfWords (sym (is h)) (sym (word-is l old′ told) ∙ ap (λ (x : Encoding). take n (x .words)) (sym other)));
+              ∙ ap₂ sumOfWords (sym (is h)) (sym (word-is l lent told) ∙ ap (λ (x : Encoding). take n (x .words)) (sym other)));
           reflected = λ h costs small long out room r reflects.
               let w = encoded k m in
               let took-costs : r ≡ record { number = 0; costs = written (reflect w costs) out }

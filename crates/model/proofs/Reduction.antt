@@ -1,6 +1,6 @@
 -- The reduced check matrix: what a word has to meet is the same before and after. Assumes nothing.
-use Rattle.integers.proofs.Prelude.{_≡_, refl, sym, ap, ap₂, _∙_, Bool, true, false, _||_, List, [], _∷_, ℕ, zero, suc, _+_, _*_, _%_, _≤_, _<_, arith}
-use Rattle.integers.proofs.Prelude.{eqb-true, ne-eqb, eq-eqb, eqb, length, getD}
+use Rattle.integers.proofs.Prelude.{_≡_, refl, sym, ap, ap₂, _∙_, Bool, true, false, _||_, List, [], _∷_, ℕ, zero, suc, _+_, _*_, _%_, _<_, arith}
+use Rattle.integers.proofs.Prelude.{eqb-true, ne-eqb, eq-eqb, eqb, length}
 use mathlib.Core.Logic.{_↔_}
 use lib.ListN.{replicate, length-replicate}
 use Rattle.integers.specs.Sum.{sumℕ}
@@ -14,8 +14,7 @@ use Rattle.model.specs.Sound.{Rising, SoundChecks, Sound}
 use Rattle.model.specs.Words.{bitAt}
 use Rattle.model.specs.Points.{Bits, Codeword}
 use Rattle.model.specs.Reflection.{sumOfWords}
-use Rattle.model.specs.Encoding.{rowOf, Column, pivot, other, cleared, reducedBy, reduced, product}
-use Rattle.model.proofs.Composition.{length-sum}
+use Rattle.model.specs.Encoding.{element, rowOf, Column, pivot, other, cleared, reducedBy, reduced, innerProduct}
 
 -- ---- words, entry by entry
 pub rest-bits : (n x : ℕ) (w : List ℕ) → Bits (suc n) (x ∷ w) → Bits n w
@@ -32,12 +31,12 @@ pub no-bits : Bits 0 []
 no-bits = record { long = refl; binary = λ i. omega arith }
 
 -- ---- products
-pub product-none : (q : List ℕ) → product q [] ≡ 0
+pub product-none : (q : List ℕ) → innerProduct q [] ≡ 0
 product-none [] = refl
 product-none (a ∷ q) = refl
 
 -- of a sum of rows, at a word
-product-sum : (n : ℕ) (r q w : List ℕ) → length r ≡ n → Bits n w → product (sumOfWords r q) w % 2 ≡ (product r w + product q w) % 2
+product-sum : (n : ℕ) (r q w : List ℕ) → length r ≡ n → Bits n w → innerProduct (sumOfWords r q) w % 2 ≡ (innerProduct r w + innerProduct q w) % 2
 unfolding sumOfWords
 product-sum n [] q [] e b = rw (product-none q)
 product-sum n [] q (x ∷ w) e b = absurd (omega (arith, b .long))
@@ -45,19 +44,19 @@ product-sum n (a ∷ r) q [] e b = rw (product-none q)
 product-sum zero (a ∷ r) q (x ∷ w) e b = absurd (omega arith)
 product-sum (suc n) (a ∷ r) [] (x ∷ w) e b = by x (b .binary 0) (product-sum n r [] w (omega arith) (rest-bits n x w b))
   where
-    by : (x : ℕ) → x < 2 → product (sumOfWords r []) w % 2 ≡ (product r w + 0) % 2 → ((a + 0) % 2 * x + product (sumOfWords r []) w) % 2 ≡ (a * x + product r w + 0) % 2
+    by : (x : ℕ) → x < 2 → innerProduct (sumOfWords r []) w % 2 ≡ (innerProduct r w + 0) % 2 → ((a + 0) % 2 * x + innerProduct (sumOfWords r []) w) % 2 ≡ (a * x + innerProduct r w + 0) % 2
     by zero l ih = omega (arith, ih)
     by (suc zero) l ih = omega (arith, ih)
     by (suc (suc x)) l ih = absurd (omega arith)
 product-sum (suc n) (a ∷ r) (c ∷ q) (x ∷ w) e b = by x (b .binary 0) (product-sum n r q w (omega arith) (rest-bits n x w b))
   where
-    by : (x : ℕ) → x < 2 → product (sumOfWords r q) w % 2 ≡ (product r w + product q w) % 2
-        → ((a + c) % 2 * x + product (sumOfWords r q) w) % 2 ≡ (a * x + product r w + (c * x + product q w)) % 2
+    by : (x : ℕ) → x < 2 → innerProduct (sumOfWords r q) w % 2 ≡ (innerProduct r w + innerProduct q w) % 2
+        → ((a + c) % 2 * x + innerProduct (sumOfWords r q) w) % 2 ≡ (a * x + innerProduct r w + (c * x + innerProduct q w)) % 2
     by zero l ih = omega (arith, ih)
     by (suc zero) l ih = omega (arith, ih)
     by (suc (suc x)) l ih = absurd (omega arith)
 
-product-tab : (n : ℕ) (f : ℕ → ℕ) (w : List ℕ) → length w ≡ n → product (tab n f) w ≡ sumℕ n (λ i. f i * bitAt w i)
+product-tab : (n : ℕ) (f : ℕ → ℕ) (w : List ℕ) → length w ≡ n → innerProduct (tab n f) w ≡ sumℕ n (λ i. f i * bitAt w i)
 product-tab zero f w e = refl
 product-tab (suc n) f [] e = absurd (omega arith)
 product-tab (suc n) f (x ∷ w) e = rw (product-tab n (λ i. f (suc i)) w (omega arith)) (sym (sumℕ-first n (λ i. f i * bitAt (x ∷ w) i)))
@@ -69,11 +68,11 @@ below-none n low [] i r h = refl
 below-none n low (a ∷ c) i r h = rw (ne-eqb i a (λ e. omega (arith, r .0)), below-none n (suc a) c i (r .2) (omega (arith, r .0)))
 
 -- its sum over a word's entries, column by column
-pub check-sum : (n low : ℕ) (x : ℕ → ℕ) (c : List ℕ) → Rising n low c → sumℕ n (λ b. (1 if some (eqb b) c) * x b) ≡ total x c
+pub check-sum : (n low : ℕ) (x : ℕ → ℕ) (c : List ℕ) → Rising n low c → sumℕ n (λ b. element c b * x b) ≡ total x c
 check-sum n low x [] r = sumℕ-zero n (λ b. 0 * x b) (λ b l. omega arith)
 check-sum n low x (a ∷ c) r =
-    sumℕ-same n (λ b. (1 if some (eqb b) (a ∷ c)) * x b) (λ b. (1 if eqb b a) * x b + (1 if some (eqb b) c) * x b) (λ b l. apart b (eqb b a) refl)
-    ∙ sumℕ-add n (λ b. (1 if eqb b a) * x b) (λ b. (1 if some (eqb b) c) * x b)
+    sumℕ-same n (λ b. element (a ∷ c) b * x b) (λ b. (1 if eqb b a) * x b + element c b * x b) (λ b l. apart b (eqb b a) refl)
+    ∙ sumℕ-add n (λ b. (1 if eqb b a) * x b) (λ b. element c b * x b)
     ∙ ap₂ _+_ one (check-sum n (suc a) x c (r .2))
   where
     one : sumℕ n (λ b. (1 if eqb b a) * x b) ≡ x a
@@ -83,8 +82,8 @@ check-sum n low x (a ∷ c) r =
     apart b true e = let f : some (eqb b) c ≡ false = below-none n (suc a) c b (r .2) (omega (arith, eqb-true b a e)) in rw (e, f) (omega arith)
     apart b false e = rw e (omega arith)
 
-row-product : (n : ℕ) (c w : List ℕ) → Rising n 0 c → length w ≡ n → product (rowOf n c) w ≡ total (bitAt w) c
-row-product n c w r e = product-tab n (λ b. 1 if some (eqb b) c) w e ∙ check-sum n 0 (bitAt w) c r
+row-product : (n : ℕ) (c w : List ℕ) → Rising n 0 c → length w ≡ n → innerProduct (rowOf n c) w ≡ total (bitAt w) c
+row-product n c w r e = product-tab n (element c) w e ∙ check-sum n 0 (bitAt w) c r
 
 pub small-if : (t : Bool) → 1 if t < 2
 small-if true = omega arith
@@ -95,14 +94,14 @@ tab-bits zero f h = no-bits
 tab-bits (suc n) f h = more-bits n (f 0) (tab n (λ i. f (suc i))) (h 0) (tab-bits n (λ i. f (suc i)) (λ i. h (suc i)))
 
 row-bits : (n : ℕ) (c : List ℕ) → Bits n (rowOf n c)
-row-bits n c = tab-bits n (λ b. 1 if some (eqb b) c) (λ b. small-if (some (eqb b) c))
+row-bits n c = tab-bits n (element c) (λ b. small-if (some (eqb b) c))
 
 -- ---- the word meets the row of each pivot
 abbrev pub Meets : List Column → List ℕ → Type 0
 Meets [] w = Unit {0}
 Meets (c ∷ cs) [] = Unit {0}
 Meets (other ∷ cs) (x ∷ w) = Meets cs w
-Meets (pivot q ∷ cs) (x ∷ w) = ((x + product q w) % 2 ≡ 0) × Meets cs w
+Meets (pivot q ∷ cs) (x ∷ w) = ((x + innerProduct q w) % 2 ≡ 0) × Meets cs w
 
 -- one row more
 pub length-cleared : (cs : List Column) (r : List ℕ) → length (cleared cs r) ≡ length cs
@@ -117,11 +116,11 @@ sum-row-bits : (n : ℕ) (r q : List ℕ) → length r ≡ n → Bits n (sumOfWo
 unfolding sumOfWords
 sum-row-bits n r q e = rw (sym e) (tab-bits (length r) (λ i. (bitAt r i + bitAt q i) % 2) (λ i. omega arith))
 
-clearing : (n : ℕ) (cs : List Column) (r w : List ℕ) → length cs ≡ n → Bits n r → Bits n w → Meets (cleared cs r) w ↔ (Meets cs w × (product r w % 2 ≡ 0))
+clearing : (n : ℕ) (cs : List Column) (r w : List ℕ) → length cs ≡ n → Bits n r → Bits n w → Meets (cleared cs r) w ↔ (Meets cs w × (innerProduct r w % 2 ≡ 0))
 unfolding cleared
 clearing n [] r w e a b = (λ h. (tt, none r w a b), λ h. tt)
   where
-    none : (r w : List ℕ) → Bits n r → Bits n w → product r w % 2 ≡ 0
+    none : (r w : List ℕ) → Bits n r → Bits n w → innerProduct r w % 2 ≡ 0
     none [] w a b = refl
     none (x ∷ r) w a b = absurd (omega (arith, a .long))
 clearing n (c ∷ cs) [] w e a b = absurd (omega (arith, a .long))

@@ -7,7 +7,7 @@ use Prim.Native.Nat.{ℕ, zero, suc, _+_, _*_, _%_, _<_}
 use lib.Dec.{ltb, eqb}
 use lib.ListN.{length, getD, take, drop, replicate}
 use Rattle.integers.specs.Sum.{sumℕ}
-use Rattle.lists.specs.Tabulated.{tab, written}
+use Rattle.lists.specs.Tabulated.{tab, written, part}
 use Rattle.lists.specs.Entries.{some, total}
 use Rattle.model.specs.declared.Length.{Length}
 use Rattle.model.specs.Limits.{mostEncodedBits}
@@ -20,13 +20,12 @@ use Rattle.model.specs.Reflection.{sumOfWords}
 use Rattle.model.specs.Calls.{unequal, notBinary, testedUnless, wordCauses}
 
 -- ---- the check matrix (H of 000): a row for each check, a column for each bit
--- a check as its row, with a 1 at each of its bits
-abbrev pub rowOf : ℕ → List ℕ → List ℕ
-rowOf n c = tab n (λ b. 1 if some (eqb b) c)
+-- what the row of a check has in column j: 1 at its bits
+abbrev pub element : List ℕ → ℕ → ℕ
+element c j = 1 if some (eqb j) c
 
--- the entry of check i in column j
-abbrev pub element : Code → ℕ → ℕ → ℕ
-element k i j = 1 if some (eqb j) (getD (k .checks) i [])
+abbrev pub rowOf : ℕ → List ℕ → List ℕ
+rowOf n c = tab n (element c)
 
 -- ---- "Reduce the check matrix modulo 2 with the earliest possible pivot columns."
 -- A column of the reduced matrix: a pivot, with what its row has in the columns after it (it has zeros before), or another one
@@ -59,17 +58,17 @@ isOther other = true
 abbrev pub others : List Column → ℕ
 others cs = total (λ c. 1 if isOther c) cs
 
--- the sum of the products of their entries
-abbrev pub product : List ℕ → List ℕ → ℕ
-product [] w = 0
-product (a ∷ r) [] = 0
-product (a ∷ r) (x ∷ w) = a * x + product r w
+-- the sum of the products of two lists' entries
+abbrev pub innerProduct : List ℕ → List ℕ → ℕ
+innerProduct [] w = 0
+innerProduct (a ∷ r) [] = 0
+innerProduct (a ∷ r) (x ∷ w) = a * x + innerProduct r w
 
 -- "Message bits go in the other columns in rising order, and the checks then fix the pivot bits": a pivot's row asks for an even sum
 unfoldable pub encodedIn : List Column → List ℕ → List ℕ
 encodedIn [] m = []
 encodedIn (other ∷ cs) m = bitAt m 0 ∷ encodedIn cs (drop 1 m)
-encodedIn (pivot q ∷ cs) m = let w = encodedIn cs m in product q w % 2 ∷ w
+encodedIn (pivot q ∷ cs) m = let w = encodedIn cs m in innerProduct q w % 2 ∷ w
 
 -- the entries of a word in the other columns
 unfoldable pub messageIn : List Column → List ℕ → List ℕ
@@ -86,11 +85,7 @@ encoded k m = encodedIn (reduced k) m
 abbrev pub messageOf : Code → List ℕ → List ℕ
 messageOf k w = messageIn (reduced k) w
 
--- part f of a list in which parts of a size stand one behind the other
-abbrev pub part : ℕ → ℕ → List ℕ → List ℕ
-part size f l = take size (drop (f * size) l)
-
--- the words of so many messages, in the same order
+-- the words of so many messages, both one behind the other
 unfoldable pub framesIn : List Column → ℕ → List ℕ → List ℕ
 framesIn cs zero ms = []
 framesIn cs (suc f) ms = framesIn cs f ms ++ encodedIn cs (part (others cs) f ms)
@@ -139,17 +134,17 @@ framesEncoder b f ms old =
     record { number = c; words = accepted c (written (encodedFrames k f ms) old) old }
 
 -- the message of a codeword
-pub record Recovered : Type 0 where
+pub record MessageRead : Type 0 where
   pub outcome : Outcome
   pub message : List ℕ
 
-abbrev pub recoveryCauses : Code → List ℕ → List ℕ → List ℕ
-recoveryCauses k w old = sizeCauses k ++ (wordCauses (k .bits) w ++ (10 if short (messageLength k) old ∷ []))
+abbrev pub messageReaderCauses : Code → List ℕ → List ℕ → List ℕ
+messageReaderCauses k w old = sizeCauses k ++ (wordCauses (k .bits) w ++ (10 if short (messageLength k) old ∷ []))
 
-unfoldable pub recovery : List ℕ → List ℕ → List ℕ → Recovered
-recovery b w old =
+unfoldable pub messageReader : List ℕ → List ℕ → List ℕ → MessageRead
+messageReader b w old =
     let k = codeOf b in
-    let out = testedUnless (firstOf (judge b ∷ recoveryCauses k w old)) k w in
+    let out = testedUnless (firstOf (judge b ∷ messageReaderCauses k w old)) k w in
     record { outcome = out; message = accepted (out .number) (written (messageOf k w) old) old }
 
 -- ---- of the definitions
@@ -157,7 +152,8 @@ recovery b w old =
 pub record Dependent (k : Code) (j : ℕ) : Type 0 where
   pub chosen : List ℕ
   pub earlier : Bits j chosen
-  pub sum : (i : ℕ) → i < length (k .checks) → sumℕ j (λ c. element k i c * bitAt chosen c) % 2 ≡ element k i j
+  pub sum : (i : ℕ) → i < length (k .checks)
+      → sumℕ j (λ c. element (getD (k .checks) i []) c * bitAt chosen c) % 2 ≡ element (getD (k .checks) i []) j
 
 abbrev pub isPivot : Code → ℕ → Bool
 isPivot k j = not (isOther (getD (reduced k) j other))
@@ -168,6 +164,8 @@ pub record Encodes (k : Code) : Type 0 where
   -- "with the earliest possible pivot columns": a column is a pivot exactly when it depends on no earlier ones
   pub earliest : (j : ℕ) → j < k .bits → (isPivot k j ≡ true) ↔ (Dependent k j → ⊥)
   pub dependent : (j : ℕ) → j < k .bits → (isPivot k j ≡ false) ↔ Dependent k j
+  -- a message has an entry for each of the other columns
+  pub counted : messageLength k ≡ sumℕ (k .bits) (λ j. 1 if not (isPivot k j))
   -- "Message bits go in the other columns in rising order": the entry of such a column has as many before it in the message as there are other columns before
   pub rising : (w : List ℕ) → length w ≡ k .bits → (j : ℕ) → j < k .bits → isPivot k j ≡ false
       → bitAt (messageOf k w) (others (take j (reduced k))) ≡ bitAt w j

@@ -7,25 +7,29 @@ use mathlib.Core.List.{List, [], _∷_, _++_}
 use Prim.Native.Nat.{ℕ, suc, _*_, _≤_, _<_}
 use lib.IntN.{ℤ}
 use lib.ListN.{length, take}
-use Rattle.lists.specs.Tabulated.{written}
+use Rattle.lists.specs.Tabulated.{written, part}
 use Rattle.model.specs.declared.Settings.{Settings}
 use Rattle.model.specs.declared.Length.{Length}
 use Rattle.model.specs.Limits.{mostEncodedBits}
 use Rattle.model.specs.Records.{codeOf, judge, wholeCauses, recordCauses}
-use Rattle.model.specs.Words.{Outcome, tested}
+use Rattle.model.specs.Words.{tested}
 use Rattle.model.specs.Points.{Bits, Codeword}
 use Rattle.model.specs.Reflection.{sumOfWords}
 use Rattle.model.specs.Calls.{codewordTest, Lists, Decoded, noRoom, decoderCause, decoder, Costs, reflector}
 use Rattle.model.specs.Order.{oddCauses, Follows, Ordered, oneToNine}
 use Rattle.model.specs.WordClaims.{Tested}
 use Rattle.model.specs.DecoderClaims.{Small, ReflectedCalls}
-use Rattle.model.specs.Encoding.{messageLength, encoded, messageOf, part, encodedFrames, sizeCauses, messageSize, Encoding}
-use Rattle.model.specs.Encoding.{encoderCauses, encoder, framesCauses, framesEncoder, Recovered, recoveryCauses, recovery, Encodes}
+use Rattle.model.specs.Encoding.{messageLength, encoded, messageOf, encodedFrames, sizeCauses, messageSize, Encoding}
+use Rattle.model.specs.Encoding.{encoderCauses, encoder, framesCauses, framesEncoder, MessageRead, messageReaderCauses, messageReader, Encodes}
 
 -- the code that the records b have is accepted, and not too long to be encoded
 pub record Encodable (b : List ℕ) : Type 0 where
   pub accepted : judge b ≡ 0
   pub size : codeOf b .bits ≤ mostEncodedBits
+
+-- the word that a call wrote
+abbrev pub wordIn : List ℕ → Encoding → List ℕ
+wordIn b a = take (codeOf b .bits) (a .words)
 
 -- ---- the length of a message: a is what is told
 pub record LengthCall (b : List ℕ) (a : Length) : Type 0 where
@@ -46,29 +50,28 @@ pub record EncoderCall (b m old : List ℕ) (a : Encoding) : Type 0 where
   pub exactly : (a .number ≡ 0) ↔ (Encodable b × Bits (messageLength (codeOf b)) m × (codeOf b .bits ≤ length old))
   pub refused : (c : ℕ) → a .number ≡ suc c → a .words ≡ old
   pub filled : a .number ≡ 0 → a .words ≡ written (encoded (codeOf b) m) old
-  pub word : a .number ≡ 0 → take (codeOf b .bits) (a .words) ≡ encoded (codeOf b) m
+  pub word : a .number ≡ 0 → wordIn b a ≡ encoded (codeOf b) m
   -- document 02, L5, of the code
   pub encodes : judge b ≡ 0 → Encodes (codeOf b)
   -- and of calls: what was written passes the codeword test,
-  pub tested : a .number ≡ 0 → codewordTest b (take (codeOf b .bits) (a .words)) ≡ record { number = 0; place = 0 }
+  pub tested : a .number ≡ 0 → codewordTest b (wordIn b a) ≡ record { number = 0; place = 0 }
   -- its message is m again,
-  pub recovered : a .number ≡ 0 → (out : List ℕ) → length m ≤ length out
-      → recovery b (take (codeOf b .bits) (a .words)) out ≡ record { outcome = record { number = 0; place = 0 }; message = written m out }
+  pub read-back : a .number ≡ 0 → (out : List ℕ) → length m ≤ length out
+      → messageReader b (wordIn b a) out ≡ record { outcome = record { number = 0; place = 0 }; message = written m out }
   -- an accepted call with l writes the same only where l is m,
   pub one-message : a .number ≡ 0 → (l out : List ℕ) → encoder b l out .number ≡ 0
-      → take (codeOf b .bits) (encoder b l out .words) ≡ take (codeOf b .bits) (a .words) → l ≡ m
+      → wordIn b (encoder b l out) ≡ wordIn b a → l ≡ m
   -- the sum of m and the message of an accepted call, which gave c, is accepted in a list with the room, and the sum of both words is written,
-  pub sum : a .number ≡ 0 → (l old' : List ℕ) (c : Encoding) → c ≡ encoder b l old' → c .number ≡ 0
+  pub sum : a .number ≡ 0 → (l lent : List ℕ) (c : Encoding) → c ≡ encoder b l lent → c .number ≡ 0
       → (out : List ℕ) → codeOf b .bits ≤ length out
-      → encoder b (sumOfWords m l) out
-      ≡ record { number = 0; words = written (sumOfWords (take (codeOf b .bits) (a .words)) (take (codeOf b .bits) (c .words))) out }
-  -- and the costs of a frame may be reflected by it: the reflector, with a list that has the room, takes them; and where the decoder took them and gave d, a call
-  -- with the costs that the reflector wrote and lists that have the room, which gave e, is the reflection of that call
+      → encoder b (sumOfWords m l) out ≡ record { number = 0; words = written (sumOfWords (wordIn b a) (wordIn b c)) out }
+  -- and the costs of a frame may be reflected by it: the reflector, with a list that has the room, takes them; and where the decoder took them and gave d,
+  -- a call with the costs that the reflector wrote and lists that have the room, which gave e, is the reflection of that call
   pub reflected : a .number ≡ 0 → (costs : List ℤ) → Small costs → length costs ≡ codeOf b .bits → (out : List ℤ) → length costs ≤ length out
-      → (r : Costs) → r ≡ reflector costs (take (codeOf b .bits) (a .words)) out
+      → (r : Costs) → r ≡ reflector costs (wordIn b a) out
       → (r .number ≡ 0) × ((o : Settings) (l : Lists) → decoderCause b o costs l ≡ 0 → (d : Decoded) → d ≡ decoder b o costs l
-          → (n : Lists) → noRoom (codeOf b) n ≡ false → (e : Decoded) → e ≡ decoder b o (take (length costs) (r .costs)) n
-          → ReflectedCalls b o costs (take (codeOf b .bits) (a .words)) n d e)
+      → (n : Lists) → noRoom (codeOf b) n ≡ false → (e : Decoded) → e ≡ decoder b o (take (length costs) (r .costs)) n
+      → ReflectedCalls b o costs (wordIn b a) n d e)
 
 -- ---- many frames: a is the number and the list that was old
 pub record FramesCall (b : List ℕ) (f : ℕ) (ms old : List ℕ) (a : Encoding) : Type 0 where
@@ -85,11 +88,11 @@ pub record FramesCall (b : List ℕ) (f : ℕ) (ms old : List ℕ) (a : Encoding
   pub single : f ≡ 1 → a ≡ encoder b ms old
 
 -- ---- the message of a codeword: a is what is told of the word w, and the list that was old
-pub record RecoveryCall (b w old : List ℕ) (a : Recovered) : Type 0 where
-  pub equation : a ≡ recovery b w old
-  pub order : Ordered (recordCauses b ++ (recoveryCauses (codeOf b) w old ++ oddCauses (codeOf b) w)) (oneToNine ++ (10 ∷ 12 ∷ 15 ∷ 17 ∷ 20 ∷ []))
+pub record MessageCall (b w old : List ℕ) (a : MessageRead) : Type 0 where
+  pub equation : a ≡ messageReader b w old
+  pub order : Ordered (recordCauses b ++ (messageReaderCauses (codeOf b) w old ++ oddCauses (codeOf b) w)) (oneToNine ++ (10 ∷ 12 ∷ 15 ∷ 17 ∷ 20 ∷ []))
       (a .outcome .number)
-  pub follows : Follows 0 (wholeCauses b ++ (recoveryCauses (codeOf b) w old ++ oddCauses (codeOf b) w))
+  pub follows : Follows 0 (wholeCauses b ++ (messageReaderCauses (codeOf b) w old ++ oddCauses (codeOf b) w))
   -- the number 0 is for the codewords of such codes, where there is room
   pub exactly : (a .outcome .number ≡ 0) ↔ (Encodable b × Codeword (codeOf b) w × (messageLength (codeOf b) ≤ length old))
   pub filled : a .outcome .number ≡ 0 → a .message ≡ written (messageOf (codeOf b) w) old

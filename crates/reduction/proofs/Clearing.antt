@@ -7,7 +7,7 @@ use Rattle.lists.proofs.Tabulated.{tab-set}
 use Rattle.model.specs.Words.{bitAt}
 use Rattle.model.specs.Reflection.{sumOfWords}
 use Rattle.model.specs.Encoding.{rowOf, Column, pivot, other, cleared, reducedBy}
-use Rattle.reduction.specs.Table.{row, isPivot, column, columnsIn}
+use Rattle.reduction.specs.Table.{row, hasPivot, column, columnsIn}
 use Rattle.reduction.proofs.Table.{columns-from, columns-to, length-columns}
 
 -- ---- one row more, from column j on: r has the entries of these columns
@@ -30,7 +30,7 @@ module _ (n : ℕ) (rows : List (List ℕ)) (r : List ℕ) (j : ℕ) (h : j < n)
   cleared-zero e = rw (add-one j) (sym (here ∙ rw e (next (slice (suc j) n r))))
 
   -- it has a 1 at a pivot, whose row is added
-  pub cleared-pivot : bitAt r j ≢ 0 → isPivot rows j ≡ true → (q : List ℕ) → slice (j + 1) n q ≡ sumOfWords (slice (j + 1) n r) (slice (j + 1) n (row rows j))
+  pub cleared-pivot : bitAt r j ≢ 0 → hasPivot rows j ≡ true → (q : List ℕ) → slice (j + 1) n q ≡ sumOfWords (slice (j + 1) n r) (slice (j + 1) n (row rows j))
       → take (j + 1) cs ++ cleared (drop (j + 1) cs) (slice (j + 1) n q) ≡ take j cs ++ cleared (drop j cs) (slice j n r)
   unfolding cleared
   cleared-pivot e p q sum =
@@ -42,7 +42,7 @@ module _ (n : ℕ) (rows : List (List ℕ)) (r : List ℕ) (j : ℕ) (h : j < n)
       by (suc x) e = rw p
 
   -- it has a 1 at another column, where it is put into the table
-  pub cleared-other : bitAt r j ≢ 0 → isPivot rows j ≡ false → j < length rows → columnsIn n (set rows j r) ≡ take j cs ++ cleared (drop j cs) (slice j n r)
+  pub cleared-other : bitAt r j ≢ 0 → hasPivot rows j ≡ false → j < length rows → columnsIn n (set rows j r) ≡ take j cs ++ cleared (drop j cs) (slice j n r)
   unfolding cleared
   cleared-other e p room =
       sym (tab-set n (column n rows) (column n (set rows j r)) j (pivot (slice (suc j) n r)) h is (λ u l d. ap (λ (q : List ℕ). columnOf u q) (getD-set-other rows j u r [] d)))

@@ -9,7 +9,7 @@ use Rattle.model.specs.Causes.{_if_}
 use Rattle.model.specs.Words.{bitAt}
 use Rattle.model.specs.Encoding.{Column, pivot, other, isOther, others, messageIn}
 use Rattle.model.proofs.Encoding.{length-message}
-use Rattle.reduction.specs.Table.{isPivot, column, columnsIn}
+use Rattle.reduction.specs.Table.{hasPivot, column, columnsIn}
 use Rattle.reduction.proofs.Table.{columns-to, length-columns, others-next, others-few}
 
 message-next : (cs : List Column) (c : Column) (w : List ℕ) (x : ℕ) → length w ≡ length cs
@@ -57,11 +57,11 @@ module _ (rows : List (List ℕ)) (w old : List ℕ) (room : others (columnsIn (
           ∙ message-next (take j all) (column (length w) rows j) (take j w) (bitAt w j)
           (length-take-le j w (omega arith) ∙ sym (length-take-le j all (omega (arith, length-columns (length w) rows))))
 
-      same-count : isPivot rows j ≡ true → others (take (suc j) all) ≡ others (take j all)
+      same-count : hasPivot rows j ≡ true → others (take (suc j) all) ≡ others (take j all)
       same-count p = others-next (length w) rows j h ∙ rw p (omega arith)
 
       -- at a pivot nothing more,
-      pub begun-pivot : isPivot rows j ≡ true → Begun rows w old (j + 1) count message
+      pub begun-pivot : hasPivot rows j ≡ true → Begun rows w old (j + 1) count message
       unfolding messageIn
       begun-pivot p =
           let same : messageIn (take (suc j) all) (take (suc j) w) ≡ messageIn (take j all) (take j w) = next ∙ rw p (append-nil (messageIn (take j all) (take j w))) in
@@ -71,7 +71,7 @@ module _ (rows : List (List ℕ)) (w old : List ℕ) (room : others (columnsIn (
           }
 
       -- at another column one entry
-      module _ (p : isPivot rows j ≡ false) where
+      module _ (p : hasPivot rows j ≡ false) where
         one : others (take (suc j) all) ≡ count + 1
         one = others-next (length w) rows j h ∙ rw (p, ← g .counted)
 

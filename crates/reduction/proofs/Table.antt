@@ -9,11 +9,11 @@ use Rattle.lists.proofs.Entries.{some-last, total-next}
 use Rattle.model.specs.Causes.{_if_}
 use Rattle.model.specs.Words.{bitAt}
 use Rattle.model.specs.Reflection.{sumOfWords}
-use Rattle.model.specs.Encoding.{rowOf, Column, pivot, other, isOther, others, product}
+use Rattle.model.specs.Encoding.{element, rowOf, Column, pivot, other, isOther, others, innerProduct}
 use Rattle.model.proofs.Composition.{length-sum}
 use Rattle.model.proofs.Demand3.{sum-entry}
 use Rattle.model.proofs.Reduction.{product-none}
-use Rattle.reduction.specs.Table.{row, isPivot, column, columnsIn}
+use Rattle.reduction.specs.Table.{row, hasPivot, column, columnsIn}
 
 -- ---- a slice by its entries
 pub slice-at : (f t : ℕ) (l : List ℕ) (i : ℕ) → f + i < t → bitAt (slice f t l) i ≡ bitAt l (f + i)
@@ -21,7 +21,7 @@ slice-at f t l i h = getD-drop f (take t l) i 0 ∙ getD-take t l (f + i) 0 h
 
 -- ---- the row of a check
 -- one bit more
-pub row-next : (c r : List ℕ) (x b : ℕ) → b < length r → bitAt r b ≡ 1 if some (eqb b) c → bitAt (set r x 1) b ≡ 1 if some (eqb b) (c ++ (x ∷ []))
+pub row-next : (c r : List ℕ) (x b : ℕ) → b < length r → bitAt r b ≡ element c b → bitAt (set r x 1) b ≡ element (c ++ (x ∷ [])) b
 row-next c r x b h e = rw (some-last (eqb b) c x) (by (eqb b x) refl)
   where
     by : (t : Bool) → eqb b x ≡ t → bitAt (set r x 1) b ≡ 1 if (t || some (eqb b) c)
@@ -29,12 +29,12 @@ row-next c r x b h e = rw (some-last (eqb b) c x) (by (eqb b x) refl)
     by false f = getD-set-other r x b 1 0 (eqb-false b x f) ∙ e
 
 -- its first columns
-pub row-taken : (n : ℕ) (c r : List ℕ) → n ≤ length r → ((b : ℕ) → b < n → bitAt r b ≡ 1 if some (eqb b) c) → take n r ≡ rowOf n c
+pub row-taken : (n : ℕ) (c r : List ℕ) → n ≤ length r → ((b : ℕ) → b < n → bitAt r b ≡ element c b) → take n r ≡ rowOf n c
 row-taken n c r h each =
     let long = length-take-le n r h in
-    ext-getD 0 (take n r) (rowOf n c) (long ∙ sym (length-tab n (λ b. 1 if some (eqb b) c))) (λ i l.
+    ext-getD 0 (take n r) (rowOf n c) (long ∙ sym (length-tab n (element c))) (λ i l.
     let k : i < n = omega arith in
-    getD-take n r i 0 k ∙ each i k ∙ sym (getD-tab n (λ b. 1 if some (eqb b) c) i 0 k))
+    getD-take n r i 0 k ∙ each i k ∙ sym (getD-tab n (element c) i 0 k))
 
 -- ---- the sum of two rows
 pub sum-slices : (f t : ℕ) (r q s : List ℕ) → t ≤ length r → length s ≡ length r → ((i : ℕ) → f ≤ i → i < t → bitAt s i ≡ (bitAt r i + bitAt q i) % 2)
@@ -49,17 +49,17 @@ sum-slices f t r q s h e each =
     ∙ sym (sum-entry (slice f t r) (slice f t q) i (omega arith) ∙ ap₂ (λ (x y : ℕ). (x + y) % 2) (slice-at f t r i k) (slice-at f t q i k)))
 
 -- ---- what a row has at a word's ones, from a column on
-first-product : (r w : List ℕ) → product r w ≡ bitAt r 0 * bitAt w 0 + product (drop 1 r) (drop 1 w)
+first-product : (r w : List ℕ) → innerProduct r w ≡ bitAt r 0 * bitAt w 0 + innerProduct (drop 1 r) (drop 1 w)
 first-product [] w = omega arith
 first-product (a ∷ r) [] = rw (product-none r) (omega arith)
 first-product (a ∷ r) (x ∷ w) = refl
 
-pub product-from : (n : ℕ) (r w : List ℕ) (i : ℕ) → i < n → product (slice i n r) (drop i w) ≡ bitAt r i * bitAt w i + product (slice (suc i) n r) (drop (suc i) w)
+pub product-from : (n : ℕ) (r w : List ℕ) (i : ℕ) → i < n → innerProduct (slice i n r) (drop i w) ≡ bitAt r i * bitAt w i + innerProduct (slice (suc i) n r) (drop (suc i) w)
 product-from n r w i h =
     let z : i + 0 ≡ i = omega arith in
     let more : (l : List ℕ) → drop 1 (drop i l) ≡ drop (suc i) l = λ l. drop-drop 1 i l ∙ ap (λ (k : ℕ). drop k l) (add-one i) in
     first-product (slice i n r) (drop i w)
-    ∙ ap₂ _+_ (ap₂ _*_ (slice-at i n r 0 (omega arith) ∙ ap (bitAt r) z) (getD-drop i w 0 0 ∙ ap (bitAt w) z)) (ap₂ product (more (take n r)) (more w))
+    ∙ ap₂ _+_ (ap₂ _*_ (slice-at i n r 0 (omega arith) ∙ ap (bitAt r) z) (getD-drop i w 0 0 ∙ ap (bitAt w) z)) (ap₂ innerProduct (more (take n r)) (more w))
 
 -- ---- columns
 pub length-columns : (n : ℕ) (rows : List (List ℕ)) → length (columnsIn n rows) ≡ n
@@ -68,10 +68,10 @@ length-columns n rows = length-tab n (column n rows)
 pub column-at : (n : ℕ) (rows : List (List ℕ)) (j : ℕ) → j < n → getD (columnsIn n rows) j other ≡ column n rows j
 column-at n rows j h = getD-tab n (column n rows) j other h
 
-pub column-pivot : (n : ℕ) (rows : List (List ℕ)) (j : ℕ) → isPivot rows j ≡ true → column n rows j ≡ pivot (slice (suc j) n (row rows j))
+pub column-pivot : (n : ℕ) (rows : List (List ℕ)) (j : ℕ) → hasPivot rows j ≡ true → column n rows j ≡ pivot (slice (suc j) n (row rows j))
 column-pivot n rows j e = rw e
 
-pub column-other : (n : ℕ) (rows : List (List ℕ)) (j : ℕ) → isPivot rows j ≡ false → column n rows j ≡ other
+pub column-other : (n : ℕ) (rows : List (List ℕ)) (j : ℕ) → hasPivot rows j ≡ false → column n rows j ≡ other
 column-other n rows j e = rw e
 
 -- none, where all rows are zeros
@@ -95,10 +95,10 @@ columns-to n rows j h =
 
 -- the others before the next column
 pub others-next : (n : ℕ) (rows : List (List ℕ)) (j : ℕ) → j < n
-    → others (take (suc j) (columnsIn n rows)) ≡ others (take j (columnsIn n rows)) + 1 if not (isPivot rows j)
+    → others (take (suc j) (columnsIn n rows)) ≡ others (take j (columnsIn n rows)) + 1 if not (hasPivot rows j)
 others-next n rows j h =
     total-next (λ c. 1 if isOther c) (columnsIn n rows) j other (omega (arith, length-columns n rows))
-    ∙ ap (λ (x : ℕ). others (take j (columnsIn n rows)) + x) (ap (λ (c : Column). 1 if isOther c) (column-at n rows j h) ∙ by (isPivot rows j) (slice (suc j) n (row rows j)))
+    ∙ ap (λ (x : ℕ). others (take j (columnsIn n rows)) + x) (ap (λ (c : Column). 1 if isOther c) (column-at n rows j h) ∙ by (hasPivot rows j) (slice (suc j) n (row rows j)))
   where
     by : (t : Bool) (q : List ℕ) → 1 if isOther (cond t (pivot q) other) ≡ 1 if not t
     by true q = refl

@@ -5,8 +5,8 @@ use lib.Seq.{slice, getD-set-same, drop-set-lt}
 use Rattle.lists.proofs.Entries.{total-part}
 use Rattle.model.specs.Causes.{_if_}
 use Rattle.model.specs.Words.{bitAt}
-use Rattle.model.specs.Encoding.{Column, pivot, isOther, others, product, encodedIn}
-use Rattle.reduction.specs.Table.{row, isPivot, column, columnsIn}
+use Rattle.model.specs.Encoding.{Column, pivot, isOther, others, innerProduct, encodedIn}
+use Rattle.reduction.specs.Table.{row, hasPivot, column, columnsIn}
 use Rattle.reduction.proofs.Table.{columns-from, length-columns, others-next}
 
 -- the entries from column j on are the word of what is left of the message
@@ -59,11 +59,11 @@ module _ (rows : List (List ℕ)) (m old : List ℕ) (fits : length m ≡ others
       counted-next = rw e at (sym (g .counted))
 
       -- a pivot is fixed by its row
-      pub ended-pivot : (x : ℕ) → isPivot rows i ≡ true → x ≡ product (slice (i + 1) (length word) (row rows i)) (drop (i + 1) word) % 2
+      pub ended-pivot : (x : ℕ) → hasPivot rows i ≡ true → x ≡ innerProduct (slice (i + 1) (length word) (row rows i)) (drop (i + 1) word) % 2
           → Ended rows m old i left (set word i x)
       unfolding encodedIn
       ended-pivot x p f =
-          let is : x ≡ product (slice (suc i) (length old) (row rows i)) (drop (suc i) word) % 2 = f ∙ rw (add-one i, g .long) in
+          let is : x ≡ innerProduct (slice (suc i) (length old) (row rows i)) (drop (suc i) word) % 2 = f ∙ rw (add-one i, g .long) in
           record {
             long = length-set word i x ∙ g .long;
             most = omega (arith, inside);
@@ -72,7 +72,7 @@ module _ (rows : List (List ℕ)) (m old : List ℕ) (fits : length m ≡ others
           }
 
       -- another column has the last entry that is left
-      module _ (p : isPivot rows i ≡ false) where
+      module _ (p : hasPivot rows i ≡ false) where
         one : left ≡ others (take i columns) + 1
         one = sym counted-next ∙ others-next (length old) rows i inside ∙ rw p
 

@@ -14,12 +14,12 @@ abbrev pub row : List (List ℕ) → ℕ → List ℕ
 row rows j = getD rows j []
 
 -- column j is a pivot where row j has no 0 there
-abbrev pub isPivot : List (List ℕ) → ℕ → Bool
-isPivot rows j = not (eqb (bitAt (row rows j) j) 0)
+abbrev pub hasPivot : List (List ℕ) → ℕ → Bool
+hasPivot rows j = not (eqb (bitAt (row rows j) j) 0)
 
 -- the column that row j stands for, of n: a pivot with the entries after it
 abbrev pub column : ℕ → List (List ℕ) → ℕ → Column
-column n rows j = cond (isPivot rows j) (pivot (slice (suc j) n (row rows j))) other
+column n rows j = cond (hasPivot rows j) (pivot (slice (suc j) n (row rows j))) other
 
 abbrev pub columnsIn : ℕ → List (List ℕ) → List Column
 columnsIn n rows = tab n (column n rows)

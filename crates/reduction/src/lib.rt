@@ -1,16 +1,15 @@
 // The check matrix of a code, reduced modulo 2 (document 02, L5), in a table with a row for each column. Where column j is a pivot, row j has its 1 there and
 // what its check has after it; where it is not, the row has a 0 there.
 ghost use mathlib.Core.Path.{_≡_};
-ghost use mathlib.Core.List.{List};
-ghost use Prim.Native.Nat.{ℕ, suc, _%_, _≤_, _<_};
+ghost use Prim.Native.Nat.{_%_, _≤_, _<_};
 ghost use lib.ListN.{length, take, drop, replicate};
 ghost use lib.Seq.{slice};
 ghost use Rattle.lists.specs.Tabulated.{written};
 ghost use Rattle.model.specs.Limits.{mostEncodedBits};
 ghost use Rattle.model.specs.Records.{indices, codeOf, judgeCheck, judge};
 ghost use Rattle.model.specs.Reflection.{sumOfWords};
-ghost use Rattle.model.specs.Encoding.{rowOf, product, cleared, reduced, others, encodedIn, messageIn};
-ghost use Rattle.reduction.specs.Table.{isPivot, columnsIn};
+ghost use Rattle.model.specs.Encoding.{rowOf, innerProduct, cleared, reduced, others, encodedIn, messageIn};
+ghost use Rattle.reduction.specs.Table.{hasPivot, columnsIn};
 use model::MOST_ENCODED_BITS;
 
 // The row of the check whose record `s` begins with: 1 at each of its bits.
@@ -28,7 +27,12 @@ fn check_row(s: &[u8], bits: usize) -> [u8; MOST_ENCODED_BITS]
 }
 
 // The sum of two rows modulo 2, in the columns from `start` on.
-fn add(row: &mut [u8; MOST_ENCODED_BITS], other: &[u8; MOST_ENCODED_BITS], start: usize, bits: usize)
+fn add(
+    row: &mut [u8; MOST_ENCODED_BITS],
+    other: &[u8; MOST_ENCODED_BITS],
+    start: usize,
+    bits: usize,
+)
     requires { ⌜ (start ≤ bits) × (bits ≤ mostEncodedBits) × (length (now row) ≡ mostEncodedBits) ⌝ }
     ensures sum { λ _. ⌜ slice start bits (now (row .exit)) ≡ sumOfWords (slice start bits (now (row .entry))) (slice start bits (now (other .entry))) ⌝ }
     ensures long { λ _. ⌜ length (now (row .exit)) ≡ mostEncodedBits ⌝ }
@@ -42,7 +46,7 @@ fn add(row: &mut [u8; MOST_ENCODED_BITS], other: &[u8; MOST_ENCODED_BITS], start
 // Whether column j is a pivot.
 fn is_pivot(rows: &[[u8; MOST_ENCODED_BITS]], j: usize) -> bool
     requires { ⌜ (j < length (now rows)) × (j < mostEncodedBits) ⌝ }
-    ensures { λ r. ⌜ r ≡ isPivot (now (rows .entry)) j ⌝ }
+    ensures { λ r. ⌜ r ≡ hasPivot (now (rows .entry)) j ⌝ }
 {
     rows[j][j] != 0
 }
@@ -96,7 +100,7 @@ pub fn count_others(rows: &[[u8; MOST_ENCODED_BITS]], bits: usize) -> usize
 // What the row has at the word's ones, modulo 2, in the columns from `start` on.
 fn parity(row: &[u8; MOST_ENCODED_BITS], word: &[u8], start: usize) -> u8
     requires { ⌜ (start ≤ length (now word)) × (length (now word) ≤ mostEncodedBits) ⌝ }
-    ensures { λ r. ⌜ r ≡ product (slice start (length (now (word .entry))) (now (row .entry))) (drop start (now (word .entry))) % 2 ⌝ }
+    ensures { λ r. ⌜ r ≡ innerProduct (slice start (length (now (word .entry))) (now (row .entry))) (drop start (now (word .entry))) % 2 ⌝ }
 {
     let mut sum = 0usize;
     for i in start..word.len() {

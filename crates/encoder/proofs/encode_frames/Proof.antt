@@ -1,6 +1,5 @@
 -- `encoder::encode_frames` meets its contract: the causes in their order, then the words. Assumes nothing.
-use Rattle.integers.proofs.Prelude.{_≡_, refl, arith, needs, length}
-use Rattle.model.specs.Limits.{mostEncodedBits}
+use Rattle.integers.proofs.Prelude.{refl, arith, needs}
 use Rattle.encoder.proofs.Readiness.{some-bits, few, size-counted}
 use Rattle.encoder.proofs.Answers.{frames-unready, frames-refused, frames-fit, frames-told}
 use Rattle.encoder.proofs.encode_frames.Statement.{statement}

@@ -1,5 +1,5 @@
 -- `encoder::judge` meets its contract: the causes in their order. Assumes nothing.
-use Rattle.integers.proofs.Prelude.{_≡_, sym, ap, _∙_, true, false, not, _*_, arith, needs, lt-ltb, le-ltb}
+use Rattle.integers.proofs.Prelude.{_≡_, sym, ap, _∙_, true, false, not, _*_, needs, lt-ltb, le-ltb}
 use native.Mathlib.Nat.{div-lt-iff-lt-mul, le-div-iff-mul-le}
 use Rattle.lists.specs.Entries.{some}
 use Rattle.model.specs.Causes.{short}

@@ -1,5 +1,5 @@
 -- `encoder::makes` meets its contract. Assumes nothing.
-use Rattle.integers.proofs.Prelude.{_≡_, ap, _∙_, ℕ, _*_, arith, needs, eqb}
+use Rattle.integers.proofs.Prelude.{_≡_, ap, _*_, arith, needs, eqb}
 use Rattle.encoder.proofs.Frames.{makes}
 use Rattle.encoder.proofs.makes.Statement.{statement}
 use Rattle.encoder.proofs.makes.Tie as tie

@@ -1,5 +1,5 @@
 -- `encoder::message_length` meets its contract. Assumes nothing.
-use Rattle.integers.proofs.Prelude.{_≡_, refl, ap₂, _∙_, needs}
+use Rattle.integers.proofs.Prelude.{refl, needs}
 use Rattle.model.specs.Encoding.{messageSize}
 use Rattle.model.proofs.EncodingPromises.{length-call}
 use Rattle.encoder.proofs.message_length.Statement.{statement}

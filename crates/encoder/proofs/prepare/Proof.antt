@@ -1,5 +1,5 @@
 -- `encoder::prepare` meets its contract: a code that is refused, one that is too long, or its reduced matrix. Assumes nothing.
-use Rattle.integers.proofs.Prelude.{_≡_, refl, sym, ap, _∙_, ℕ, arith, needs, length}
+use Rattle.integers.proofs.Prelude.{ap, arith, needs, length}
 use Rattle.reader.proofs.Answers.{Read, told-code, told-refused}
 use Rattle.encoder.proofs.Readiness.{refused-ready, long-ready, whole-ready}
 use Rattle.encoder.proofs.prepare.Statement.{statement}

@@ -1,8 +1,8 @@
 -- `encoder::write_words` meets its contract: the words of the frames so far. Assumes nothing.
-use Rattle.integers.proofs.Prelude.{_≡_, refl, sym, ap, _∙_, ℕ, suc, _+_, _-_, _*_, _≤_, _<_, arith, add-one, needs, List, length, take, drop}
+use Rattle.integers.proofs.Prelude.{_≡_, refl, ap, _∙_, ℕ, suc, _+_, _-_, _*_, _≤_, arith, needs, List, length, take, drop}
 use native.Mathlib.Nat.{mul-le-mul-right}
 use Rattle.lists.specs.Tabulated.{written}
-use Rattle.model.specs.Encoding.{Column, others, framesIn}
+use Rattle.model.specs.Encoding.{Column, framesIn}
 use Rattle.reduction.specs.Table.{columnsIn}
 use Rattle.reduction.proofs.Table.{length-columns}
 use Rattle.encoder.proofs.Frames.{part-long, frames-long, next-frame}
@@ -61,9 +61,11 @@ loop-again : tie.Need-loop-again Inv-loop μ-loop
 loop-again c =
     let w = c .before .before in
     let i = w .before .before .before in
-    let a = s i .args in
-    (omega arith, next-frame (cs i) (a .bits) (length-columns (a .bits) (a .rows .now)) (l i .loop .f) (a .messages .now) (a .words .now) (l i .loop .words) (l i .loop .inv .1) (omega (arith, word-end i))
-    _ _ _ _ _ (ap (λ (n : ℕ). columnsIn n (a .rows .now)) (word-long i)) (s i .pre .0 .2) (size-is i) (bits-is i) (w .write-word .ensures))
+    let a = s i .args in (
+      omega arith,
+      next-frame (cs i) (a .bits) (length-columns (a .bits) (a .rows .now)) (l i .loop .f) (a .messages .now) (a .words .now) (l i .loop .words) (l i .loop .inv .1) (omega (arith, word-end i))
+          _ _ _ _ _ (ap (λ (n : ℕ). columnsIn n (a .rows .now)) (word-long i)) (s i .pre .0 .2) (size-is i) (bits-is i) (w .write-word .ensures),
+    )
 
 same-length : tie.Need-same-length Inv-loop μ-loop
 same-length c =

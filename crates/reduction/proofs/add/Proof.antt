@@ -31,15 +31,14 @@ loop-again c =
       omega arith,
       omega arith,
       below-next (λ k. a .start ≤ k → bitAt (set r i x) k ≡ (bitAt (a .row .now) k + bitAt (a .other .now) k) % 2) i
-      (λ k m h. getD-set-other r i k x 0 (λ e. omega arith) ∙ l .loop .inv .3 k m h) (λ h. getD-set-same r i x 0 (omega arith) ∙ sum),
+          (λ k m h. getD-set-other r i k x 0 (λ e. omega arith) ∙ l .loop .inv .3 k m h) (λ h. getD-set-same r i x 0 (omega arith) ∙ sum),
       λ k h. getD-set-other r i k x 0 (λ e. omega arith) ∙ l .loop .inv .4 k (omega arith),
     )
 
 returns : tie.Need-returns Inv-loop μ-loop
 returns c =
     let l = c .before in
-    let a = l .before .args in
-    (
+    let a = l .before .args in (
       sum-slices (a .start) (a .bits) (a .row .now) (a .other .now) (l .loop .row) (omega arith) (l .loop .inv .0) (λ i h k. l .loop .inv .3 i (omega arith) h),
       omega (arith, l .loop .inv .0),
     )

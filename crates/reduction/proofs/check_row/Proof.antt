@@ -1,11 +1,10 @@
 -- `reduction::check_row` meets its contract: the bits so far have their 1. Assumes nothing.
-use Rattle.integers.proofs.Prelude.{_≡_, refl, ap, _∙_, ℕ, _-_, _≤_, _<_, arith, add-one, needs, eqb, length, take, length-set, take-all, take-suc}
+use Rattle.integers.proofs.Prelude.{_≡_, refl, _∙_, ℕ, _-_, _≤_, _<_, arith, add-one, needs, length, take, length-set, take-all, take-suc}
 use lib.ListN.{getD-replicate}
-use Rattle.lists.specs.Entries.{some}
 use Rattle.model.specs.Limits.{mostEncodedBits}
-use Rattle.model.specs.Causes.{_if_}
 use Rattle.model.specs.Records.{indices}
 use Rattle.model.specs.Words.{bitAt}
+use Rattle.model.specs.Encoding.{element}
 use Rattle.model.proofs.Accepted.{SoundRecord, record-sound}
 use Rattle.model.proofs.Sound.{rising-below}
 use Rattle.reduction.proofs.Table.{row-next, row-taken}
@@ -14,7 +13,7 @@ use Rattle.reduction.proofs.check_row.Tie as tie
 
 abbrev Inv-loop : tie.InvT-loop
 Inv-loop s bits row₀ d i₀ row i =
-    (length row ≡ mostEncodedBits) × ((b : ℕ) → b < mostEncodedBits → bitAt row b ≡ 1 if some (eqb b) (take i (indices s))) × (i ≤ d)
+    (length row ≡ mostEncodedBits) × ((b : ℕ) → b < mostEncodedBits → bitAt row b ≡ element (take i (indices s)) b) × (i ≤ d)
 
 abbrev μ-loop : tie.MeasureT-loop
 μ-loop s bits row₀ d i₀ row i = d - i

@@ -1,5 +1,5 @@
 -- `reduction::clear` meets its contract: the columns before j, and what the row makes of the others, are the whole. Assumes nothing.
-use Rattle.integers.proofs.Prelude.{_≡_, refl, sym, ap, _∙_, ℕ, _++_, _-_, _≤_, arith, add-one, needs, not-true, not-false, length, take, drop, length-set}
+use Rattle.integers.proofs.Prelude.{_≡_, refl, sym, ap, _∙_, _++_, _-_, _≤_, arith, needs, not-true, not-false, length, take, drop, length-set}
 use mathlib.Core.Logic.{⊎-elim}
 use lib.Seq.{slice}
 use Rattle.model.specs.Limits.{mostEncodedBits}
@@ -43,13 +43,13 @@ loop-again c =
     let long : n ≤ length r = omega (arith, l .loop .inv .2) in
     ⊎-elim
     (λ w.
-        let p = rw (l .loop .inv .0) at (sym (w .2 .ensures) ∙ not-false _ (w .3 .left)) in
-        let sum = rw (l .loop .inv .0) at (w .6 .ensures .0) in (
-          l .loop .inv .0,
-          omega arith,
-          ap length (w .7) ∙ w .6 .ensures .1,
-          rw (w .7) (cleared-pivot n (a .rows .now) r j (i .loop-test .taken) long (w .0 .taken) p _ sum ∙ l .loop .inv .3),
-        ))
+    let p = rw (l .loop .inv .0) at (sym (w .2 .ensures) ∙ not-false _ (w .3 .left)) in
+    let sum = rw (l .loop .inv .0) at (w .6 .ensures .0) in (
+      l .loop .inv .0,
+      omega arith,
+      ap length (w .7) ∙ w .6 .ensures .1,
+      rw (w .7) (cleared-pivot n (a .rows .now) r j (i .loop-test .taken) long (w .0 .taken) p _ sum ∙ l .loop .inv .3),
+    ))
     (λ w. (
       l .loop .inv .0,
       omega arith,

@@ -4,7 +4,7 @@ use mathlib.Core.Logic.{⊎-elim}
 use Rattle.model.specs.Causes.{_if_}
 use Rattle.model.specs.Encoding.{others}
 use Rattle.model.proofs.Reduction.{small-if}
-use Rattle.reduction.specs.Table.{isPivot, columnsIn}
+use Rattle.reduction.specs.Table.{hasPivot, columnsIn}
 use Rattle.reduction.proofs.Table.{length-columns, others-next}
 use Rattle.reduction.proofs.count_others.Statement.{statement}
 use Rattle.reduction.proofs.count_others.Tie as tie
@@ -22,9 +22,9 @@ loop-again c =
     let a = l .before .args in
     let j = l .loop .column in
     let next = others-next (a .bits) (a .rows .now) j (v .before .loop-test .taken) in
-    let one : c .if1 .count ≡ l .loop .count + 1 if not (isPivot (a .rows .now) j)
+    let one : c .if1 .count ≡ l .loop .count + 1 if not (hasPivot (a .rows .now) j)
     = ⊎-elim (λ w. w .1 ∙ rw (← v .is-pivot .ensures, w .0 .taken)) (λ w. w .1 ∙ rw (← v .is-pivot .ensures, w .0 .left) (omega arith)) (c .if1 .came) in
-    (omega (arith, v .before .loop-test .taken), omega (arith, one, small-if (not (isPivot (a .rows .now) j)), l .loop .inv .1), rw (add-one j) (omega (arith, one, next, l .loop .inv .2)))
+    (omega (arith, v .before .loop-test .taken), omega (arith, one, small-if (not (hasPivot (a .rows .now) j)), l .loop .inv .1), rw (add-one j) (omega (arith, one, next, l .loop .inv .2)))
 
 returns : tie.Need-returns Inv-loop μ-loop
 returns c =

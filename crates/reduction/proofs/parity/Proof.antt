@@ -2,7 +2,7 @@
 use Rattle.integers.proofs.Prelude.{_≡_, ap, ap₂, _∙_, ℕ, _+_, _-_, _*_, _%_, _≤_, arith, add-one, needs, length, drop, drop-of-length-le}
 use native.Mathlib.Nat.{mul-le-mul}
 use lib.Seq.{slice}
-use Rattle.model.specs.Encoding.{product}
+use Rattle.model.specs.Encoding.{innerProduct}
 use Rattle.model.proofs.Reduction.{product-none}
 use Rattle.reduction.proofs.Table.{product-from}
 use Rattle.reduction.proofs.parity.Statement.{statement}
@@ -10,12 +10,12 @@ use Rattle.reduction.proofs.parity.Tie as tie
 
 abbrev Inv-loop : tie.InvT-loop
 Inv-loop row word start sum₀ i₀ i-end sum i =
-    (i ≤ length word) × (sum ≤ 65025 * i) × (sum + product (slice i (length word) row) (drop i word) ≡ product (slice start (length word) row) (drop start word))
+    (i ≤ length word) × (sum ≤ 65025 * i) × (sum + innerProduct (slice i (length word) row) (drop i word) ≡ innerProduct (slice start (length word) row) (drop start word))
 
 abbrev μ-loop : tie.MeasureT-loop
 μ-loop row word start sum₀ i₀ i-end sum i = length word - i
 
--- a product of two bytes
+-- a innerProduct of two bytes
 small : (c : tie.After-byte2 Inv-loop μ-loop) → c .before .before .byte .result * c .byte2 .result ≤ 65025
 small c = mul-le-mul (c .before .before .byte .ensures .1) (c .byte2 .ensures .1)
 
@@ -35,7 +35,7 @@ returns c =
     let a = l .before .before .args in
     let w = a .word .now in
     let rest = slice (l .loop .i) (length w) (a .row .now) in
-    let none : product rest (drop (l .loop .i) w) ≡ 0 = ap (product rest) (drop-of-length-le w {i = l .loop .i} (omega arith)) ∙ product-none rest in
+    let none : innerProduct rest (drop (l .loop .i) w) ≡ 0 = ap (innerProduct rest) (drop-of-length-le w {i = l .loop .i} (omega arith)) ∙ product-none rest in
     ap (λ (x : ℕ). x % 2) (omega (arith, none, l .loop .inv .2))
 
 pub parity-spec : {M : Type 1} → statement M

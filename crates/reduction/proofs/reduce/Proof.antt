@@ -1,5 +1,5 @@
 -- `reduction::reduce` meets its contract: the checks so far are reduced. Assumes nothing.
-use Rattle.integers.proofs.Prelude.{_≡_, refl, sym, ap, _∙_, List, ℕ, _-_, _≤_, _<_, arith, needs, length, drop}
+use Rattle.integers.proofs.Prelude.{_≡_, sym, ap, _∙_, _-_, _≤_, _<_, arith, needs, length, drop}
 use lib.ListN.{replicate}
 use Rattle.model.specs.Limits.{mostEncodedBits}
 use Rattle.model.specs.Records.{bitCount, checkCount, checksIn, afterChecks, judgeCheck, codeOf}
@@ -57,7 +57,7 @@ loop-again c =
       omega (arith, k .clear, l .loop .inv .1),
       omega arith,
       k .clear .ensures
-      ∙ rw (l .loop .inv .3, r .check-row .ensures .0, walk-checks _ _ _ (l .loop .inv .0)) (sym (reduced-next n (checksIn (l .loop .j) (drop 6 (s i .args .code .now))) _ (replicate n other))),
+          ∙ rw (l .loop .inv .3, r .check-row .ensures .0, walk-checks _ _ _ (l .loop .inv .0)) (sym (reduced-next n (checksIn (l .loop .j) (drop 6 (s i .args .code .now))) _ (replicate n other))),
     )
 
 returns : tie.Need-returns Inv-loop μ-loop

@@ -1,5 +1,5 @@
 -- `reduction::write_message` meets its contract: the message of the columns so far. Assumes nothing.
-use Rattle.integers.proofs.Prelude.{_≡_, sym, _∙_, _-_, _≤_, arith, needs, not-true, not-false, length}
+use Rattle.integers.proofs.Prelude.{sym, _∙_, _-_, _≤_, arith, needs, not-true, not-false, length}
 use mathlib.Core.Logic.{⊎-elim}
 use Rattle.reduction.proofs.Messages.{Begun, begun-start, begun-long, begun-few, begun-end, begun-pivot, begun-room, begun-other}
 use Rattle.reduction.proofs.write_message.Statement.{statement}
