@@ -4,9 +4,9 @@
  * Link with target/staticlib/libc_api.a, which `rt staticlib c_api` writes (x86-64 Linux).
  *
  * Lists
- *   A list is a pointer and its number of entries, not of bytes. Code, text, costs, samples and words are whole lists: their
- *   length is exact (else 12; for a code 1 or 9, for a text 18). Lists that a call fills may be longer than needed: the entries past those needed
- *   stay as they were. One that is too short is refused with 10.
+ *   A list is a pointer and its number of entries, not of bytes. Code, text, costs, samples, words and messages are whole lists:
+ *   their length is exact (else 12; for a code 1 or 9, for a text 18). Lists that a call fills may be longer than needed: the entries past those
+ *   needed stay as they were. One that is too short is refused with 10.
  *
  *   The sizes of a code are n (bits), m (checks), T (triples: the sum over all checks of degree - 2) and V (variables):
  *
@@ -259,10 +259,10 @@ uint32_t widagbe_encode(const uint8_t *code, size_t code_len,
 
 /*
  * Writes the words of many messages of one code. Each is what widagbe_encode writes; the check matrix is reduced once for all.
- *   frames    how many, any number
- *   messages  frames messages, one behind the other
- *   words     frames times n entries, the words one behind the other
- * Numbers: 0 to 10, 12, 15, 20.
+ *   frames    how many
+ *   messages  so many messages, one behind the other
+ *   words     frames times n entries: the words, one behind the other
+ * Numbers: 0 to 10, 12, 15, 20. No frames at all are accepted.
  */
 uint32_t widagbe_encode_frames(const uint8_t *code, size_t code_len, size_t frames,
                                const uint8_t *messages, size_t messages_len,
