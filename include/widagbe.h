@@ -5,8 +5,8 @@
  *
  * Lists
  *   A list is a pointer and its number of entries, not of bytes. Code, text, costs, samples, words and messages are whole lists:
- *   their length is exact (else 12; for a code 1 or 9, for a text 18). Lists that a call fills may be longer than needed: the entries past those
- *   needed stay as they were. One that is too short is refused with 10.
+ *   their length is exact (else 12; for a code 1 or 9, for a text 18). Lists that a call fills may be longer than needed: the
+ *   entries past those needed stay as they were. One that is too short is refused with 10.
  *
  *   The sizes of a code are n (bits), m (checks), T (triples: the sum over all checks of degree - 2) and V (variables):
  *

@@ -58,7 +58,7 @@ pub enum Reading {
     Refused(u32),
 }
 
-// The answer of the codeword test and of the extension; Odd has the first check with an odd sum.
+// The answer of the codeword test, of the extension and of what reads a message; Odd has the first check with an odd sum.
 pub enum Verdict {
     Codeword,
     Odd(usize),
