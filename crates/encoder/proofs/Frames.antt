@@ -1,5 +1,5 @@
 -- Frames one behind the other: their number, and one more. Assumes nothing.
-use Rattle.integers.proofs.Prelude.{_≡_, sym, ap, ap₂, _∙_, true, _&&_, List, ℕ, suc, _+_, _*_, _/_, _%_, _≤_, _<_, arith, add-one, eqb-true, eq-eqb, eqb, length, take, drop, length-drop, length-take-le}
+use Rattle.integers.proofs.Prelude.{_≡_, sym, ap, ap₂, _∙_, true, _&&_, List, ℕ, _+_, _*_, _/_, _%_, _≤_, _<_, arith, add-one, eqb-true, eq-eqb, eqb, length, take, drop}
 use native.Mathlib.Nat.{div-add-mod', mul-div-cancel, mul-mod-left}
 use borrow.Rule.Slice.PartMut.{putMid}
 use Rattle.lists.specs.Tabulated.{written, part}
@@ -23,10 +23,6 @@ makes t p s h = same-test (eqb (t % s) 0 && eqb (t / s) p) (eqb t (p * s)) made 
     parts e =
         let is = eqb-true t (p * s) e in
         and-both (eqb (t % s) 0) (eqb (t / s) p) (eq-eqb (t % s) 0 (ap (λ (x : ℕ). x % s) is ∙ mul-mod-left p s)) (eq-eqb (t / s) p (ap (λ (x : ℕ). x / s) is ∙ mul-div-cancel p h))
-
--- ---- a part
-pub part-long : (size : ℕ) (l : List ℕ) (f : ℕ) → suc f * size ≤ length l → length (part size f l) ≡ size
-part-long size l f h = length-take-le size (drop (f * size) l) (omega (arith, length-drop (f * size) l))
 
 -- ---- one frame more, where those before stand
 module _ (cs : List Column) (n : ℕ) (size : length cs ≡ n) (f : ℕ) (ms old words : List ℕ) (so-far : words ≡ written (framesIn cs f ms) old) (room : f * n ≤ length old) where

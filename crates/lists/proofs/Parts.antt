@@ -1,8 +1,8 @@
 -- Parts of a slice, as a loan gives them, and a list that is written part by part. Assumes nothing.
-use Rattle.integers.proofs.Prelude.{_≡_, refl, sym, ap, _∙_, List, [], _∷_, _++_, append-assoc, append-nil, ℕ, _+_, _-_, _≤_, _<_, arith}
-use Rattle.integers.proofs.Prelude.{length, take, drop, set, length-append, length-drop, drop-of-length-le, take-all, drop-drop, take-append-seam}
+use Rattle.integers.proofs.Prelude.{_≡_, refl, sym, ap, _∙_, List, [], _∷_, _++_, append-assoc, append-nil, ℕ, suc, _+_, _-_, _*_, _≤_, _<_, arith}
+use Rattle.integers.proofs.Prelude.{length, take, drop, set, length-append, length-drop, length-take-le, drop-of-length-le, take-all, drop-drop, take-append-seam}
 use lib.Seq.{drop-append-seam}
-use Rattle.lists.specs.Tabulated.{written}
+use Rattle.lists.specs.Tabulated.{written, part}
 
 module _ {A : Type 0} where
   -- `&s[k..]`
@@ -40,3 +40,7 @@ module _ {A : Type 0} where
   written-more l k q old s e w =
       let none : drop (length s - length l) (drop (length l) s) ≡ [] = drop-of-length-le (drop (length l) s) {i = length s - length l} (omega (arith, length-drop (length l) s)) in
       rw (none, append-nil q, w) (written-part l k old s e)
+
+  -- ---- parts of one size, one behind the other
+  pub length-part : (size f : ℕ) (l : List A) → suc f * size ≤ length l → length (part size f l) ≡ size
+  length-part size f l h = length-take-le size (drop (f * size) l) (omega (arith, length-drop (f * size) l))

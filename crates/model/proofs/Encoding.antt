@@ -154,7 +154,7 @@ zeros-meet (other ∷ cs) (suc n) = zeros-meet cs n
 zeros-meet (pivot q ∷ cs) (suc n) = (rw (product-zeros q n), zeros-meet cs n)
 
 -- there is one in each other column
-pub record LastOne (cs : List Column) (j more : ℕ) : Type 0 where
+record LastOne (cs : List Column) (j more : ℕ) : Type 0 where
   front : List ℕ
   before : Bits j front
   meets : Meets cs (lastOne front more)

@@ -1,12 +1,13 @@
 -- What the functions of the encoder promise follows from the equations with their definitions. Assumes nothing.
 use Rattle.integers.proofs.Prelude.{_≡_, refl, sym, ap, ap₂, subst, _∙_, Bool, true, false, List, [], _∷_, _++_, ℕ, zero, suc, _+_, _*_, _≤_, _<_}
-use Rattle.integers.proofs.Prelude.{arith, decLt, le-ltb, ltb-false, ltb, length, take, drop, length-drop, length-take-le, getD-take, getD-drop}
+use Rattle.integers.proofs.Prelude.{arith, decLt, le-ltb, ltb-false, ltb, length, take, drop, getD-take, getD-drop}
 use Rattle.integers.proofs.Prelude.{take-all, List·getD-eq-default}
 use native.Mathlib.Nat.{zero-mul, mul-le-mul-right}
 use mathlib.Core.Logic.{_↔_}
 use Rattle.lists.specs.Tabulated.{written, part}
 use Rattle.lists.specs.Entries.{some}
 use Rattle.lists.proofs.Tabulated.{take-written}
+use Rattle.lists.proofs.Parts.{length-part}
 use Rattle.model.specs.declared.Length.{Length}
 use Rattle.model.specs.Limits.{mostEncodedBits}
 use Rattle.model.specs.Causes.{_if_, firstOf, short, accepted}
@@ -35,8 +36,7 @@ use Rattle.model.proofs.Encoding.{length-encoded, frame-part, encoding}
 -- ---- parts of a list
 pub part-bits : (size f g : ℕ) (l : List ℕ) → g < f → Bits (f * size) l → Bits size (part size g l)
 part-bits size f g l h b =
-    let room = mul-le-mul-right {m = suc g} {n = f} size h in
-    let long : length (part size g l) ≡ size = length-take-le size (drop (g * size) l) (omega (arith, room, b .long, length-drop (g * size) l)) in
+    let long = length-part size g l (omega (arith, mul-le-mul-right {m = suc g} {n = f} size h, b .long)) in
     record { long = long; binary = λ i. by i (decLt i size) long }
   where
     by : (i : ℕ) → Dec (i < size) → length (part size g l) ≡ size → bitAt (part size g l) i < 2

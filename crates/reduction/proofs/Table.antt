@@ -68,12 +68,6 @@ length-columns n rows = length-tab n (column n rows)
 pub column-at : (n : ℕ) (rows : List (List ℕ)) (j : ℕ) → j < n → getD (columnsIn n rows) j other ≡ column n rows j
 column-at n rows j h = getD-tab n (column n rows) j other h
 
-pub column-pivot : (n : ℕ) (rows : List (List ℕ)) (j : ℕ) → hasPivot rows j ≡ true → column n rows j ≡ pivot (slice (suc j) n (row rows j))
-column-pivot n rows j e = rw e
-
-pub column-other : (n : ℕ) (rows : List (List ℕ)) (j : ℕ) → hasPivot rows j ≡ false → column n rows j ≡ other
-column-other n rows j e = rw e
-
 -- none, where all rows are zeros
 pub columns-none : (n m : ℕ) → n ≤ m → columnsIn n (replicate m (replicate m 0)) ≡ replicate n other
 columns-none n m h = tab-same n _ (λ _. other) none ∙ tab-replicate n other

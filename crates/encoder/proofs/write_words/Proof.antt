@@ -2,10 +2,11 @@
 use Rattle.integers.proofs.Prelude.{_≡_, refl, ap, _∙_, ℕ, suc, _+_, _-_, _*_, _≤_, arith, needs, List, length, take, drop}
 use native.Mathlib.Nat.{mul-le-mul-right}
 use Rattle.lists.specs.Tabulated.{written}
+use Rattle.lists.proofs.Parts.{length-part}
 use Rattle.model.specs.Encoding.{Column, framesIn}
 use Rattle.reduction.specs.Table.{columnsIn}
 use Rattle.reduction.proofs.Table.{length-columns}
-use Rattle.encoder.proofs.Frames.{part-long, frames-long, next-frame}
+use Rattle.encoder.proofs.Frames.{frames-long, next-frame}
 use Rattle.encoder.proofs.write_words.Statement.{statement}
 use Rattle.encoder.proofs.write_words.Tie as tie
 
@@ -47,10 +48,10 @@ module _ (i : tie.In-loop Inv-loop μ-loop) where
   long = frames-long cs (s .args .bits) (length-columns (s .args .bits) (s .args .rows .now)) (l .loop .f) (s .args .messages .now) (s .args .words .now) (l .loop .words) (l .loop .inv .1) (omega (arith, word-end))
 
   word-long : length (take ((l .loop .f + 1) * s .args .bits - l .loop .f * s .args .bits) (drop (l .loop .f * s .args .bits) (l .loop .words))) ≡ s .args .bits
-  word-long = rw bits-is (part-long _ _ (l .loop .f) (omega (arith, long, word-end)))
+  word-long = rw bits-is (length-part _ (l .loop .f) _ (omega (arith, long, word-end)))
 
   message-long : length (take ((l .loop .f + 1) * s .args .size - l .loop .f * s .args .size) (drop (l .loop .f * s .args .size) (s .args .messages .now))) ≡ s .args .size
-  message-long = rw size-is (part-long _ _ (l .loop .f) message-end)
+  message-long = rw size-is (length-part _ (l .loop .f) _ message-end)
 
 write-word-requires : tie.Need-write-word-requires Inv-loop μ-loop
 write-word-requires c κs =
