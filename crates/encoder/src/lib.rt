@@ -74,6 +74,7 @@ struct Found {
     size: usize,
 }
 
+// Of a code that is not encoded, the number alone.
 fn refused(number: u32) -> Found
     ensures { λ r. ⌜ r ≡ record { number = number; bits = 0; checks = 0; size = 0 } ⌝ }
 {

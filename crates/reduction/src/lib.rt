@@ -1,5 +1,5 @@
-// The check matrix of a code, reduced modulo 2 (document 02, L5), in a table with a row for each column. Where column j is a pivot, row j has its 1 there and
-// what its check has after it; where it is not, the row has a 0 there.
+// The check matrix of a code, reduced modulo 2 (document 02, L5), in a table with a row for each column. Where column j is a pivot, row j is its row, with a 1
+// there; where it is not, row j has a 0 there. Entries before column j, and those past the code's bits, are of no account.
 ghost use mathlib.Core.Path.{_≡_};
 ghost use Prim.Native.Nat.{_%_, _≤_, _<_};
 ghost use lib.ListN.{length, take, drop, replicate};
@@ -26,7 +26,7 @@ fn check_row(s: &[u8], bits: usize) -> [u8; MOST_ENCODED_BITS]
     row
 }
 
-// The sum of two rows modulo 2, in the columns from `start` on.
+// Adds the other row modulo 2, in the columns from `start` on.
 fn add(
     row: &mut [u8; MOST_ENCODED_BITS],
     other: &[u8; MOST_ENCODED_BITS],
