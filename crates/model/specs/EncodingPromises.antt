@@ -38,8 +38,8 @@ pub record LengthCall (b : List ℕ) (a : Length) : Type 0 where
   pub follows : Follows 0 (wholeCauses b ++ sizeCauses (codeOf b))
   pub exactly : (a .number ≡ 0) ↔ Encodable b
   pub refused : (c : ℕ) → a .number ≡ suc c → a ≡ record { number = suc c; length = 0 }
-  -- messages of this length are those that the encoder takes
   pub told : a .number ≡ 0 → a ≡ record { number = 0; length = messageLength (codeOf b) }
+  -- messages of this length are those that the encoder takes
   pub taken : a .number ≡ 0 → (m old : List ℕ) → codeOf b .bits ≤ length old → (encoder b m old .number ≡ 0) ↔ Bits (a .length) m
 
 -- ---- the encoder: a is its number and the list that was old

@@ -1,13 +1,13 @@
 -- A row is cleared column by column, and check after check. Assumes nothing.
-use Rattle.integers.proofs.Prelude.{_≡_, refl, sym, ap, ap₂, _∙_, true, false, not, cond, List, [], _∷_, _++_, append-nil, ℕ, zero, suc, _+_, _-_}
-use Rattle.integers.proofs.Prelude.{_≤_, _<_, arith, add-one, ne-eqb, eqb, length, take, drop, set, take-all, drop-of-length-le}
+use Rattle.integers.proofs.Prelude.{_≡_, refl, sym, ap, ap₂, _∙_, true, false, List, [], _∷_, _++_, append-nil, ℕ, suc, _+_, _-_}
+use Rattle.integers.proofs.Prelude.{_≤_, _<_, arith, add-one, ne-eqb, length, take, drop, set, take-all, drop-of-length-le}
 use mathlib.Core.Logic.{_≢_}
 use lib.Seq.{slice, slice-cons, getD-set-same, getD-set-other, append-snoc, set-split}
 use Rattle.lists.proofs.Tabulated.{tab-set}
 use Rattle.model.specs.Words.{bitAt}
 use Rattle.model.specs.Reflection.{sumOfWords}
-use Rattle.model.specs.Encoding.{rowOf, Column, pivot, other, cleared, reducedBy}
-use Rattle.reduction.specs.Table.{row, hasPivot, column, columnsIn}
+use Rattle.model.specs.Encoding.{rowOf, Column, pivot, cleared, reducedBy}
+use Rattle.reduction.specs.Table.{row, hasPivot, columnOf, column, columnsIn}
 use Rattle.reduction.proofs.Table.{columns-from, columns-to, length-columns}
 
 -- ---- one row more, from column j on: r has the entries of these columns
@@ -24,6 +24,9 @@ module _ (n : ℕ) (rows : List (List ℕ)) (r : List ℕ) (j : ℕ) (h : j < n)
       let x = cleared (drop (suc j) cs) l in
       sym (append-snoc (take j cs) (column n rows j) x) ∙ ap (λ (k : List Column). k ++ x) (sym (columns-to n rows j h))
 
+  one : bitAt r j ≢ 0 → bitAt r j ≡ suc (bitAt r j - 1)
+  one e = omega (arith, e)
+
   -- it has a 0 there
   pub cleared-zero : bitAt r j ≡ 0 → take (j + 1) cs ++ cleared (drop (j + 1) cs) (slice (j + 1) n r) ≡ take j cs ++ cleared (drop j cs) (slice j n r)
   unfolding cleared
@@ -34,29 +37,20 @@ module _ (n : ℕ) (rows : List (List ℕ)) (r : List ℕ) (j : ℕ) (h : j < n)
       → take (j + 1) cs ++ cleared (drop (j + 1) cs) (slice (j + 1) n q) ≡ take j cs ++ cleared (drop j cs) (slice j n r)
   unfolding cleared
   cleared-pivot e p q sum =
-      rw (sum, add-one j) (sym (here ∙ by (bitAt r j) e ∙ next (sumOfWords (slice (suc j) n r) (slice (suc j) n (row rows j)))))
-    where
-      by : (x : ℕ) → x ≢ 0 → take j cs ++ cleared (column n rows j ∷ drop (suc j) cs) (x ∷ slice (suc j) n r)
-          ≡ take j cs ++ (column n rows j ∷ cleared (drop (suc j) cs) (sumOfWords (slice (suc j) n r) (slice (suc j) n (row rows j))))
-      by zero e = absurd (e refl)
-      by (suc x) e = rw p
+      let l = sumOfWords (slice (suc j) n r) (slice (suc j) n (row rows j)) in
+      let added : take j cs ++ cleared (column n rows j ∷ drop (suc j) cs) (bitAt r j ∷ slice (suc j) n r) ≡ take j cs ++ (column n rows j ∷ cleared (drop (suc j) cs) l)
+      = rw (one e, p) in
+      rw (sum, add-one j) (sym (here ∙ added ∙ next l))
 
   -- it has a 1 at another column, where it is put into the table
   pub cleared-other : bitAt r j ≢ 0 → hasPivot rows j ≡ false → j < length rows → columnsIn n (set rows j r) ≡ take j cs ++ cleared (drop j cs) (slice j n r)
   unfolding cleared
   cleared-other e p room =
-      sym (tab-set n (column n rows) (column n (set rows j r)) j (pivot (slice (suc j) n r)) h is (λ u l d. ap (λ (q : List ℕ). columnOf u q) (getD-set-other rows j u r [] d)))
-      ∙ set-split cs j (pivot (slice (suc j) n r)) (omega (arith, length-columns n rows)) ∙ sym (here ∙ by (bitAt r j) e)
-    where
-      columnOf : ℕ → List ℕ → Column
-      columnOf u q = cond (not (eqb (bitAt q u) 0)) (pivot (slice (suc u) n q)) other
-
-      is : column n (set rows j r) j ≡ pivot (slice (suc j) n r)
-      is = rw (getD-set-same rows j r [] room, ne-eqb (bitAt r j) 0 e)
-
-      by : (x : ℕ) → x ≢ 0 → take j cs ++ cleared (column n rows j ∷ drop (suc j) cs) (x ∷ slice (suc j) n r) ≡ take j cs ++ (pivot (slice (suc j) n r) ∷ drop (suc j) cs)
-      by zero e = absurd (e refl)
-      by (suc x) e = rw p
+      let new = pivot (slice (suc j) n r) in
+      let is : column n (set rows j r) j ≡ new = rw (getD-set-same rows j r [] room, ne-eqb (bitAt r j) 0 e) in
+      let put : take j cs ++ cleared (column n rows j ∷ drop (suc j) cs) (bitAt r j ∷ slice (suc j) n r) ≡ take j cs ++ (new ∷ drop (suc j) cs) = rw (one e, p) in
+      sym (tab-set n (column n rows) (column n (set rows j r)) j new h is (λ u l d. ap (columnOf n u) (getD-set-other rows j u r [] d)))
+      ∙ set-split cs j new (omega (arith, length-columns n rows)) ∙ sym (here ∙ put)
 
 -- past the last column
 pub cleared-end : (n : ℕ) (rows : List (List ℕ)) (r : List ℕ) → take n (columnsIn n rows) ++ cleared (drop n (columnsIn n rows)) r ≡ columnsIn n rows

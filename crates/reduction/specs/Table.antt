@@ -13,13 +13,19 @@ use Rattle.model.specs.Encoding.{Column, pivot, other}
 abbrev pub row : List (List ℕ) → ℕ → List ℕ
 row rows j = getD rows j []
 
--- column j is a pivot where row j has no 0 there
-abbrev pub hasPivot : List (List ℕ) → ℕ → Bool
-hasPivot rows j = not (eqb (bitAt (row rows j) j) 0)
+-- a row is that of a pivot in column j where it has no 0 there
+abbrev pub leads : ℕ → List ℕ → Bool
+leads j r = not (eqb (bitAt r j) 0)
 
--- the column that row j stands for, of n: a pivot with the entries after it
+abbrev pub hasPivot : List (List ℕ) → ℕ → Bool
+hasPivot rows j = leads j (row rows j)
+
+-- the column j, of n, that a row stands for: a pivot with the entries after it, or another
+abbrev pub columnOf : ℕ → ℕ → List ℕ → Column
+columnOf n j r = cond (leads j r) (pivot (slice (suc j) n r)) other
+
 abbrev pub column : ℕ → List (List ℕ) → ℕ → Column
-column n rows j = cond (hasPivot rows j) (pivot (slice (suc j) n (row rows j))) other
+column n rows j = columnOf n j (row rows j)
 
 abbrev pub columnsIn : ℕ → List (List ℕ) → List Column
 columnsIn n rows = tab n (column n rows)
