@@ -1,9 +1,8 @@
 -- The encoding: a codeword for each message, each codeword once, sums to sums, and pivots as early as can be. Assumes nothing.
 use Rattle.integers.proofs.Prelude.{_≡_, refl, sym, ap, ap₂, subst, _∙_, Bool, true, false, not, List, [], _∷_, _++_, ℕ, zero, suc, _+_, _-_, _*_, _%_}
 use Rattle.integers.proofs.Prelude.{_<_, arith, not-false, T, eqb, length, getD, take, drop, length-append, List·getD-append, getD-append-add}
-use Rattle.integers.proofs.Prelude.{append-assoc, decLt, take-at, drop-at}
+use Rattle.integers.proofs.Prelude.{append-assoc, decLt, take-at, drop-at, getD-drop}
 use native.Mathlib.Nat.{add-zero, zero-add, suc-add}
-use native.Mathlib.Numerals.{one-add}
 use mathlib.Core.Logic.{_↔_}
 use Rattle.integers.specs.Sum.{sumℕ}
 use Rattle.integers.proofs.Sums.{sumℕ-same, sumℕ-split, sumℕ-first, sumℕ-zero}
@@ -18,7 +17,7 @@ use Rattle.model.specs.Points.{Bits, Codeword}
 use Rattle.model.specs.Reflection.{sumOfWords}
 use Rattle.model.specs.Composition.{zeroWord}
 use Rattle.model.specs.Encoding.{element, Column, pivot, other, reduced, isOther, others, innerProduct, encodedIn, messageIn, framesIn, messageLength, encoded, messageOf}
-use Rattle.model.specs.Encoding.{Dependent, isPivot, Encodes}
+use Rattle.model.specs.Encoding.{Dependent, isPivot, othersBefore, Encodes}
 use Rattle.model.proofs.Sound.{sound-at}
 use Rattle.model.proofs.Composition.{zero-at, zero-bits, sum-codeword}
 use Rattle.model.proofs.Reduction.{rest-bits, more-bits, no-bits, check-sum, small-if, Meets, columns, codewords}
@@ -41,6 +40,19 @@ encoded-bits (suc n) [] m e h = absurd (omega arith)
 encoded-bits zero (c ∷ cs) m e h = absurd (omega arith)
 encoded-bits (suc n) (other ∷ cs) m e h = more-bits n _ _ (h 0) (encoded-bits n cs (drop 1 m) (omega arith) (rest-small m h))
 encoded-bits (suc n) (pivot q ∷ cs) m e h = more-bits n _ _ (omega arith) (encoded-bits n cs m (omega arith) h)
+
+-- in another column stands the entry that has as many before it as there are other columns before
+encoded-at : (cs : List Column) (m : List ℕ) (j : ℕ) → j < length cs → isOther (getD cs j other) ≡ true
+    → bitAt (encodedIn cs m) j ≡ bitAt m (sumℕ j (λ i. 1 if isOther (getD cs i other)))
+unfolding encodedIn
+encoded-at [] m j l h = absurd (omega arith)
+encoded-at (other ∷ cs) m zero l h = refl
+encoded-at (pivot q ∷ cs) m zero l h = absurd (subst T (sym h) tt)
+encoded-at (other ∷ cs) m (suc j) l h =
+    encoded-at cs (drop 1 m) j (omega arith) h ∙ getD-drop 1 m (sumℕ j (λ i. 1 if isOther (getD cs i other))) 0
+    ∙ ap (bitAt m) (sym (sumℕ-first j (λ i. 1 if isOther (getD (other ∷ cs) i other))))
+encoded-at (pivot q ∷ cs) m (suc j) l h =
+    encoded-at cs m j (omega arith) h ∙ ap (bitAt m) (sym (sumℕ-first j (λ i. 1 if isOther (getD (pivot q ∷ cs) i other)) ∙ zero-add _))
 
 encoded-meets : (cs : List Column) (m : List ℕ) → Meets cs (encodedIn cs m)
 unfolding encodedIn
@@ -102,17 +114,6 @@ message-sum (c ∷ cs) [] u e f = absurd (omega arith)
 message-sum (c ∷ cs) (x ∷ w) [] e f = absurd (omega arith)
 message-sum (other ∷ cs) (x ∷ w) (y ∷ u) e f = ap (λ (l : List ℕ). (x + y) % 2 ∷ l) (message-sum cs w u (omega arith) (omega arith))
 message-sum (pivot q ∷ cs) (x ∷ w) (y ∷ u) e f = message-sum cs w u (omega arith) (omega arith)
-
--- an entry of the message: as many stand before it as other columns do before its own
-message-at : (cs : List Column) (w : List ℕ) (j : ℕ) → length w ≡ length cs → j < length cs → isOther (getD cs j other) ≡ true
-    → bitAt (messageIn cs w) (others (take j cs)) ≡ bitAt w j
-unfolding messageIn
-message-at [] w j e l h = absurd (omega arith)
-message-at (c ∷ cs) [] j e l h = absurd (omega arith)
-message-at (other ∷ cs) (x ∷ w) zero e l h = refl
-message-at (pivot q ∷ cs) (x ∷ w) zero e l h = absurd (subst T (sym h) tt)
-message-at (other ∷ cs) (x ∷ w) (suc j) e l h = rw (one-add (others (take j cs))) (message-at cs w j (omega arith) (omega arith) h)
-message-at (pivot q ∷ cs) (x ∷ w) (suc j) e l h = rw (zero-add (others (take j cs))) (message-at cs w j (omega arith) (omega arith) h)
 
 -- ---- many frames
 pub length-frames : (cs : List Column) (f : ℕ) (ms : List ℕ) → length (framesIn cs f ms) ≡ f * length cs
@@ -260,18 +261,20 @@ module _ (k : Code) (s : Sound k) where
         by true e h = refl
         by false e h = absurd (h (dependent .0 e))
 
-  twice : (t : Bool) → 1 if t ≡ 1 if not (not t)
-  twice true = refl
-  twice false = refl
+  others-before : (j : ℕ) → sumℕ j (λ i. 1 if isOther (getD (reduced k) i other)) ≡ othersBefore k j
+  others-before j = sumℕ-same j (λ i. 1 if isOther (getD (reduced k) i other)) (λ i. 1 if not (isPivot k i)) (λ i l. twice (isOther (getD (reduced k) i other)))
+    where
+      twice : (t : Bool) → 1 if t ≡ 1 if not (not t)
+      twice true = refl
+      twice false = refl
 
   pub encoding : Encodes k
   encoding = record {
     columns = columns k;
     earliest = earliest;
     dependent = dependent;
-    counted = total-entries (λ c. 1 if isOther c) (reduced k) other ∙ ap (λ (m : ℕ). sumℕ m (λ j. 1 if isOther (getD (reduced k) j other))) (columns k)
-        ∙ sumℕ-same n (λ j. 1 if isOther (getD (reduced k) j other)) (λ j. 1 if not (isPivot k j)) (λ j l. twice (isOther (getD (reduced k) j other)));
-    rising = λ w e j l h. message-at (reduced k) w j (e ∙ sym (columns k)) (omega (arith, columns k)) (not-false _ h);
+    counted = total-entries (λ c. 1 if isOther c) (reduced k) other ∙ ap (λ (m : ℕ). sumℕ m (λ j. 1 if isOther (getD (reduced k) j other))) (columns k) ∙ others-before n;
+    rising = λ m j l h. encoded-at (reduced k) m j (omega (arith, columns k)) (not-false _ h) ∙ ap (bitAt m) (others-before j);
     codeword = codeword;
     read-back = λ m b. read-back (reduced k) m (b .long);
     some-message = λ w c. (message w c, back w c);

@@ -158,17 +158,19 @@ pub record Dependent (k : Code) (j : ℕ) : Type 0 where
 abbrev pub isPivot : Code → ℕ → Bool
 isPivot k j = not (isOther (getD (reduced k) j other))
 
+-- how many of the columns before j are no pivots
+abbrev pub othersBefore : Code → ℕ → ℕ
+othersBefore k j = sumℕ j (λ i. 1 if not (isPivot k i))
+
 -- every code and its encoding
 pub record Encodes (k : Code) : Type 0 where
   pub columns : length (reduced k) ≡ k .bits
   -- "with the earliest possible pivot columns": a column is a pivot exactly when it depends on no earlier ones
   pub earliest : (j : ℕ) → j < k .bits → (isPivot k j ≡ true) ↔ (Dependent k j → ⊥)
   pub dependent : (j : ℕ) → j < k .bits → (isPivot k j ≡ false) ↔ Dependent k j
-  -- a message has an entry for each of the other columns
-  pub counted : messageLength k ≡ sumℕ (k .bits) (λ j. 1 if not (isPivot k j))
-  -- "Message bits go in the other columns in rising order": the entry of such a column has as many before it in the message as there are other columns before
-  pub rising : (w : List ℕ) → length w ≡ k .bits → (j : ℕ) → j < k .bits → isPivot k j ≡ false
-      → bitAt (messageOf k w) (others (take j (reduced k))) ≡ bitAt w j
+  -- "Message bits go in the other columns in rising order": there are as many, and each has as many before it
+  pub counted : messageLength k ≡ othersBefore k (k .bits)
+  pub rising : (m : List ℕ) (j : ℕ) → j < k .bits → isPivot k j ≡ false → bitAt (encoded k m) j ≡ bitAt m (othersBefore k j)
   -- "and the checks then fix the pivot bits": the encoding is a codeword, and the message stands in it
   pub codeword : (m : List ℕ) → Bits (messageLength k) m → Codeword k (encoded k m)
   pub read-back : (m : List ℕ) → Bits (messageLength k) m → messageOf k (encoded k m) ≡ m

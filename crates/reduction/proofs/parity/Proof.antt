@@ -15,7 +15,7 @@ Inv-loop row word start sum₀ i₀ i-end sum i =
 abbrev μ-loop : tie.MeasureT-loop
 μ-loop row word start sum₀ i₀ i-end sum i = length word - i
 
--- a innerProduct of two bytes
+-- a product of two bytes
 small : (c : tie.After-byte2 Inv-loop μ-loop) → c .before .before .byte .result * c .byte2 .result ≤ 65025
 small c = mul-le-mul (c .before .before .byte .ensures .1) (c .byte2 .ensures .1)
 
