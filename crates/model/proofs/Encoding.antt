@@ -1,6 +1,6 @@
 -- The encoding: a codeword for each message, each codeword once, sums to sums, and pivots as early as can be. Assumes nothing.
 use Rattle.integers.proofs.Prelude.{_≡_, refl, sym, ap, ap₂, subst, _∙_, Bool, true, false, not, List, [], _∷_, _++_, ℕ, zero, suc, _+_, _-_, _*_, _%_}
-use Rattle.integers.proofs.Prelude.{_<_, arith, not-false, T, eqb, length, getD, take, drop, length-append, List·getD-append, getD-append-add}
+use Rattle.integers.proofs.Prelude.{_<_, arith, not-false, T, eqb, length, getD, drop, length-append, List·getD-append, getD-append-add}
 use Rattle.integers.proofs.Prelude.{append-assoc, decLt, take-at, drop-at, getD-drop}
 use native.Mathlib.Nat.{add-zero, zero-add, suc-add}
 use mathlib.Core.Logic.{_↔_}

@@ -5,7 +5,7 @@ use mathlib.Core.Logic.{_↔_}
 use mathlib.Core.List.{List, [], _∷_, _++_}
 use Prim.Native.Nat.{ℕ, zero, suc, _+_, _*_, _%_, _<_}
 use lib.Dec.{ltb, eqb}
-use lib.ListN.{length, getD, take, drop, replicate}
+use lib.ListN.{length, getD, drop, replicate}
 use Rattle.integers.specs.Sum.{sumℕ}
 use Rattle.lists.specs.Tabulated.{tab, written, part}
 use Rattle.lists.specs.Entries.{some, total}
@@ -168,7 +168,8 @@ pub record Encodes (k : Code) : Type 0 where
   -- "with the earliest possible pivot columns": a column is a pivot exactly when it depends on no earlier ones
   pub earliest : (j : ℕ) → j < k .bits → (isPivot k j ≡ true) ↔ (Dependent k j → ⊥)
   pub dependent : (j : ℕ) → j < k .bits → (isPivot k j ≡ false) ↔ Dependent k j
-  -- "Message bits go in the other columns in rising order": there are as many, and each has as many before it
+  -- "Message bits go in the other columns in rising order": a message has an entry for each of them, and the word has in each the entry before which there
+  -- are as many as there are other columns before
   pub counted : messageLength k ≡ othersBefore k (k .bits)
   pub rising : (m : List ℕ) (j : ℕ) → j < k .bits → isPivot k j ≡ false → bitAt (encoded k m) j ≡ bitAt m (othersBefore k j)
   -- "and the checks then fix the pivot bits": the encoding is a codeword, and the message stands in it
