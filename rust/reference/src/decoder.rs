@@ -23,7 +23,7 @@ impl Reference {
     }
 
     fn have_room(self, code: &Code, lists: &Lists) -> bool {
-        let (triples, variables) = (code.triples(), code.variables());
+        let (triples, variables) = (self.triples(code), self.variables(code));
         lists.triples.len() >= 3 * triples
             && lists.counts.len() >= variables
             && lists.sums.len() >= variables

@@ -32,6 +32,22 @@ faults! {
     ["read", "split", "test", "extend", "decode", "export", "export_size", "message_length",
      "encode", "encode_frames", "read_message"]:
         CutMarkJudged, SizesReadTogether, HighIndexJudgedLast, TriplesJudgedAtOnce;
+    ["read", "split", "test", "extend", "decode", "import", "export", "export_size",
+     "message_length", "encode", "encode_frames", "read_message", "frames"]:
+        TwoBitsMakeNoTriple;
+    ["split", "extend", "decode", "frames"]:
+        AuxiliaryOfTwoBits;
+    ["split", "decode", "frames"]:
+        BlankCounted;
+    ["split", "decode"]:
+        BlankIsNextIndex;
+    ["decode", "frames"]:
+        BlankIsOne, BlankIsZero, BlankIsFirst, BlankIsLast, BlankRenewed, BlankShareAdded,
+        BlankRowsLeftAtZero, BlankRowsNotCounted;
+    ["test", "extend", "decode", "read_message", "frames"]:
+        TwoBitsNotTested;
+    ["message_length", "encode", "encode_frames", "read_message"]:
+        TwoBitsNotReduced;
     ["read"]:
         SizesWithRefusal;
     ["split", "decode"]:
@@ -125,12 +141,12 @@ const OF_IMPORT: &[Cause] = &[
 
 /// Limits to move.
 const LIMITS: &[(&[&str], &[usize])] = &[
-    (OF_RECORDS, &[3, 32, 2_048, 4_096, 8_192]),
+    (OF_RECORDS, &[2, 3, 32, 2_048, 4_096, 8_192]),
     (OF_ENCODER, &[MOST_ENCODED_BITS]),
     (OF_CHANNELS, &[32_767]),
     (&["decode"], &[1_023, MOST_ITERATIONS, 16_384, 65_535]),
-    (&["import"], &[3, 32, 2_048, 4_096, 8_192, 65_535]),
-    (&["frames"], &[32, 512, 1_023, 1_024, MOST_ITERATIONS]),
+    (&["import"], &[2, 3, 32, 2_048, 4_096, 8_192, 65_535]),
+    (&["frames"], &[2, 32, 512, 1_023, 1_024, MOST_ITERATIONS]),
 ];
 
 /// Causes that are judged together, in their order.

@@ -88,11 +88,11 @@ impl Reference {
     fn causes_of_rows(self, bits: usize, rows: &[&[usize]]) -> Vec<(Cause, bool)> {
         let checks = rows.len();
         let sizes = self.within(bits, 3, 4_096) && self.within(checks, 1, 2_048);
-        let triples: usize = rows.iter().map(|row| row.len().saturating_sub(2)).sum();
+        let triples: usize = rows.iter().map(|row| self.triples_of(row.len())).sum();
         let used: HashSet<usize> = rows.iter().flat_map(|row| row.iter().copied()).collect();
         let mut causes = vec![(Cause::Size, !sizes)];
         for row in rows {
-            causes.push((Cause::Degree, !self.within(row.len(), 3, 32)));
+            causes.push((Cause::Degree, !self.within(row.len(), 2, 32)));
             causes.push((Cause::IndexNotRising, !rises(row)));
         }
         if self.has(Fault::DegreesJudgedFirst) {

@@ -2,8 +2,8 @@
 
 use crate::fault::Fault;
 use crate::run::FORMER_MOST_ITERATIONS;
-use crate::splitting::Split;
-use crate::Reference;
+use crate::splitting::{Split, BLANK};
+use crate::{Reference, SOUND};
 use interface::Settings;
 
 /// The centred value of a 1.
@@ -38,7 +38,7 @@ impl Problem {
         }
         Problem {
             reference,
-            counts: split.counts(),
+            counts: reference.counts_of(&split),
             split,
             settings,
             costs: all,
@@ -107,7 +107,7 @@ pub fn iterate(problem: &Problem, old: &Iterate) -> (Iterate, Totals) {
         .map(|variable| value(problem, variable, sums[variable]))
         .collect();
     let rows = renewed_rows(problem, &old.rows, &values);
-    let totals = changes(&old.rows, &rows);
+    let totals = changes(problem, &old.rows, &rows);
     let new = Iterate { sums, values, rows };
     (new, totals)
 }
@@ -117,8 +117,13 @@ pub fn row_sums(problem: &Problem, rows: &[[i64; 4]]) -> Vec<i64> {
     let mut sums = vec![0; problem.split.variables()];
     for (triple, rows) in problem.split.triples.iter().zip(rows) {
         for (signs, &s) in problem.signs.iter().zip(rows) {
-            for (&variable, sign) in triple.iter().zip(signs) {
-                sums[variable] += sign * (slack(s) + multiplier(s));
+            for (&item, sign) in triple.iter().zip(signs) {
+                let share = sign * (slack(s) + multiplier(s));
+                match item {
+                    BLANK if problem.reference.has(Fault::BlankShareAdded) => sums[0] += share,
+                    BLANK => (),
+                    variable => sums[variable] += share,
+                }
             }
         }
     }
@@ -137,13 +142,36 @@ fn value(problem: &Problem, variable: usize, sum: i64) -> i64 {
     value as i64
 }
 
+/// c of an item of a triple with these rows; a blank's is -U.
+fn value_of(problem: &Problem, values: &[i64], rows: &[i64; 4], item: usize) -> i64 {
+    match (item, problem.reference.fault) {
+        (BLANK, Some(Fault::BlankIsOne)) => UNIT,
+        (BLANK, Some(Fault::BlankIsZero)) => 0,
+        (BLANK, Some(Fault::BlankIsFirst)) => values[0],
+        (BLANK, Some(Fault::BlankIsLast)) => values[values.len() - 1],
+        (BLANK, Some(Fault::BlankRenewed)) => {
+            let share = |(signs, s): (&[i64; 3], &i64)| signs[2] * s.abs();
+            let sum: i64 = problem.signs.iter().zip(rows).map(share).sum();
+            let divisor = 1_024 - i128::from(problem.settings.ratio);
+            SOUND.limited_nearest(i128::from(-256 * sum), divisor, UNIT.into()) as i64
+        }
+        (BLANK, _) => -UNIT,
+        (variable, _) => values[variable],
+    }
+}
+
 /// Every row's new s, with the old p and the new c.
 fn renewed_rows(problem: &Problem, old: &[[i64; 4]], values: &[i64]) -> Vec<[i64; 4]> {
     let reference = problem.reference;
     let mut rows = old.to_vec();
     for (triple, rows) in problem.split.triples.iter().zip(&mut rows) {
+        let values = triple.map(|item| value_of(problem, values, rows, item));
+        let left = reference.has(Fault::BlankRowsLeftAtZero) && triple[2] == BLANK;
         for (signs, s) in problem.signs.iter().zip(rows) {
-            let sum = (0..3).map(|i| signs[i] * values[triple[i]]).sum();
+            if left && signs[0] == signs[1] {
+                continue;
+            }
+            let sum = (0..3).map(|i| signs[i] * values[i]).sum();
             let sum = reference.narrowed(sum, Fault::TripleSumsIn16Bits);
             *s = multiplier(*s) + sum - UNIT;
             *s = reference.narrowed(*s, Fault::RowsIn16Bits);
@@ -155,14 +183,18 @@ fn renewed_rows(problem: &Problem, old: &[[i64; 4]], values: &[i64]) -> Vec<[i64
     rows
 }
 
-fn changes(old: &[[i64; 4]], new: &[[i64; 4]]) -> Totals {
+fn changes(problem: &Problem, old: &[[i64; 4]], new: &[[i64; 4]]) -> Totals {
     let mut totals = Totals {
         multipliers: 0,
         slacks: 0,
     };
-    for (&old, &new) in old.iter().flatten().zip(new.iter().flatten()) {
-        totals.multipliers += square(multiplier(new) - multiplier(old));
-        totals.slacks += square(slack(new) - slack(old));
+    let left_out = problem.reference.has(Fault::BlankRowsNotCounted);
+    for (triple, (old, new)) in problem.split.triples.iter().zip(old.iter().zip(new)) {
+        let counted = if left_out && triple[2] == BLANK { 2 } else { 4 };
+        for (&old, &new) in old.iter().zip(new).take(counted) {
+            totals.multipliers += square(multiplier(new) - multiplier(old));
+            totals.slacks += square(slack(new) - slack(old));
+        }
     }
     totals
 }

@@ -53,7 +53,7 @@ impl Library for Reference {
                 number: 0,
                 bits: code.bits,
                 checks: code.checks.len(),
-                triples: code.triples(),
+                triples: self.triples(&code),
             },
             Err(cause) => CodeAnswer {
                 number: cause as u32,

@@ -2,7 +2,7 @@
 
 use crate::cause::Cause;
 use crate::fault::Fault;
-use crate::Reference;
+use crate::{Reference, SOUND};
 
 const HEADER_MARK: u32 = 0x4C48;
 const CHECK_MARK: u32 = 0x4C43;
@@ -15,15 +15,14 @@ pub struct Code {
 }
 
 impl Code {
-    /// The sum of degree - 2 over all checks.
+    /// The triples of all checks.
     pub fn triples(&self) -> usize {
-        self.checks.iter().map(|check| check.len() - 2).sum()
+        SOUND.triples(self)
     }
 
-    /// Bits and auxiliaries: each check makes degree - 3 auxiliaries.
+    /// Bits and auxiliaries.
     pub fn variables(&self) -> usize {
-        let auxiliaries: usize = self.checks.iter().map(|check| check.len() - 3).sum();
-        self.bits + auxiliaries
+        SOUND.variables(self)
     }
 
     /// Whether each bit lies in some check.
@@ -125,8 +124,8 @@ impl Reader<'_> {
         self.room(bits, most_bits)?;
         for _ in 0..count {
             self.mark(CHECK_MARK)?;
-            let degree = self.number_within(1, (3, 32), Cause::Degree)?;
-            triples += degree - 2;
+            let degree = self.number_within(1, (2, 32), Cause::Degree)?;
+            triples += self.reference.triples_of(degree);
             if self.reference.has(Fault::RoomJudgedBeforeIndices) {
                 self.room(triples, most_triples)?;
             }
@@ -141,6 +140,34 @@ impl Reader<'_> {
 }
 
 impl Reference {
+    /// A check makes degree - 2 triples, one of two bits makes one.
+    pub(crate) fn triples_of(self, degree: usize) -> usize {
+        match degree {
+            2 if self.has(Fault::TwoBitsMakeNoTriple) => 0,
+            2 => 1,
+            _ => degree.saturating_sub(2),
+        }
+    }
+
+    /// A check makes degree - 3 auxiliaries, one of two bits makes none.
+    fn auxiliaries_of(self, degree: usize) -> usize {
+        match degree {
+            2 if self.has(Fault::AuxiliaryOfTwoBits) => 1,
+            _ => degree.saturating_sub(3),
+        }
+    }
+
+    pub(crate) fn triples(self, code: &Code) -> usize {
+        let degrees = code.checks.iter().map(Vec::len);
+        degrees.map(|degree| self.triples_of(degree)).sum()
+    }
+
+    pub(crate) fn variables(self, code: &Code) -> usize {
+        let degrees = code.checks.iter().map(Vec::len);
+        let auxiliaries = degrees.map(|degree| self.auxiliaries_of(degree));
+        code.bits + auxiliaries.sum::<usize>()
+    }
+
     /// The code that the bytes hold, or the first cause against them.
     pub fn read_code(self, bytes: &[u8]) -> Result<Code, Cause> {
         let mut reader = Reader {
@@ -150,7 +177,10 @@ impl Reference {
         let code = reader.code(usize::MAX, usize::MAX)?;
         self.judge(&[
             (Cause::BytesAfter, !reader.rest.is_empty()),
-            (Cause::TooManyTriples, code.triples() > self.limit(8_192)),
+            (
+                Cause::TooManyTriples,
+                self.triples(&code) > self.limit(8_192),
+            ),
             (Cause::UnusedBit, !code.uses_every_bit()),
         ])?;
         Ok(code)

@@ -30,7 +30,9 @@ impl Reference {
     /// Takes each column for a pivot that some row without one has a 1 in, and clears that
     /// column in all other rows.
     pub fn reduce(self, code: &Code) -> Reduction {
-        let rows = code.checks.iter().map(|check| row_of(code, check));
+        let left_out = |check: &Vec<usize>| self.has(Fault::TwoBitsNotReduced) && check.len() == 2;
+        let checks = code.checks.iter().filter(|check| !left_out(check));
+        let rows = checks.map(|check| row_of(code, check));
         let mut rows: Vec<Vec<bool>> = rows.collect();
         let mut pivots = Vec::new();
         let mut columns: Vec<usize> = (0..code.bits).collect();

@@ -17,6 +17,9 @@ impl Reference {
     /// The first check over which the word's sum is odd.
     pub fn first_odd_check(self, code: &Code, word: &[u8]) -> Option<usize> {
         let is_odd = |check: &Vec<usize>| {
+            if self.has(Fault::TwoBitsNotTested) && check.len() == 2 {
+                return false;
+            }
             let entries = check.iter().filter_map(|&bit| word.get(bit));
             entries.map(|&entry| usize::from(entry)).sum::<usize>() % 2 == 1
         };
@@ -83,7 +86,7 @@ impl Reference {
         room: Option<usize>,
     ) -> Result<Code, WordAnswer> {
         let code = self.read_code(code)?;
-        let short = room.is_some_and(|room| room < code.variables());
+        let short = room.is_some_and(|room| room < self.variables(&code));
         self.judge_word(&code, word, short, false)?;
         Ok(code)
     }

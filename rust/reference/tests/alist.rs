@@ -204,14 +204,15 @@ fn degrees_and_order_of_the_rows() {
     assert_eq!(imported(one_row(32).as_bytes()), Ok(one_check(32)));
     assert_eq!(number_of(&one_row(33)), 4);
     assert_eq!(number_of(&one_row(300)), 4);
-    assert_eq!(number_of("3 1 1 2 1 1 0 2 1 1 0 1 2"), 4);
-    assert_eq!(number_of("3 1 1 2 1 1 0 2 1 1 0 2 1"), 4);
+    assert_eq!(number_of("3 1 1 1 1 0 0 1 1 0 0 1"), 4);
+    assert_eq!(number_of("3 1 1 2 1 1 0 2 1 1 0 1 2"), 8);
+    assert_eq!(number_of("3 1 1 2 1 1 0 2 1 1 0 2 1"), 6);
     assert_eq!(number_of(&SMALL.replace("1 2 3", "1 3 2")), 6);
     // A place twice on both sides.
     assert_eq!(number_of("3 1 2 4 1 2 1 4 1 0 1 1 1 0 1 2 2 3"), 6);
     // Row by row: the order of the first comes before the degree of the second.
-    assert_eq!(number_of("3 2 2 3 2 2 1 3 2 1 2 2 1 1 0 2 1 3 1 2 0"), 6);
-    assert_eq!(number_of("3 2 2 3 2 2 1 2 3 1 2 2 1 2 0 1 2 0 2 1 3"), 4);
+    assert_eq!(number_of("3 2 2 3 2 1 1 3 1 1 2 1 0 1 0 2 1 3 1 0 0"), 6);
+    assert_eq!(number_of("3 2 2 3 2 1 1 1 3 1 2 2 0 2 0 1 0 0 2 1 3"), 4);
 }
 
 #[test]
@@ -262,16 +263,16 @@ fn the_room_of_an_import() {
 
 #[test]
 fn causes_of_an_import_in_order() {
-    // A maximum too large, columns and rows that differ, two bits, a degree of 2
-    // in falling order: one after the other is put right.
+    // A maximum too large, columns and rows that differ, two bits, a row of degree 1, one in
+    // falling order, bits in no check: one after the other is put right.
     for (text, number) in [
-        ("2 1 2 2 1 1 2 1 0 2 0 2 1", 18),
-        ("2 1 1 2 1 1 2 1 2 2 1", 19),
-        ("2 1 1 2 1 1 2 1 1 2 1", 3),
-        ("4 1 1 2 1 1 0 0 2 1 1 0 0 2 1", 4),
-        ("4 1 1 3 1 1 1 0 3 1 1 1 0 2 1 3", 6),
-        ("4 1 1 3 1 1 1 0 3 1 1 1 0 1 2 3", 8),
-        ("4 1 1 4 1 1 1 1 4 1 1 1 1 1 2 3 4", 10),
+        ("2 2 3 2 2 1 1 2 1 2 0 1 0 0 1 0 2 1", 18),
+        ("2 2 2 2 2 1 1 2 1 2 1 0 1 0 2 1", 19),
+        ("2 2 2 2 2 1 1 2 1 2 2 0 1 0 2 1", 3),
+        ("4 2 2 2 2 1 0 0 1 2 1 2 2 0 0 0 0 0 1 0 2 1", 4),
+        ("4 2 2 2 2 1 1 0 2 2 1 2 2 0 1 0 0 0 1 3 2 1", 6),
+        ("4 2 2 2 2 1 1 0 2 2 1 2 2 0 1 0 0 0 1 3 1 2", 8),
+        ("4 2 2 3 2 1 1 1 2 3 1 2 2 0 1 0 2 0 1 3 0 1 2 4", 10),
     ] {
         assert_eq!(SOUND.import(text.as_bytes(), &mut [0; 16]).number, number);
     }
@@ -297,7 +298,7 @@ fn records_that_no_export_takes() {
         (vec![], 1),
         (vec![0x4C, 0x43], 2),
         (header(2, 1), 3),
-        (code(3, &[&[0, 1]]), 4),
+        (code(3, &[&[0]]), 4),
         (code(3, &[&[0, 1, 3]]), 5),
         (code(3, &[&[1, 0, 2]]), 6),
         (code(4, &[&[0, 1, 2]]), 8),

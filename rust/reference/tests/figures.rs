@@ -1,5 +1,5 @@
 //! Every figure that document 01 prints, with the limit of K that document 02's
-//! request L2 gives it.
+//! request L2 gives it, and the least degree of request L6.
 
 mod common;
 
@@ -101,7 +101,7 @@ fn all_costs_zero_settle() {
 
 #[test]
 fn degrees_at_the_edges() {
-    for (degree, number) in [(2, 4), (3, 0), (32, 0), (33, 4)] {
+    for (degree, number) in [(0, 4), (1, 4), (3, 0), (32, 0), (33, 4)] {
         assert_eq!(SOUND.read(&one_check_of(degree)).number, number);
     }
 }

@@ -53,7 +53,9 @@ fn a_check_is_judged_whole_before_its_room() {
     assert_eq!(with_count(35, &SETTINGS), "");
     assert_eq!(with_count(36, &check(&[0, 1, 2])), "R 10\n");
     assert_eq!(with_count(36, &check(&[0, 1, 32])), "R 5\n");
-    assert_eq!(with_count(36, &check(&[0, 1])), "R 4\n");
+    assert_eq!(with_count(36, &check(&[0, 1])), "R 10\n");
+    assert_eq!(with_count(36, &check(&[1, 1])), "R 6\n");
+    assert_eq!(with_count(36, &check(&[0])), "R 4\n");
     assert_eq!(with_count(36, &check(&[0, 1, 2])[..8]), "R 1\n");
     assert_eq!(with_count(37, &check(&[0, 1, 2])), "R 10\n");
 }
