@@ -6,6 +6,7 @@ use Rattle.lists.specs.Entries.{some}
 use Rattle.lists.proofs.Tabulated.{length-tab, getD-tab}
 use Rattle.lists.proofs.Entries.{every-at}
 use Rattle.model.specs.Causes.{_if_, short, outside}
+use Rattle.model.specs.Limits.{leastDegree, mostDegree}
 use Rattle.model.specs.Code.{Code, triples}
 use Rattle.model.specs.Records.{twoBytes, numbers, bitCount, checkCount, degree, indices, afterCheck, checksIn, afterChecks, codeOf, judgeHeader, judgeIndices, judgeCheck, judgeChecks, covered, judge}
 use Rattle.model.specs.Sound.{Rising, SoundCheck, SoundChecks, Sound}
@@ -39,8 +40,8 @@ header-sound s h =
 pub record SoundRecord (n : ℕ) (s : List ℕ) : Type 0 where
   pub mark : twoBytes s ≡ 0x4C43
   pub room : 3 + 2 * degree s ≤ length s
-  pub least : 3 ≤ degree s
-  pub most : degree s ≤ 32
+  pub least : leastDegree ≤ degree s
+  pub most : degree s ≤ mostDegree
   pub rising : Rising n 0 (indices s)
 
 pub length-numbers : (d : ℕ) (s : List ℕ) → length (numbers d s) ≡ d
@@ -62,8 +63,8 @@ indices-sound n (suc d) low s h =
 pub record-sound : (n : ℕ) (s : List ℕ) → judgeCheck n s ≡ 0 → SoundRecord n s
 unfolding judgeCheck
 record-sound n s h =
-    let x = clear (1 if short 2 s ∷ 2 if not (eqb (twoBytes s) 0x4C43) ∷ 1 if short 3 s ∷ 4 if outside 3 32 (degree s) ∷ judgeIndices n (degree s) 0 (drop 3 s) ∷ []) h in
-    let d = within 3 32 (degree s) (unless 3 _ (x .1 .1 .1 .0)) in
+    let x = clear (1 if short 2 s ∷ 2 if not (eqb (twoBytes s) 0x4C43) ∷ 1 if short 3 s ∷ 4 if outside leastDegree mostDegree (degree s) ∷ judgeIndices n (degree s) 0 (drop 3 s) ∷ []) h in
+    let d = within leastDegree mostDegree (degree s) (unless 3 _ (x .1 .1 .1 .0)) in
     let three = ltb-false (length s) 3 (unless 0 _ (x .1 .1 .0)) in
     let i = indices-sound n (degree s) 0 (drop 3 s) (x .1 .1 .1 .1 .0) in
     record { mark = eqb-true (twoBytes s) 0x4C43 (not-false _ (unless 1 _ (x .1 .0))); room = omega (arith, i .0, length-drop 3 s); least = d .0; most = d .1; rising = i .1 }

@@ -4,7 +4,7 @@ use Rattle.integers.proofs.Prelude.{length, getD}
 use Rattle.lists.specs.Entries.{every}
 use Rattle.lists.proofs.Tests.{and-left, and-right}
 use Rattle.lists.proofs.Entries.{every-at, every-in, every-map}
-use Rattle.model.specs.Limits.{mostBits, mostChecks, mostTriples}
+use Rattle.model.specs.Limits.{mostBits, mostChecks, leastDegree, mostDegree, mostTriples}
 use Rattle.model.specs.Causes.{_if_, firstOf, outside}
 use Rattle.model.specs.Code.{Code, triples}
 use Rattle.model.specs.Records.{covered}
@@ -47,10 +47,10 @@ module _ (more : List ℕ) (n : ℕ) where
   unfolding checksCause checkCause
   checks-listed [] h = first-of-listed table [] (listed table [] refl)
   checks-listed (c ∷ cs) h =
-      let l : List ℕ = 4 if outside 3 32 (length c) ∷ indicesCause n 0 c ∷ [] in
-      let degree = 4 if outside 3 32 (length c) in
+      let l : List ℕ = 4 if outside leastDegree mostDegree (length c) ∷ indicesCause n 0 c ∷ [] in
+      let degree = 4 if outside leastDegree mostDegree (length c) in
       let here : Listed table l
-      = both table (degree ∷ []) (indicesCause n 0 c ∷ []) (listed table ((4, outside 3 32 (length c)) ∷ []) refl)
+      = both table (degree ∷ []) (indicesCause n 0 c ∷ []) (listed table ((4, outside leastDegree mostDegree (length c)) ∷ []) refl)
       (indices-listed 0 c (and-left (every (λ i. ltb i n) c) (every (every (λ i. ltb i n)) cs) h)) in
       first-of-listed table (firstOf l ∷ checksCause n cs ∷ [])
       (both table (firstOf l ∷ []) (checksCause n cs ∷ []) (first-of-listed table l here)

@@ -15,12 +15,12 @@ use Rattle.model.specs.Code.{Code, triples, variables}
 use Rattle.model.specs.Sound.{Sound}
 use Rattle.model.specs.Calls.{outOfRange}
 use Rattle.model.specs.Splitting.{System, systemOf, member}
-use Rattle.model.specs.Iteration.{at, row, sign, rowSum, sumAt, slack, multiplier, share, _when_, sumOf, occurrences, numerator, divisor, renewed, State, sumsOf, valueOf, valuesOf, rowsOf, iterate}
+use Rattle.model.specs.Iteration.{at, valueAt, row, sign, rowSum, sumAt, slack, multiplier, share, _when_, sumOf, occurrences, numerator, divisor, renewed, State, sumsOf, valueOf, valuesOf, rowsOf, iterate}
 use Rattle.model.specs.Run.{squareOfChange, changes, start, after}
 use Rattle.model.specs.Bounds.{RowsWithin, Ready, Bounds, Margins}
 use Rattle.model.proofs.Causes.{in-range, within}
 use Rattle.model.proofs.TripleRule.{occurs-some, occurs-few}
-use Rattle.model.proofs.Rows.{signed-abs, at-tab, none, row-renewed}
+use Rattle.model.proofs.Rows.{signed-abs, at-tab, none, row-renewed, value-small}
 
 -- ---- the four sums, and a row's renewal
 pub rowSum-bound : (r : ℕ) (a b c : ℤ) → r < 4 → natAbs a ≤ unit → natAbs b ≤ unit → natAbs c ≤ unit → natAbs (rowSum r a b c) ≤ 49152
@@ -84,8 +84,9 @@ module _ (g : System) (o : Settings) (costs : List ℤ) (a : State) where
 
   row-sum-small : (t r : ℕ) → r < 4 → natAbs (sumAt (g .members) (b .values) t r) ≤ 49152
   row-sum-small t r h =
-      let c : ℕ → ℤ = λ p. at (b .values) (member (g .members) t p) in
-      rowSum-bound r (c 0) (c 1) (c 2) h (values (member (g .members) t 0)) (values (member (g .members) t 1)) (values (member (g .members) t 2))
+      let c : ℕ → ℤ = λ p. valueAt (b .values) (member (g .members) t p) in
+      let small : (p : ℕ) → natAbs (c p) ≤ unit = λ p. value-small (b .values) (member (g .members) t p) (values (member (g .members) t p)) in
+      rowSum-bound r (c 0) (c 1) (c 2) h (small 0) (small 1) (small 2)
 
   -- a law of every new row
   each-row : (P : ℤ → Type 0) → P (pos 0) → ((i : ℕ) → P (renewed (at (a .rows) i) (sumAt (g .members) (b .values) (i / 4) (i % 4)))) → (i : ℕ) → P (at (b .rows) i)
@@ -183,7 +184,7 @@ ready k s o h costs e small =
     let r = in-range o .0 h in
     record {
       some = occurs-some k s;
-      few = λ v _. occurs-few k s v;
+      few = occurs-few k s;
       bits = omega (arith, e);
       triples = s .triples-most;
       weight = r .weight .1;

@@ -19,7 +19,7 @@ use Rattle.model.specs.Points.{Codeword, pointOf}
 use Rattle.model.specs.Reflection.{negatedIf, reflect, sumOfWords}
 use Rattle.model.specs.Claims.{Reflection, Demand3}
 use Rattle.model.proofs.Accepted.{accepted}
-use Rattle.model.proofs.Points.{totals-bits, point-begins, point-even, point-binary, points}
+use Rattle.model.proofs.Points.{totals-bits, point-begins, point-long, blank-bit, point-even, point-binary, points}
 use Rattle.model.proofs.Reflection.{turned-zero, reflect-at, unique, injective, opposite, begun, each, ends}
 
 -- ---- from values to word
@@ -107,20 +107,21 @@ module _ (k : Code) (s : Sound k) (w : List ℕ) (c : Codeword k w) where
       let g = systemOf k in
       let x = pointOf k w in
       let bin = point-binary k s w c in
+      let still = blank-bit k s x (point-long k s w (c .word .long)) in
       let even = point-even k s w c in
       record {
-        opposite = opposite g x bin even;
+        opposite = opposite g x bin still even;
         unique = unique x (g .members);
         injective = injective x (g .members);
-        begun = begun g x bin even;
+        begun = begun g x bin still even;
         whole = λ o costs h more done a b m.
             let turns = costs-turned costs h in
-            let e = ends g x bin even quotient quotient-odd o costs (reflect w costs) turns more done a b m in
+            let e = ends g x bin still even quotient quotient-odd o costs (reflect w costs) turns more done a b m in
             let z = runFrom quotient g o costs more done a .last .values in
             let z′ = runFrom quotient g o (reflect w costs) more done b .last .values in
             let bits : (v : ℕ) → v < k .bits → at z′ v ≡ negatedIf (bitAt w v) (at z v) = λ v l. e .last .values v ∙ rw (point-begins k s w (c .word .long) v l) in
             record {
-              each = each g x bin even quotient quotient-odd o costs (reflect w costs) turns a b m;
+              each = each g x bin still even quotient quotient-odd o costs (reflect w costs) turns a b m;
               ends = record { count = e .k; settled = e .settled; last = e .last; answer = outcome-same z z′ bits; word = word-same z z′ bits };
             };
       }

@@ -9,7 +9,7 @@ use Rattle.quotient.specs.Quotient.{unit, quotient}
 use Rattle.model.specs.declared.Settings.{Settings}
 use Rattle.model.specs.Causes.{_if_}
 use Rattle.model.specs.Splitting.{System, member}
-use Rattle.model.specs.Iteration.{at, sign, row, rowSum, slack, multiplier, share, _when_, sumOf, occurrences, numerator, divisor, State, sumsOf, valueOf, valuesOf, iterate}
+use Rattle.model.specs.Iteration.{at, valueAt, sign, row, rowSum, slack, multiplier, share, _when_, sumOf, occurrences, numerator, divisor, State, sumsOf, valueOf, valuesOf, iterate}
 use Rattle.model.specs.Paper.{right, column, norm, dividend15, divisor15, residual17, Paper}
 use Rattle.model.proofs.Rows.{four, three, row-renewed}
 
@@ -115,7 +115,7 @@ module _ (g : System) (o : Settings) (costs : List ℤ) (a : State) where
   unfolding iterate residual17 rowSum
   rows t r h l =
       row-renewed g (a .rows) _ t r h l
-      ∙ residual-here (pos (multiplier (row (a .rows) t r))) (λ p. at (iterate quotient g o costs a .values) (member (g .members) t p)) r l
+      ∙ residual-here (pos (multiplier (row (a .rows) t r))) (λ p. valueAt (iterate quotient g o costs a .values) (member (g .members) t p)) r l
 
   pub paper : Paper g o costs a
   unfolding divisor15 iterate valuesOf sumsOf

@@ -1,7 +1,7 @@
 -- The system, its projection, start and stop are the papers'. Assumes nothing.
 use Rattle.integers.proofs.Prelude.{_≡_, refl, sym, ap, ap₂, subst, _∙_, Bool, true, false, _&&_, List, ℕ, zero, suc, _+_, _*_, _/_, _≤_, _<_, min, arith}
-use Rattle.integers.proofs.Prelude.{decLt, leb-true, le-leb, eq-eqb, ne-eqb, eqb, leb, ℤ, pos, negsuc, natAbs, negℤ, _+ℤ_, _-ℤ_, _*ℤ_, _≤ℤ_, _<ℤ_}
-use mathlib.Core.Logic.{_↔_}
+use Rattle.integers.proofs.Prelude.{decLt, leb-true, le-leb, eq-eqb, ne-eqb, eqb, leb, ℤ, pos, negsuc, natAbs, negℤ, _+ℤ_, _-ℤ_, _*ℤ_, _≤ℤ_, _<ℤ_, length, List·getD-eq-default}
+use mathlib.Core.Logic.{_↔_, _⊎_, inl, inr}
 use Rattle.integers.specs.Parts.{up, dn}
 use Rattle.integers.specs.Sum.{sumℤ}
 use Rattle.integers.specs.Nearest.{nearest}
@@ -11,27 +11,30 @@ use Rattle.quotient.specs.Quotient.{unit, quotient, Rounded}
 use Rattle.quotient.specs.Quotient.Laws.{quotient-odd, quotient-is, rounded-by}
 use Rattle.model.specs.declared.Settings.{Settings}
 use Rattle.model.specs.Causes.{_if_}
-use Rattle.model.specs.Code.{variables}
+use Rattle.model.specs.Code.{triples, variables}
 use Rattle.model.specs.Records.{codeOf, judge}
-use Rattle.model.specs.Splitting.{System, systemOf, member}
-use Rattle.model.specs.Iteration.{at, sign, rowSum, row, slack, multiplier, _when_, sumOf, occurrences, numerator, divisor, State, iterate}
+use Rattle.model.specs.Splitting.{System, systemOf, blank, member}
+use Rattle.model.specs.Iteration.{at, valueAt, sign, rowSum, row, slack, multiplier, _when_, sumOf, occurrences, numerator, divisor, State, iterate}
 use Rattle.model.specs.Run.{changes, settledBy, start}
 use Rattle.model.specs.Words.{bitAt}
-use Rattle.model.specs.Points.{centred}
+use Rattle.model.specs.Points.{Bits, centred}
 use Rattle.model.specs.Paper.{right, residual17}
-use Rattle.model.specs.PaperSystem.{matrix, times, Within, PaperSystem, Projection, residual12, normSquare, StartStop}
+use Rattle.model.specs.PaperSystem.{matrix, times, PaperSystem, Projection, residual12, normSquare, StartStop}
 use Rattle.model.specs.DecoderClaims.{iterateOf, Published}
 use Rattle.model.proofs.Accepted.{accepted}
-use Rattle.model.proofs.TripleRule.{member-below, occurs-some}
+use Rattle.model.proofs.TripleRule.{members, members-long, occurs-some}
 use Rattle.model.proofs.Bounds.{divisor-above}
 use Rattle.model.proofs.Causes.{in-range}
 use Rattle.model.specs.Calls.{outOfRange}
-use Rattle.model.proofs.Rows.{none}
+use Rattle.model.proofs.Rows.{three, none, value-variable}
 use Rattle.model.proofs.Paper.{right-is, paper}
 
 -- ---- a row of A
 zero-times : (y : ℤ) → pos 0 *ℤ y ≡ pos 0
 zero-times y = rw (split y) (simp toℕ (omega arith))
+
+times-zero : (y : ℤ) → y *ℤ pos 0 ≡ pos 0
+times-zero y = rw (split y) (simp toℕ (omega arith))
 
 add-zero : (y : ℤ) → y +ℤ pos 0 ≡ y
 add-zero y = rw (split y) (simp toℕ (omega arith))
@@ -61,16 +64,29 @@ module _ (z : ℤ) (x : ℕ → ℤ) (i : ℕ) where
 apart : (a b c y : ℤ) → (pos 0 +ℤ a +ℤ b +ℤ c) *ℤ y ≡ a *ℤ y +ℤ b *ℤ y +ℤ c *ℤ y
 apart a b c y = rw (zero-add a) (simp ring (simp linear (omega arith)))
 
-times-rows : (g : System) → Within g → (x : ℕ → ℤ) (t r : ℕ) → t < g .triples → times g x t r ≡ sumℤ 3 (λ p. sign r p *ℤ x (member (g .members) t p))
+times-same : (g : System) (x y : ℕ → ℤ) → ((v : ℕ) → v < g .variables → x v ≡ y v) → (t r : ℕ) → times g x t r ≡ times g y t r
+unfolding times
+times-same g x y h t r = sumℤ-same (g .variables) _ _ (λ v l. ap (λ (z : ℤ). matrix g t r v *ℤ z) (h v l))
+
+-- each triple's members are variables of the system or the blank, which is none of them
+record Within (g : System) : Type 0 where
+  few : g .variables ≤ blank
+  named : (t p : ℕ) → t < g .triples → p < 3 → (member (g .members) t p < g .variables) ⊎ (member (g .members) t p ≡ blank)
+
+times-rows : (g : System) → Within g → (x : ℕ → ℤ) → x blank ≡ pos 0 → (t r : ℕ) → t < g .triples → times g x t r ≡ sumℤ 3 (λ p. sign r p *ℤ x (member (g .members) t p))
 unfolding times matrix
-times-rows g h x t r l =
+times-rows g h x none t r l =
     let n = g .variables in
     let m : ℕ → ℕ = member (g .members) t in
     let f : ℕ → ℕ → ℤ = λ p v. (sign r p when eqb (m p) v) *ℤ x v in
-    let one : (p : ℕ) → p < 3 → sumℤ n (f p) ≡ sign r p *ℤ x (m p) = λ p k. picked (sign r p) x (m p) n (h t p l k) in
+    let one : (p : ℕ) → p < 3 → sumℤ n (f p) ≡ sign r p *ℤ x (m p) = λ p k. by (sign r p) (m p) (h .named t p l k) in
     sumℤ-same n _ (λ v. f 0 v +ℤ f 1 v +ℤ f 2 v) (λ v _. apart (sign r 0 when eqb (m 0) v) (sign r 1 when eqb (m 1) v) (sign r 2 when eqb (m 2) v) (x v))
     ∙ sumℤ-add n (λ v. f 0 v +ℤ f 1 v) (f 2) ∙ ap₂ _+ℤ_ (sumℤ-add n (f 0) (f 1)) refl
     ∙ rw (one 0 (omega arith), one 1 (omega arith), one 2 (omega arith), zero-add (sign r 0 *ℤ x (m 0)))
+  where
+    by : (z : ℤ) (i : ℕ) → (i < g .variables) ⊎ (i ≡ blank) → sumℤ (g .variables) (λ v. (z when eqb i v) *ℤ x v) ≡ z *ℤ x i
+    by z i (inl k) = picked z x i (g .variables) k
+    by z i (inr e) = none-picked z x i (g .variables) (omega (arith, h .few)) ∙ sym (ap (λ (j : ℕ). z *ℤ x j) e ∙ ap (λ (y : ℤ). z *ℤ y) none ∙ times-zero z)
 
 -- ---- the four rows: at centred values, and at 0 and 1
 abbrev signed : ℕ → ℤ → ℤ → ℤ → ℤ
@@ -115,15 +131,29 @@ entries a b c r ha hb hc h =
       λ l. m .1 (rw x (undoubled (sign r 0 *ℤ pos a) (sign r 1 *ℤ pos b) (sign r 2 *ℤ pos c) (right r) l)),
     )
 
-pub paper-system : (g : System) → Within g → PaperSystem g
+-- 2U times v: of a variable U + c, and of the blank 0
+abbrev doubledAt : List ℤ → ℕ → ℤ
+doubledAt c v = pos unit +ℤ valueAt c v
+
+doubled-rows : (g : System) → Within g → (c : List ℤ) (t r : ℕ) → t < g .triples
+    → times g (λ v. pos unit +ℤ at c v) t r ≡ sumℤ 3 (λ q. sign r q *ℤ doubledAt c (member (g .members) t q))
+doubled-rows g h c t r l =
+    times-same g (λ v. pos unit +ℤ at c v) (doubledAt c) (λ v k. ap (λ (z : ℤ). pos unit +ℤ z) (sym (value-variable c v (omega (arith, h .few))))) t r
+    ∙ times-rows g h (doubledAt c) refl t r l
+
+paper-system : (g : System) → Within g → PaperSystem g
 paper-system g h = record {
   rows = times-rows g h;
   points = λ p b. (
-    λ q t r l k. rw (times-rows g h (λ v. pos (bitAt p v)) t r l) (entries _ _ _ r (b .binary _) (b .binary _) (b .binary _) k .0 (q .meets t r l k)),
-    λ q. record { point = b; meets = λ t r l k. entries _ _ _ r (b .binary _) (b .binary _) (b .binary _) k .1 (rw (times-rows g h (λ v. pos (bitAt p v)) t r l) at (q t r l k)) },
+    λ q t r l k. rw (bits p b t r l) (entries _ _ _ r (b .binary _) (b .binary _) (b .binary _) k .0 (q .meets t r l k)),
+    λ q. record { point = b; meets = λ t r l k. entries _ _ _ r (b .binary _) (b .binary _) (b .binary _) k .1 (rw (bits p b t r l) at (q t r l k)) },
   );
-  centred = λ c t r l k. rw (times-rows g h (λ v. pos unit +ℤ at c v) t r l) (relaxed _ _ _ r k);
+  centred = λ c t r l k. rw (doubled-rows g h c t r l) (relaxed _ _ _ r k);
 }
+  where
+    bits : (p : List ℕ) → Bits (g .variables) p → (t r : ℕ) → t < g .triples
+        → times g (λ v. pos (bitAt p v)) t r ≡ sumℤ 3 (λ q. sign r q *ℤ pos (bitAt p (member (g .members) t q)))
+    bits p b = times-rows g h (λ v. pos (bitAt p v)) (ap pos (List·getD-eq-default p 0 (omega (arith, b .long, h .few))))
 
 -- ---- the projection
 -- a quotient of magnitudes: at U or above it is U, below it is nearest
@@ -232,8 +262,8 @@ module _ (g : System) (o : Settings) (costs : List ℤ) (a : State) where
     unfolding residual17
     steps t r h l =
         let p = paper g o costs a in
-        let S : ℤ = sumℤ 3 (λ p. sign r p *ℤ (pos unit +ℤ at (b .values) (member (g .members) t p))) in
-        rw (times-rows g within (λ v. pos unit +ℤ at (b .values) v) t r h, p .slacks t r h l, p .multipliers t r h l)
+        let S : ℤ = sumℤ 3 (λ p. sign r p *ℤ doubledAt (b .values) (member (g .members) t p)) in
+        rw (doubled-rows g within (b .values) t r h, p .slacks t r h l, p .multipliers t r h l)
         (parts (residual17 g o costs a (b .values) t r) (pos (2 * unit) *ℤ right r) S (multiplier (row (a .rows) t r)) refl)
 
     less : (x y z : ℤ) → x ≡ y +ℤ z → x -ℤ y ≡ z
@@ -253,7 +283,7 @@ module _ (g : System) (o : Settings) (costs : List ℤ) (a : State) where
         to true false e f h = absurd (omega arith)
         to false t e f h = absurd (omega arith)
 
-    pub start-stop : StartStop g o costs a
+    start-stop : StartStop g o costs a
     unfolding start settledBy changes
     start-stop = record {
       begins = λ i. rw (none (4 * g .triples) i) (refl, refl);
@@ -264,7 +294,16 @@ module _ (g : System) (o : Settings) (costs : List ℤ) (a : State) where
 -- ---- of every accepted code and settings
 module _ (b : List ℕ) (judged : judge b ≡ 0) (o : Settings) (costs : List ℤ) where
   within : Within (systemOf (codeOf b))
-  within = member-below (codeOf b) (accepted b judged)
+  unfolding systemOf
+  within =
+      let g = systemOf (codeOf b) in
+      let m = members (codeOf b) (accepted b judged) in
+      let inside : (t : ℕ) → t < g .triples → 3 * t + 2 < length (g .members) = λ t h. omega (arith, members-long (codeOf b) (accepted b judged)) in
+      record {
+        few = m .few;
+        named = λ t p h. three (λ p. (member (g .members) t p < g .variables) ⊎ (member (g .members) t p ≡ blank))
+            (inl (m .first t (inside t h))) (inl (m .second t (inside t h))) (m .third t (inside t h)) p;
+      }
 
   -- the divisors are above 0
   accepted-projection : outOfRange o ≡ false → (a : State) (v : ℕ) → v < variables (codeOf b) → Projection (systemOf (codeOf b)) o costs a v

@@ -1,7 +1,8 @@
 -- Codewords and points. Assumes nothing.
 use Rattle.integers.proofs.Prelude.{_≡_, refl, sym, ap, ap₂, subst, _∙_, Bool, true, false, cond, List, [], _∷_, _++_, ℕ, zero, suc, _+_, _%_, _≤_, _<_}
-use Rattle.integers.proofs.Prelude.{arith, eq-eqb, ne-eqb, T, eqb, pos, _≤ℤ_, length, getD, take, length-append, List·getD-append, length-take-le, take-all}
+use Rattle.integers.proofs.Prelude.{arith, eq-eqb, ne-eqb, T, eqb, pos, _≤ℤ_, length, getD, take, length-append, List·getD-append, List·getD-eq-default, length-take-le, take-all}
 use Rattle.integers.proofs.Prelude.{take-suc, getD-take}
+use mathlib.Core.Logic.{_⊎_, inl, inr}
 use native.Mathlib.Nat.{add-zero}
 use lib.Dec.{lit<}
 use lib.Seq.{getD-append-seam, ext-getD}
@@ -9,14 +10,15 @@ use lib.Signed.{leZ}
 use Rattle.lists.specs.Entries.{total}
 use Rattle.lists.proofs.Entries.{total-append}
 use Rattle.quotient.specs.Quotient.{unit}
-use Rattle.model.specs.Code.{Code, turns, tripleCount}
+use Rattle.model.specs.Code.{Code, turns, tripleCount, variables}
 use Rattle.model.specs.Sound.{Rising, SoundCheck, SoundChecks, Sound}
-use Rattle.model.specs.Splitting.{queue, triplesOf, triplesFrom, systemOf, member}
+use Rattle.model.specs.Splitting.{queue, blank, waiting, triplesOf, triplesFrom, systemOf, member}
 use Rattle.model.specs.Iteration.{sign, rowSum}
 use Rattle.model.specs.Words.{bitAt}
 use Rattle.model.specs.Points.{Bits, Codeword, centred, Point, extend, pointOf}
 use Rattle.model.specs.Claims.{Points}
-use Rattle.model.proofs.Queue.{by-turns, member-next}
+use Rattle.model.proofs.Queue.{by-degree, waiting-long, by-turns, member-next}
+use Rattle.model.proofs.TripleRule.{few-variables}
 use Rattle.model.proofs.Rows.{four, eight, even-cases}
 
 -- ---- a triple meets the system where the sum of its entries is even, and only there
@@ -53,23 +55,53 @@ module _ (x : ℕ → ℕ) (a b c : ℕ) (ts : List ℕ) where
   even-tail n e t l = rw (member-next a b c ts t 0, member-next a b c ts t 1, member-next a b c ts t 2) at (e (suc t) (omega arith))
 
 -- ---- one check
--- every entry is below u: what waits lies below the next auxiliary, and a point has entries below 2
+-- what holds of every entry, and past the end of 0
+abbrev All : (ℕ → Type 0) → List ℕ → Type 0
+All P q = (i : ℕ) → P (getD q i 0)
+
+all-snoc : (P : ℕ → Type 0) (v : ℕ) (q : List ℕ) → P v → All P q → All P (q ++ (v ∷ []))
+all-snoc P v [] h b zero = h
+all-snoc P v [] h b (suc i) = b i
+all-snoc P v (x ∷ q) h b zero = b 0
+all-snoc P v (x ∷ q) h b (suc i) = all-snoc P v q h (λ i. b (suc i)) i
+
+-- a point has entries below 2
 abbrev Below : ℕ → List ℕ → Type 0
-Below u q = (i : ℕ) → getD q i 0 < u
-
-below-snoc : (u v : ℕ) (q : List ℕ) → v < u → Below u q → Below u (q ++ (v ∷ []))
-below-snoc u v [] h b zero = h
-below-snoc u v [] h b (suc i) = omega arith
-below-snoc u v (x ∷ q) h b zero = b 0
-below-snoc u v (x ∷ q) h b (suc i) = below-snoc u v q h (λ i. b (suc i)) i
-
-below-turn : (a x y : ℕ) (q : List ℕ) → Below a (x ∷ y ∷ q) → Below (suc a) (q ++ (a ∷ []))
-below-turn a x y q b = below-snoc (suc a) a q (omega arith) (λ i. omega (arith, b (suc (suc i))))
+Below u q = All (λ x. x < u) q
 
 below-rising : (n low : ℕ) (c : List ℕ) → 0 < n → Rising n low c → Below n c
 below-rising n low [] l r i = l
 below-rising n low (x ∷ c) l r zero = r .1
 below-rising n low (x ∷ c) l r (suc i) = below-rising n (suc x) c l (r .2) i
+
+-- an item that waits lies below the next auxiliary, or is the blank, whose entry is 0 in a list that ends before it
+abbrev Item : ℕ → ℕ → Type 0
+Item a x = (x < a) ⊎ (x ≡ blank)
+
+item-more : (a x : ℕ) → Item a x → Item (suc a) x
+item-more a x (inl h) = inl (omega arith)
+item-more a x (inr e) = inr e
+
+item-other : (a x : ℕ) → a < blank → Item a x → x ≡ a → ⊥
+item-other a x h (inl l) e = omega arith
+item-other a x h (inr l) e = omega arith
+
+item-bit : (p r : List ℕ) (a x : ℕ) → length p ≤ blank → length r ≤ blank → (x < a → bitAt p x ≡ bitAt r x) → Item a x → bitAt p x ≡ bitAt r x
+item-bit p r a x h l f (inl k) = f k
+item-bit p r a x h l f (inr e) = rw e (List·getD-eq-default p 0 h ∙ sym (List·getD-eq-default r 0 l))
+
+items-turn : (a x y : ℕ) (q : List ℕ) → All (Item a) (x ∷ y ∷ q) → All (Item (suc a)) (q ++ (a ∷ []))
+items-turn a x y q b = all-snoc (Item (suc a)) a q (inl (omega arith)) (λ i. item-more a (getD q i 0) (b (suc (suc i))))
+
+items-waiting : (n a : ℕ) → 0 < n → n ≤ a → (c : List ℕ) → 2 ≤ length c → Rising n 0 c → All (Item a) (waiting c)
+items-waiting n a l h =
+    by-degree (λ c q. Rising n 0 c → All (Item a) q)
+    (λ x y r. all-snoc (Item a) blank (x ∷ y ∷ []) (inr refl) (λ i. inl (omega (arith, below-rising n 0 (x ∷ y ∷ []) l r i))))
+    (λ c d r i. inl (omega (arith, below-rising n 0 c l r i)))
+
+-- the blank adds nothing to a check's sum
+total-waiting : (x : ℕ → ℕ) → x blank ≡ 0 → (c : List ℕ) → 2 ≤ length c → total x (waiting c) ≡ total x c
+total-waiting x h = by-degree (λ c q. total x q ≡ total x c) (λ u v. omega arith) (λ c d. refl)
 
 -- where the triples of a check are even, so is the check
 check-even : (x : ℕ → ℕ) (rest : List ℕ) (n m : ℕ) (q : List ℕ) (a : ℕ) → length q ≡ 3 + m → Even x (queue m q a ++ rest) (suc m + n)
@@ -95,7 +127,7 @@ along P more (x ∷ y ∷ z ∷ ts) p h = along P more ts _ (by (eqb z (length p
     by false = h
 
 extend-binary : (ts p : List ℕ) → Below 2 p → Below 2 (extend ts p)
-extend-binary = along (Below 2) (λ q v h b. below-snoc 2 v q h b)
+extend-binary = along (Below 2) (λ q v h b. all-snoc (λ x. x < 2) v q h b)
 
 extend-begins : (ts p : List ℕ) (i : ℕ) → i < length p → bitAt (extend ts p) i ≡ bitAt p i
 extend-begins ts p i h =
@@ -106,105 +138,120 @@ pub extend-made : (x y a : ℕ) (ts p : List ℕ) → length p ≡ a → extend 
 unfolding extend
 extend-made x y a ts p h = rw (eq-eqb a (length p) (sym h))
 
-pub extend-kept : (x y z : ℕ) (ts p : List ℕ) → z < length p → extend (x ∷ y ∷ z ∷ ts) p ≡ extend ts p
+pub extend-kept : (x y z : ℕ) (ts p : List ℕ) → (z ≡ length p → ⊥) → extend (x ∷ y ∷ z ∷ ts) p ≡ extend ts p
 unfolding extend
-extend-kept x y z ts p h = rw (ne-eqb z (length p) (λ e. omega arith))
+extend-kept x y z ts p h = rw (ne-eqb z (length p) h)
 
 -- where the triples of a check are even at r, the extension follows r
-follows : (r : List ℕ) → ((i : ℕ) → bitAt r i < 2) → (rest : List ℕ) (n m : ℕ) (q : List ℕ) (a : ℕ) → length q ≡ 3 + m → Below a q → a + m ≤ length r
+follows : (r : List ℕ) → ((i : ℕ) → bitAt r i < 2) → length r < blank → (rest : List ℕ) (n m : ℕ) (q : List ℕ) (a : ℕ) → length q ≡ 3 + m → All (Item a) q → a + m ≤ length r
     → Even (bitAt r) (queue m q a ++ rest) (suc m + n) → extend (queue m q a ++ rest) (take a r) ≡ extend rest (take (a + m) r)
 unfolding queue
-follows r binary rest n =
-    by-turns (λ m q a. Below a q → a + m ≤ length r → Even (bitAt r) (queue m q a ++ rest) (suc m + n) → extend (queue m q a ++ rest) (take a r) ≡ extend rest (take (a + m) r))
-    (λ x y z a b l e. rw (add-zero a) (extend-kept x y z rest (take a r) (omega (arith, b 2, length-take-le a r (omega arith)))))
+follows r binary few rest n =
+    by-turns (λ m q a. All (Item a) q → a + m ≤ length r → Even (bitAt r) (queue m q a ++ rest) (suc m + n) → extend (queue m q a ++ rest) (take a r) ≡ extend rest (take (a + m) r))
+    (λ x y z a b l e. rw (add-zero a) (extend-kept x y z rest (take a r) (λ k. item-other a z (omega arith) (b 2) (k ∙ length-take-le a r (omega arith)))))
     (λ m x y q a ih b l e.
     let ts = queue m (q ++ (a ∷ [])) (suc a) ++ rest in
-    let first : bitAt (take a r) x ≡ bitAt r x = getD-take a r x 0 (b 0) in
-    let second : bitAt (take a r) y ≡ bitAt r y = getD-take a r y 0 (b 1) in
+    let taken : (u : ℕ) → Item a u → bitAt (take a r) u ≡ bitAt r u
+    = λ u i. item-bit (take a r) r a u (omega (arith, length-take-le a r (omega arith))) (omega arith) (getD-take a r u 0) i in
+    let first : bitAt (take a r) x ≡ bitAt r x = taken x (b 0) in
+    let second : bitAt (take a r) y ≡ bitAt r y = taken y (b 1) in
     let new : (bitAt (take a r) x + bitAt (take a r) y) % 2 ≡ bitAt r a = omega (arith, first, second, e 0 (omega arith), binary a) in
     let next : a + suc m ≡ suc a + m = omega arith in
     extend-made x y a ts (take a r) (length-take-le a r (omega arith))
     ∙ rw (new, ← take-suc r a 0 (omega arith), next)
-    (ih (below-turn a x y q b) (omega arith) (even-tail (bitAt r) x y a ts (suc m + n) (λ t k. e t (omega arith)))))
+    (ih (items-turn a x y q b) (omega arith) (even-tail (bitAt r) x y a ts (suc m + n) (λ t k. e t (omega arith)))))
 
 -- the extension over a check: m entries are added, which make its triples even where the check is even
 record Grown (rest : List ℕ) (m : ℕ) (q : List ℕ) (a : ℕ) (p : List ℕ) : Type 0 where
   grown : List ℕ
   long : length grown ≡ a + m
   is : extend (queue m q a ++ rest) p ≡ extend rest grown
-  even : (r : List ℕ) → r ≡ extend rest grown → total (bitAt r) q % 2 ≡ 0 → (n : ℕ) → Even (bitAt r) rest n → Even (bitAt r) (queue m q a ++ rest) (suc m + n)
+  even : (r : List ℕ) → length r ≤ blank → r ≡ extend rest grown → total (bitAt r) q % 2 ≡ 0 → (n : ℕ) → Even (bitAt r) rest n → Even (bitAt r) (queue m q a ++ rest) (suc m + n)
 
-grow : (rest : List ℕ) (m : ℕ) (q : List ℕ) (a : ℕ) → length q ≡ 3 + m → Below a q → (p : List ℕ) → length p ≡ a → Grown rest m q a p
+grow : (rest : List ℕ) (m : ℕ) (q : List ℕ) (a : ℕ) → length q ≡ 3 + m → All (Item a) q → a + m < blank → (p : List ℕ) → length p ≡ a → Grown rest m q a p
 unfolding queue
 grow rest =
-    by-turns (λ m q a. Below a q → (p : List ℕ) → length p ≡ a → Grown rest m q a p)
-    (λ x y z a b p l. record {
+    by-turns (λ m q a. All (Item a) q → a + m < blank → (p : List ℕ) → length p ≡ a → Grown rest m q a p)
+    (λ x y z a b f p l. record {
       grown = p;
       long = omega arith;
-      is = extend-kept x y z rest p (omega (arith, b 2));
-      even = λ r e o n k t h. even-cons (bitAt r) x y z rest n (omega arith) k t (omega arith);
+      is = extend-kept x y z rest p (λ k. item-other a z (omega arith) (b 2) (k ∙ l));
+      even = λ r s e o n k t h. even-cons (bitAt r) x y z rest n (omega arith) k t (omega arith);
     })
     turn
   where
-    turn : (m x y : ℕ) (q : List ℕ) (a : ℕ) → (Below (suc a) (q ++ (a ∷ [])) → (p : List ℕ) → length p ≡ suc a → Grown rest m (q ++ (a ∷ [])) (suc a) p)
-        → Below a (x ∷ y ∷ q) → (p : List ℕ) → length p ≡ a → Grown rest (suc m) (x ∷ y ∷ q) a p
-    turn m x y q a ih b p l =
+    turn : (m x y : ℕ) (q : List ℕ) (a : ℕ)
+        → (All (Item (suc a)) (q ++ (a ∷ [])) → suc a + m < blank → (p : List ℕ) → length p ≡ suc a → Grown rest m (q ++ (a ∷ [])) (suc a) p)
+        → All (Item a) (x ∷ y ∷ q) → a + suc m < blank → (p : List ℕ) → length p ≡ a → Grown rest (suc m) (x ∷ y ∷ q) a p
+    turn m x y q a ih b f p l =
         let v = (bitAt p x + bitAt p y) % 2 in
         let ts = queue m (q ++ (a ∷ [])) (suc a) ++ rest in
-        let i = ih (below-turn a x y q b) (p ++ (v ∷ [])) (length-append p (v ∷ []) ∙ omega arith) in
+        let i = ih (items-turn a x y q b) (omega arith) (p ++ (v ∷ [])) (length-append p (v ∷ []) ∙ omega arith) in
         let seam : bitAt (p ++ (v ∷ [])) a ≡ v = subst (λ (i : ℕ). bitAt (p ++ (v ∷ [])) i ≡ v) l (getD-append-seam p v [] 0) in
         record {
           grown = i .grown;
           long = omega (arith, i .long);
           is = extend-made x y a ts p l ∙ i .is;
-          even = λ r e o n k t h.
+          even = λ r s e o n k t h.
               let at : (j : ℕ) → j < suc a → bitAt r j ≡ bitAt (p ++ (v ∷ [])) j
               = λ j g. ap (λ (r : List ℕ). bitAt r j) (e ∙ sym (i .is)) ∙ extend-begins ts (p ++ (v ∷ [])) j (simp length-append (omega arith)) in
               let old : (j : ℕ) → j < a → bitAt r j ≡ bitAt p j = λ j g. at j (omega arith) ∙ List·getD-append p (v ∷ []) 0 j (omega arith) in
-              let three : (bitAt r x + bitAt r y + bitAt r a) % 2 ≡ 0 = omega (arith, old x (b 0), old y (b 1), at a (omega arith), seam) in
-              even-cons (bitAt r) x y a ts (suc m + n) three (i .even r e (omega (arith, total-append (bitAt r) q (a ∷ []), three)) n k) t (omega arith);
+              let item : (u : ℕ) → Item a u → bitAt r u ≡ bitAt p u = λ u g. item-bit r p a u s (omega arith) (old u) g in
+              let three : (bitAt r x + bitAt r y + bitAt r a) % 2 ≡ 0 = omega (arith, item x (b 0), item y (b 1), at a (omega arith), seam) in
+              even-cons (bitAt r) x y a ts (suc m + n) three (i .even r s e (omega (arith, total-append (bitAt r) q (a ∷ []), three)) n k) t (omega arith);
         }
 
 -- ---- all checks
 module _ (n : ℕ) (some-bit : 0 < n) where
-  below : (a : ℕ) (c : List ℕ) → n ≤ a → SoundCheck n c → Below a c
-  below a c l s i = omega (arith, below-rising n 0 c some-bit (s .rising) i)
+  -- one check: where its triples are even, so is its sum
+  sum-even : (x : ℕ → ℕ) → x blank ≡ 0 → (rest : List ℕ) (m a : ℕ) (c : List ℕ) → SoundCheck n c → Even x (triplesOf c a ++ rest) (tripleCount c + m)
+      → (total x c % 2 ≡ 0) × Even x rest m
+  sum-even x none rest m a c s e =
+      let i = check-even x rest m (turns c) (waiting c) a (waiting-long c (s .least)) (λ t l. e t (omega arith)) in
+      (omega (arith, i .0, total-waiting x none c (s .least)), i .1)
 
-  checks-even : (x : ℕ → ℕ) (cs : List (List ℕ)) (a : ℕ) → SoundChecks n cs → Even x (triplesFrom cs a) (total tripleCount cs) → (j : ℕ) → j < length cs → total x (getD cs j []) % 2 ≡ 0
+  checks-even : (x : ℕ → ℕ) → x blank ≡ 0 → (cs : List (List ℕ)) (a : ℕ) → SoundChecks n cs → Even x (triplesFrom cs a) (total tripleCount cs)
+      → (j : ℕ) → j < length cs → total x (getD cs j []) % 2 ≡ 0
   unfolding triplesFrom
-  checks-even x [] a s e j h = absurd (omega arith)
-  checks-even x (c ∷ cs) a s e j h =
-      let i = check-even x (triplesFrom cs (a + turns c)) (total tripleCount cs) (turns c) c a (omega (arith, s .0 .least)) (λ t l. e t (omega arith)) in
-      by (i .0) (checks-even x cs (a + turns c) (s .1) (i .1)) j h
+  checks-even x none [] a s e j h = absurd (omega arith)
+  checks-even x none (c ∷ cs) a s e j h =
+      let i = sum-even x none (triplesFrom cs (a + turns c)) (total tripleCount cs) a c (s .0) (λ t l. e t (omega arith)) in
+      by (i .0) (checks-even x none cs (a + turns c) (s .1) (i .1)) j h
     where
       by : total x c % 2 ≡ 0 → ((j : ℕ) → j < length cs → total x (getD cs j []) % 2 ≡ 0) → (j : ℕ) → j < suc (length cs) → total x (getD (c ∷ cs) j []) % 2 ≡ 0
       by o ih zero h = o
       by o ih (suc j) h = ih j (omega arith)
 
-  checks-follow : (r : List ℕ) → ((i : ℕ) → bitAt r i < 2) → (cs : List (List ℕ)) (a : ℕ) → n ≤ a → SoundChecks n cs → length r ≡ a + total turns cs
+  checks-follow : (r : List ℕ) → ((i : ℕ) → bitAt r i < 2) → length r < blank → (cs : List (List ℕ)) (a : ℕ) → n ≤ a → SoundChecks n cs → length r ≡ a + total turns cs
       → Even (bitAt r) (triplesFrom cs a) (total tripleCount cs) → extend (triplesFrom cs a) (take a r) ≡ r
   unfolding triplesFrom extend
-  checks-follow r binary [] a l s h e = take-all a r (omega arith)
-  checks-follow r binary (c ∷ cs) a l s h e =
-      let d : length c ≡ 3 + turns c = omega (arith, s .0 .least) in
-      let e′ : Even (bitAt r) (triplesOf c a ++ triplesFrom cs (a + turns c)) (suc (turns c) + total tripleCount cs) = λ t k. e t (omega arith) in
-      follows r binary (triplesFrom cs (a + turns c)) (total tripleCount cs) (turns c) c a d (below a c l (s .0)) (omega arith) e′
-      ∙ checks-follow r binary cs (a + turns c) (omega arith) (s .1) (omega arith) (check-even (bitAt r) (triplesFrom cs (a + turns c)) (total tripleCount cs) (turns c) c a d e′ .1)
+  checks-follow r binary few [] a l s h e = take-all a r (omega arith)
+  checks-follow r binary few (c ∷ cs) a l s h e =
+      let rest = triplesFrom cs (a + turns c) in
+      let e′ : Even (bitAt r) (triplesOf c a ++ rest) (tripleCount c + total tripleCount cs) = λ t k. e t (omega arith) in
+      follows r binary few rest (total tripleCount cs) (turns c) (waiting c) a (waiting-long c (s .0 .least)) (items-waiting n a some-bit l c (s .0 .least) (s .0 .rising))
+      (omega arith) (λ t k. e′ t (omega arith))
+      ∙ checks-follow r binary few cs (a + turns c) (omega arith) (s .1) (omega arith)
+      (sum-even (bitAt r) (List·getD-eq-default r 0 (omega arith)) rest (total tripleCount cs) a c (s .0) e′ .1)
 
-  checks-grow : (cs : List (List ℕ)) (a : ℕ) → n ≤ a → SoundChecks n cs → (p : List ℕ) → length p ≡ a
+  checks-grow : (cs : List (List ℕ)) (a : ℕ) → n ≤ a → a + total turns cs < blank → SoundChecks n cs → (p : List ℕ) → length p ≡ a
       → (length (extend (triplesFrom cs a) p) ≡ a + total turns cs)
-      × ((r : List ℕ) → r ≡ extend (triplesFrom cs a) p → ((j : ℕ) → j < length cs → total (bitAt r) (getD cs j []) % 2 ≡ 0) → Even (bitAt r) (triplesFrom cs a) (total tripleCount cs))
+      × ((r : List ℕ) → length r ≤ blank → r ≡ extend (triplesFrom cs a) p → ((j : ℕ) → j < length cs → total (bitAt r) (getD cs j []) % 2 ≡ 0)
+      → Even (bitAt r) (triplesFrom cs a) (total tripleCount cs))
   unfolding triplesFrom extend
-  checks-grow [] a l s p h = (omega arith, λ r e o t k. absurd (omega arith))
-  checks-grow (c ∷ cs) a l s p h =
-      let g = grow (triplesFrom cs (a + turns c)) (turns c) c a (omega (arith, s .0 .least)) (below a c l (s .0)) p h in
-      let i = checks-grow cs (a + turns c) (omega arith) (s .1) (g .grown) (g .long) in (
+  checks-grow [] a l b s p h = (omega arith, λ r f e o t k. absurd (omega arith))
+  checks-grow (c ∷ cs) a l b s p h =
+      let g = grow (triplesFrom cs (a + turns c)) (turns c) (waiting c) a (waiting-long c (s .0 .least)) (items-waiting n a some-bit l c (s .0 .least) (s .0 .rising)) (omega arith) p h in
+      let i = checks-grow cs (a + turns c) (omega arith) (omega arith) (s .1) (g .grown) (g .long) in (
         ap length (g .is) ∙ i .0 ∙ omega arith,
-        λ r e o t k. g .even r (e ∙ g .is) (o 0 (omega arith)) (total tripleCount cs) (i .1 r (e ∙ g .is) (λ j m. o (suc j) (omega arith))) t (omega arith),
+        λ r f e o t k. g .even r f (e ∙ g .is)
+            (omega (arith, total-waiting (bitAt r) (List·getD-eq-default r 0 f) c (s .0 .least), o 0 (omega arith))) (total tripleCount cs)
+            (i .1 r f (e ∙ g .is) (λ j m. o (suc j) (omega arith))) t (omega arith),
       )
 
-  pub extend-long : (cs : List (List ℕ)) (a : ℕ) → n ≤ a → SoundChecks n cs → (p : List ℕ) → length p ≡ a → length (extend (triplesFrom cs a) p) ≡ a + total turns cs
-  extend-long cs a l s p h = checks-grow cs a l s p h .0
+  pub extend-long : (cs : List (List ℕ)) (a : ℕ) → n ≤ a → a + total turns cs < blank → SoundChecks n cs → (p : List ℕ) → length p ≡ a
+      → length (extend (triplesFrom cs a) p) ≡ a + total turns cs
+  extend-long cs a l b s p h = checks-grow cs a l b s p h .0
 
 -- a sum over a check sees only its bits
 pub total-bits : (n low : ℕ) (x y : ℕ → ℕ) (c : List ℕ) → ((i : ℕ) → i < n → x i ≡ y i) → Rising n low c → total x c ≡ total y c
@@ -224,10 +271,19 @@ module _ (k : Code) (s : Sound k) where
   pub point-begins : (w : List ℕ) → length w ≡ k .bits → (i : ℕ) → i < k .bits → bitAt (pointOf k w) i ≡ bitAt w i
   point-begins w h i l = extend-begins (systemOf k .members) w i (omega arith)
 
+  pub point-long : (w : List ℕ) → length w ≡ k .bits → length (pointOf k w) ≡ variables k
+  unfolding systemOf
+  point-long w h = extend-long (k .bits) some-bit (k .checks) (k .bits) (omega arith) (few-variables k s) (s .checks) w h
+
+  -- the blank lies past the end of a list of 0 and 1 for all variables
+  pub blank-bit : (p : List ℕ) → length p ≡ variables k → bitAt p blank ≡ 0
+  blank-bit p h = List·getD-eq-default p 0 (omega (arith, few-variables k s))
+
   pub point-even : (w : List ℕ) → Codeword k w → Even (bitAt (pointOf k w)) (systemOf k .members) (systemOf k .triples)
   unfolding systemOf
   point-even w c =
-      checks-grow (k .bits) some-bit (k .checks) (k .bits) (omega arith) (s .checks) w (c .word .long) .1 (pointOf k w) refl
+      checks-grow (k .bits) some-bit (k .checks) (k .bits) (omega arith) (few-variables k s) (s .checks) w (c .word .long) .1 (pointOf k w)
+      (omega (arith, point-long w (c .word .long), few-variables k s)) refl
       (λ j h. rw (totals-bits (k .bits) (bitAt (pointOf k w)) (bitAt w) (k .checks) (point-begins w (c .word .long)) (s .checks) j) (c .even j h))
 
   pub point-binary : (w : List ℕ) → Codeword k w → (i : ℕ) → bitAt (pointOf k w) i < 2
@@ -242,7 +298,7 @@ module _ (k : Code) (s : Sound k) where
   point w c =
       even-point (pointOf k w)
       (record {
-        long = checks-grow (k .bits) some-bit (k .checks) (k .bits) (omega arith) (s .checks) w (c .word .long) .0;
+        long = point-long w (c .word .long);
         binary = point-binary w c;
       })
       (point-even w c)
@@ -262,7 +318,7 @@ module _ (k : Code) (s : Sound k) where
   codeword w p b q e = record {
     word = b;
     even = λ j h. rw (totals-bits (k .bits) (bitAt w) (bitAt p) (k .checks) (λ i l. subst (λ (u : List ℕ). bitAt u i ≡ bitAt p i) e (getD-take (k .bits) p i 0 l)) (s .checks) j)
-        (checks-even (k .bits) some-bit (bitAt p) (k .checks) (k .bits) (s .checks) (evened p q) j h);
+        (checks-even (k .bits) some-bit (bitAt p) (blank-bit p (q .point .long)) (k .checks) (k .bits) (s .checks) (evened p q) j h);
   }
 
   pub points : Points k
@@ -270,5 +326,5 @@ module _ (k : Code) (s : Sound k) where
   points = record {
     exactly = λ w b. (λ c. (pointOf k w, point w c, begins w c), λ q. codeword w (q .0) b (q .1) (q .2));
     only = λ w p q e. sym (subst (λ (u : List ℕ). extend (systemOf k .members) u ≡ p) e
-        (checks-follow (k .bits) some-bit p (q .point .binary) (k .checks) (k .bits) (omega arith) (s .checks) (q .point .long) (evened p q)));
+        (checks-follow (k .bits) some-bit p (q .point .binary) (omega (arith, q .point .long, few-variables k s)) (k .checks) (k .bits) (omega arith) (s .checks) (q .point .long) (evened p q)));
   }

@@ -1,12 +1,12 @@
 -- The queue rule, for all degrees together. Assumes nothing.
-use Rattle.integers.proofs.Prelude.{_≡_, refl, sym, ap, _∙_, List, [], _∷_, _++_, append-assoc, append-nil, ℕ, zero, suc, _+_, _*_, arith, length, take, drop}
+use Rattle.integers.proofs.Prelude.{_≡_, refl, sym, ap, _∙_, List, [], _∷_, _++_, append-assoc, append-nil, ℕ, zero, suc, _+_, _-_, _*_, _≤_, arith, length, take, drop}
 use Rattle.integers.proofs.Prelude.{length-append, take-append-drop}
 use Rattle.integers.specs.Sum.{sumℕ}
 use Rattle.integers.proofs.Sums.{sumℕ-same, sumℕ-first, sumℕ-split}
 use Rattle.lists.specs.Entries.{total}
 use Rattle.lists.proofs.Entries.{total-append}
 use Rattle.model.specs.Code.{turns}
-use Rattle.model.specs.Splitting.{queue, triplesOf, triplesFrom, member}
+use Rattle.model.specs.Splitting.{queue, blank, waiting, triplesOf, triplesFrom, member}
 
 -- ---- each item of the queue is taken once, and each auxiliary is recorded once more when it is made: every sum over the triples
 module _ (f : ℕ → ℕ) where
@@ -20,13 +20,27 @@ module _ (f : ℕ → ℕ) where
       total-append f (take 2 q) (a ∷ queue m (drop 2 q ++ (a ∷ [])) (suc a))
       ∙ rw (queue-total m (drop 2 q ++ (a ∷ [])) (suc a), total-append f (drop 2 q) (a ∷ [])) (omega (arith, whole, later, now, sumℕ-first m (λ j. f (a + j))))
 
-  pub triples-total : (cs : List (List ℕ)) (a : ℕ) → total f (triplesFrom cs a) ≡ total (total f) cs + 2 * sumℕ (total turns cs) (λ j. f (a + j))
+  pub triples-total : (cs : List (List ℕ)) (a : ℕ) → total f (triplesFrom cs a) ≡ total (λ c. total f (waiting c)) cs + 2 * sumℕ (total turns cs) (λ j. f (a + j))
   unfolding triplesFrom
   triples-total [] a = refl
   triples-total (c ∷ cs) a =
       let later : sumℕ (total turns cs) (λ j. f (a + turns c + j)) ≡ sumℕ (total turns cs) (λ j. f (a + (turns c + j))) = sumℕ-same (total turns cs) _ _ (λ j l. ap f (omega arith)) in
       total-append f (triplesOf c a) (triplesFrom cs (a + turns c))
-      ∙ rw (queue-total (turns c) c a, triples-total cs (a + turns c)) (omega (arith, later, sumℕ-split (turns c) (total turns cs) (λ j. f (a + j))))
+      ∙ rw (queue-total (turns c) (waiting c) a, triples-total cs (a + turns c)) (omega (arith, later, sumℕ-split (turns c) (total turns cs) (λ j. f (a + j))))
+
+-- ---- what waits at first: two bits and the blank, or the check itself
+pub waiting-three : (c : List ℕ) → 3 ≤ length c → waiting c ≡ c
+waiting-three c h = let e : 3 - length c ≡ 0 = omega arith in rw e (append-nil c)
+
+pub by-degree : (P : List ℕ → List ℕ → Type 0) → ((x y : ℕ) → P (x ∷ y ∷ []) (x ∷ y ∷ blank ∷ [])) → ((c : List ℕ) → 3 ≤ length c → P c c)
+    → (c : List ℕ) → 2 ≤ length c → P c (waiting c)
+by-degree P two more [] h = absurd (omega arith)
+by-degree P two more (x ∷ []) h = absurd (omega arith)
+by-degree P two more (x ∷ y ∷ []) h = two x y
+by-degree P two more (x ∷ y ∷ z ∷ c) h = rw (waiting-three (x ∷ y ∷ z ∷ c) (omega arith)) (more (x ∷ y ∷ z ∷ c) (omega arith))
+
+pub waiting-long : (c : List ℕ) → 2 ≤ length c → length (waiting c) ≡ 3 + turns c
+waiting-long = by-degree (λ c q. length q ≡ 3 + turns c) (λ x y. refl) (λ c h. omega arith)
 
 -- ---- one check more, at the end
 pub triples-last : (cs : List (List ℕ)) (c : List ℕ) (a : ℕ) → triplesFrom (cs ++ (c ∷ [])) a ≡ triplesFrom cs a ++ triplesOf c (a + total turns cs)

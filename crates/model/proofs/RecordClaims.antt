@@ -5,6 +5,7 @@ use Rattle.integers.proofs.Prelude.{length-drop, drop-at, drop-drop, drop-cons,
 use mathlib.Core.Logic.{_↔_}
 use Rattle.lists.specs.Entries.{some, total}
 use Rattle.model.specs.Causes.{_if_, firstOf, short, outside}
+use Rattle.model.specs.Limits.{leastDegree, mostDegree}
 use Rattle.model.specs.Code.{Code, triples}
 use Rattle.model.specs.Records.{twoBytes, numbers, bitCount, checkCount, degree, indices, afterCheck, checksIn, afterChecks, codeOf, covered}
 use Rattle.model.specs.Records.{judgeHeader, judgeIndices, judgeCheck, judgeChecks, judge, two, bytesOf, recordOf, checkRecords, recordsOf, recordSize, recordsSize}
@@ -131,10 +132,10 @@ pub check-clear : (n : ℕ) (c : List ℕ) → (checkCause n c ≡ 0) ↔ SoundC
 unfolding checkCause
 check-clear n c = (
   λ h.
-      let x = clear (4 if outside 3 32 (length c) ∷ indicesCause n 0 c ∷ []) h in
-      let d = within 3 32 (length c) (unless 3 _ (x .0)) in
+      let x = clear (4 if outside leastDegree mostDegree (length c) ∷ indicesCause n 0 c ∷ []) h in
+      let d = within leastDegree mostDegree (length c) (unless 3 _ (x .0)) in
       record { least = d .0; most = d .1; rising = indices-clear n 0 c .0 (x .1 .0) },
-  λ s. rw (inside 3 32 (length c) (s .least) (s .most), indices-clear n 0 c .1 (s .rising)),
+  λ s. rw (inside leastDegree mostDegree (length c) (s .least) (s .most), indices-clear n 0 c .1 (s .rising)),
 )
 
 pub checks-clear : (n : ℕ) (cs : List (List ℕ)) → (checksCause n cs ≡ 0) ↔ SoundChecks n cs

@@ -1,5 +1,5 @@
 -- A point that is even on every triple reflects the run. Assumes nothing.
-use Rattle.integers.proofs.Prelude.{_≡_, refl, sym, ap, ap₂, _∙_, Bool, true, false, List, [], _∷_, ℕ, zero, suc, _+_, _*_, _%_, _<_, arith, eqb-true, eqb, ℤ}
+use Rattle.integers.proofs.Prelude.{_≡_, refl, sym, ap, ap₂, _∙_, Bool, true, false, cond, List, [], _∷_, ℕ, zero, suc, _+_, _*_, _%_, _<_, arith, eqb-true, eqb, ℤ}
 use Rattle.integers.proofs.Prelude.{pos, natAbs, negℤ, _+ℤ_, _*ℤ_, length, getD}
 use lib.Dec.{lit<}
 use lib.IntN.{negℤ-negℤ}
@@ -10,8 +10,9 @@ use Rattle.integers.proofs.Sums.{sumℕ-same, sumℤ-same, sumℤ-neg, sumℤ-p
 use Rattle.lists.specs.Tabulated.{tab}
 use Rattle.lists.proofs.Tabulated.{tab-getD}
 use Rattle.model.specs.declared.Settings.{Settings}
-use Rattle.model.specs.Splitting.{System, member}
-use Rattle.model.specs.Iteration.{at, row, sign, rowSum, sumAt, slack, multiplier, share, _when_, sumOf, numerator, renewed, State, sumsOf, valueOf, valuesOf, rowsOf, iterate}
+use Rattle.quotient.specs.Quotient.{unit}
+use Rattle.model.specs.Splitting.{System, blank, member}
+use Rattle.model.specs.Iteration.{at, row, sign, rowSum, valueAt, sumAt, slack, multiplier, share, _when_, sumOf, numerator, renewed, State, sumsOf, valueOf, valuesOf, rowsOf, iterate}
 use Rattle.model.specs.Run.{squareOfChange, changes, settledBy, start, after, Ended, runFrom}
 use Rattle.model.specs.Words.{bitAt}
 use Rattle.model.specs.Reflection.{negatedIf, reflect, Opposite, Reflected}
@@ -101,7 +102,7 @@ module _ (x ts : List ℕ) (t : ℕ) where
   injective r r′ q h l e f = same-row r r′ h l (λ p k. turned-back (bitAt x (member ts t p)) (sign r p) (sign r′ p) (sym (e p k) ∙ f p k))
 
 -- ---- one iteration
-module _ (g : System) (x : List ℕ) (binary : (v : ℕ) → bitAt x v < 2)
+module _ (g : System) (x : List ℕ) (binary : (v : ℕ) → bitAt x v < 2) (still : bitAt x blank ≡ 0)
     (even : (t : ℕ) → t < g .triples → (bitAt x (member (g .members) t 0) + bitAt x (member (g .members) t 1) + bitAt x (member (g .members) t 2)) % 2 ≡ 0) where
   -- the point's entry at position p of triple t
   abbrev y : ℕ → ℕ → ℕ
@@ -155,8 +156,16 @@ module _ (g : System) (x : List ℕ) (binary : (v : ℕ) → bitAt x v < 2)
   unfolding rowSum
   sumAt-turned c c′ e t r q f = ap₂ _+ℤ_ (ap₂ _+ℤ_ (part 0 (lit< tt)) (part 1 (lit< tt))) (part 2 (lit< tt))
     where
-      part : (p : ℕ) → p < 3 → sign q p *ℤ at c′ (member (g .members) t p) ≡ sign r p *ℤ at c (member (g .members) t p)
-      part p l = rw (f p l, e (member (g .members) t p)) (turned-both (y t p) (sign r p) (at c (member (g .members) t p)))
+      -- "the blank keeping its sign"
+      value : (v : ℕ) → valueAt c′ v ≡ negatedIf (bitAt x v) (valueAt c v)
+      value v = by (eqb v blank) (eqb-true v blank)
+        where
+          by : (t : Bool) → (t ≡ true → v ≡ blank) → cond t (negℤ (pos unit)) (at c′ v) ≡ negatedIf (bitAt x v) (cond t (negℤ (pos unit)) (at c v))
+          by true f = rw (f refl, still)
+          by false f = e v
+
+      part : (p : ℕ) → p < 3 → sign q p *ℤ valueAt c′ (member (g .members) t p) ≡ sign r p *ℤ valueAt c (member (g .members) t p)
+      part p l = rw (f p l, value (member (g .members) t p)) (turned-both (y t p) (sign r p) (valueAt c (member (g .members) t p)))
 
   rows-turned : (s s′ c c′ : List ℤ) → Exchanged s s′ → ((v : ℕ) → at c′ v ≡ negatedIf (bitAt x v) (at c v)) → Exchanged (rowsOf g s c) (rowsOf g s′ c′)
   rows-turned s s′ c c′ m e t r q h k j f =

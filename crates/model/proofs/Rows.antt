@@ -1,12 +1,14 @@
 -- What holds of each of four rows, of each of three positions, and of three entries 0 or 1; the entries of the lists of an iteration.
 -- Assumes nothing.
-use Rattle.integers.proofs.Prelude.{_≡_, refl, _∙_, List, ℕ, zero, suc, _+_, _*_, _/_, _%_, _<_, arith, decLt, ℤ, pos, natAbs, _*ℤ_, List·getD-eq-default}
+use Rattle.integers.proofs.Prelude.{_≡_, refl, _∙_, Bool, true, false, cond, List, ℕ, zero, suc, _+_, _*_, _/_, _%_, _≤_, _<_}
+use Rattle.integers.proofs.Prelude.{arith, decLt, ne-eqb, eqb, ℤ, pos, natAbs, negℤ, _*ℤ_, List·getD-eq-default}
 use lib.ListN.{replicate}
 use Rattle.integers.proofs.Linear.{abs-mul}
 use Rattle.lists.specs.Tabulated.{tab}
 use Rattle.lists.proofs.Tabulated.{length-tab, getD-tab}
-use Rattle.model.specs.Splitting.{System}
-use Rattle.model.specs.Iteration.{at, row, sign, sumAt, renewed, renewedAt, rowsOf}
+use Rattle.quotient.specs.Quotient.{unit}
+use Rattle.model.specs.Splitting.{System, blank}
+use Rattle.model.specs.Iteration.{at, valueAt, row, sign, sumAt, renewed, renewedAt, rowsOf}
 
 pub four : (P : ℕ → Type 0) → P 0 → P 1 → P 2 → P 3 → (r : ℕ) → r < 4 → P r
 four P a b c d zero h = a
@@ -74,3 +76,14 @@ pub row-renewed : (g : System) (s c : List ℤ) (t r : ℕ) → t < g .triples �
 unfolding rowsOf
 row-renewed g s c t r h l =
     getD-tab (4 * g .triples) (renewedAt (g .members) s c) (4 * t + r) (pos 0) (omega arith) ∙ renewed-at (g .members) s c t r l
+
+-- ---- the value of a member
+pub value-variable : (c : List ℤ) (v : ℕ) → v < blank → valueAt c v ≡ at c v
+value-variable c v h = rw (ne-eqb v blank (λ e. omega arith))
+
+pub value-small : (c : List ℤ) (v : ℕ) → natAbs (at c v) ≤ unit → natAbs (valueAt c v) ≤ unit
+value-small c v h = by (eqb v blank)
+  where
+    by : (t : Bool) → natAbs (cond t (negℤ (pos unit)) (at c v)) ≤ unit
+    by true = omega arith
+    by false = h

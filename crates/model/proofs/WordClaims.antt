@@ -6,11 +6,11 @@ use mathlib.Core.Logic.{_↔_, _⊎_, inl, inr}
 use Rattle.lists.specs.Tabulated.{tab}
 use Rattle.lists.specs.Entries.{total, some, first}
 use Rattle.lists.proofs.Tabulated.{length-tab, getD-tab}
-use Rattle.lists.proofs.Entries.{first-before, first-passes, some-at, none-in}
+use Rattle.lists.proofs.Entries.{first-before, first-passes, some-at, none-in, total-next, total-part}
 use Rattle.model.specs.Causes.{_if_, firstOf}
 use Rattle.model.specs.Code.{Code, turns, tripleCount}
 use Rattle.model.specs.Sound.{SoundChecks, Sound}
-use Rattle.model.specs.Splitting.{triplesOf, triplesFrom, systemOf, member}
+use Rattle.model.specs.Splitting.{blank, triplesOf, triplesFrom, systemOf, member}
 use Rattle.model.specs.Iteration.{at}
 use Rattle.model.specs.Words.{bitAt, bitOf, wordOf, firstUndecided, odd, firstOdd, Outcome, tested, outcome}
 use Rattle.model.specs.Points.{Bits, Codeword, pointOf}
@@ -18,7 +18,7 @@ use Rattle.model.specs.Calls.{unequal, notBinary, wordCauses}
 use Rattle.model.specs.WordClaims.{check, checkSum, Tested, Decided, firstAuxiliary, queued, PointOf}
 use Rattle.model.proofs.Causes.{clear, unless}
 use Rattle.model.proofs.Sound.{sound-at}
-use Rattle.model.proofs.TripleRule.{triple-rule}
+use Rattle.model.proofs.TripleRule.{triple-rule, triples-of-long, few-variables}
 use Rattle.model.proofs.Points.{point, begins, point-even, point-binary}
 
 -- ---- the test
@@ -134,11 +134,11 @@ module _ (n : ℕ) where
   triples-at (c ∷ cs) a s h zero i p l m q =
       let z : a + 0 ≡ a = omega arith in
       let y : 0 + i ≡ i = omega arith in
-      let long = triple-rule n a c (s .0) h .long in
+      let long = triples-of-long c a (s .0 .least) in
       rw (z, y) (List·getD-append (triplesOf c a) (triplesFrom cs (a + turns c)) 0 (3 * i + p) (omega arith))
   triples-at (c ∷ cs) a s h (suc j) i p l m q =
       let T = total tripleCount (take j cs) in
-      let long = triple-rule n a c (s .0) h .long in
+      let long = triples-of-long c a (s .0 .least) in
       let here : 3 * (tripleCount c + T + i) + p ≡ length (triplesOf c a) + (3 * (T + i) + p) = omega arith in
       let there : a + (turns c + total turns (take j cs)) ≡ a + turns c + total turns (take j cs) = omega arith in
       rw (here, there) (getD-append-add (triplesOf c a) (triplesFrom cs (a + turns c)) (3 * (T + i) + p) 0 ∙ triples-at cs (a + turns c) (s .1) (omega arith) j i p (omega arith) m q)
@@ -150,13 +150,16 @@ module _ (n : ℕ) where
 
 -- ---- the point of a codeword
 module _ (k : Code) (s : Sound k) (w : List ℕ) (c : Codeword k w) where
+  few : (j : ℕ) → j < length (k .checks) → firstAuxiliary k j + turns (check k j) ≤ blank
+  few j h = omega (arith, total-next turns (k .checks) j [] h, total-part turns (k .checks) (suc j), few-variables k s)
+
   auxiliary : (j i : ℕ) → j < length (k .checks) → i < turns (check k j)
       → bitAt (pointOf k w) (firstAuxiliary k j + i) ≡ (bitAt (pointOf k w) (getD (queued k j) (2 * i) 0) + bitAt (pointOf k w) (getD (queued k j) (2 * i + 1) 0)) % 2
   unfolding systemOf
   auxiliary j i h l =
       let x : ℕ → ℕ = bitAt (pointOf k w) in
       let t = total tripleCount (take j (k .checks)) + i in
-      let r = triple-rule (k .bits) (firstAuxiliary k j) (check k j) (sound-at (k .bits) (k .checks) (s .checks) j h) (omega arith) in
+      let r = triple-rule (k .bits) (firstAuxiliary k j) (check k j) (sound-at (k .bits) (k .checks) (s .checks) j h) (omega arith) (few j h) in
       let m : (p : ℕ) → p < 3 → member (systemOf k .members) t p ≡ member (triplesOf (check k j) (firstAuxiliary k j)) i p
       = λ p q. triples-at (k .bits) (k .checks) (k .bits) (s .checks) (omega arith) j i p h (omega arith) q in
       let a : member (systemOf k .members) t 0 ≡ getD (queued k j) (2 * i) 0 = m 0 (omega arith) ∙ r .firsts i (omega arith) in

@@ -54,6 +54,8 @@ forms =
     ∷ "5 2\n2 3\n1 1 2 1 1\n3 3\n1 0\n1 0\n1 2\n2 0\n2 0\n1 2 3\n3 4 5\n" gets 0
     -- rows of unequal degrees
     ∷ "4 2  2 4  2 2 2 1  4 3  1 2  1 2  1 2  1 0  1 2 3 4  1 2 3 0" gets 0
+    -- document 02, L6: rows of two bits
+    ∷ "3 2  2 2  1 2 1  2 2  1 0  1 2  2 0  1 2  2 3" gets 0
     ∷ []
 
 -- ---- "Numbers are decimal digits, at most 65,535 in value", and 18 for "text that is not such numbers"
@@ -181,8 +183,8 @@ precedence =
     ∷ "2 1  1 2  1 1  2  1 1  1 3" gets 19
     ∷ "2 1  1 2  1 1  2  1 1  1 2" gets 3
     -- a row of two: with an index above n, which is 19 and not 5; alone
-    ∷ "3 1  1 2  1 1 0  2  1 1 0  1 4" gets 19
-    ∷ "3 1  1 2  1 1 0  2  1 1 0  1 2" gets 4
+    ∷ "3 1  1 1  1 0 0  1  1 0 0  4" gets 19
+    ∷ "3 1  1 1  1 0 0  1  1 0 0  1" gets 4
     -- a bit in no check: with a falling row; alone
     ∷ "4 1  1 3  1 1 1 0  3  1 1 1 0  1 3 2" gets 6
     ∷ "4 1  1 3  1 1 1 0  3  1 1 1 0  1 2 3" gets 8

@@ -1,4 +1,4 @@
--- A code and its sizes (document 01, 'Code records' and 'Splitting a check'). Definitions only.
+-- A code and its sizes (document 01, 'Code records' and 'Splitting a check'; document 02, L6). Definitions only.
 use mathlib.Core.List.{List}
 use Prim.Native.Nat.{ℕ, _+_, _-_}
 use lib.ListN.{length}
@@ -13,7 +13,8 @@ pub record Code : Type 0 where
 abbrev pub turns : List ℕ → ℕ
 turns c = length c - 3
 
--- "A check of degree d yields d − 2 triples and d − 3 auxiliaries": a turn makes one of each, and one triple is left
+-- "A check of degree d yields d − 2 triples and d − 3 auxiliaries": a turn makes one of each, and one triple is left. Of two bits there is no turn:
+-- "one triple and no auxiliary"
 abbrev pub tripleCount : List ℕ → ℕ
 tripleCount c = turns c + 1
 

@@ -1,6 +1,6 @@
--- Document 01, 'One iteration'. Definitions only.
+-- Document 01, 'One iteration', and document 02, L6. Definitions only.
 -- The division is a parameter, so that worked numbers compute; the decoder's is `quotient`.
-use mathlib.Core.Bool.{Bool, true, false}
+use mathlib.Core.Bool.{Bool, true, false, cond}
 use mathlib.Core.List.{List, [], _∷_}
 use Prim.Native.Nat.{ℕ, _+_, _*_, _/_, _%_}
 use lib.Dec.{eqb}
@@ -12,7 +12,7 @@ use Rattle.lists.specs.Tabulated.{tab}
 use Rattle.quotient.specs.Quotient.{unit}
 use Rattle.model.specs.declared.Settings.{Settings}
 use Rattle.model.specs.Causes.{_if_}
-use Rattle.model.specs.Splitting.{System, member}
+use Rattle.model.specs.Splitting.{System, blank, member}
 
 -- an entry of a list, 0 past its end: so "an auxiliary's [cost] is 0"
 abbrev pub at : List ℤ → ℕ → ℤ
@@ -36,9 +36,9 @@ sign r p = at (getD signs r []) p
 unfoldable pub rowSum : ℕ → ℤ → ℤ → ℤ → ℤ
 rowSum r c1 c2 c3 = sign r 0 *ℤ c1 +ℤ sign r 1 *ℤ c2 +ℤ sign r 2 *ℤ c3
 
--- c of the variable v
+-- c of the variable v; document 02, L6: "The blank's c is −U from the start and is never renewed"
 abbrev pub valueAt : List ℤ → ℕ → ℤ
-valueAt c v = at c v
+valueAt c v = cond (eqb v blank) (negℤ (pos unit)) (at c v)
 
 -- the sum of row r of triple t
 abbrev pub sumAt : List ℕ → List ℤ → ℕ → ℕ → ℤ

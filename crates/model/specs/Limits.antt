@@ -9,7 +9,7 @@ mostBits = 4096
 abbrev pub mostChecks : ℕ
 mostChecks = 2048
 
--- "The sum of d − 2 over all checks is at most 8,192."
+-- "The sum of d − 2 over all checks is at most 8,192.", of which document 02, L6, says that a check of two bits "counts as one"
 abbrev pub mostTriples : ℕ
 mostTriples = 8192
 
@@ -21,9 +21,12 @@ mostVariables = mostBits + mostTriples
 abbrev pub mostPlaces : ℕ
 mostPlaces = mostTriples + 2 * mostChecks
 
--- "a one-byte degree d (3 to 32)"
+-- "a one-byte degree d (3 to 32)", of which document 02, L6, says: "Cause 4 now starts below 2"
+abbrev pub baseDegree : ℕ
+baseDegree = 3
+
 abbrev pub leastDegree : ℕ
-leastDegree = 3
+leastDegree = 2
 
 abbrev pub mostDegree : ℕ
 mostDegree = 32

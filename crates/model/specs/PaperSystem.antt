@@ -10,7 +10,7 @@ use lib.Signed.{_≤ℤ_}
 use Rattle.integers.specs.Sum.{sumℕ, sumℤ}
 use Rattle.quotient.specs.Quotient.{unit, quotient}
 use Rattle.model.specs.declared.Settings.{Settings}
-use Rattle.model.specs.Splitting.{System, member}
+use Rattle.model.specs.Splitting.{System, blank, member}
 use Rattle.model.specs.Iteration.{at, sign, sumAt, row, slack, multiplier, _when_, State, iterate}
 use Rattle.model.specs.Run.{settledBy, start}
 use Rattle.model.specs.Words.{bitAt}
@@ -25,13 +25,9 @@ matrix g t r v = sumℤ 3 (λ p. sign r p when eqb (member (g .members) t p) v)
 unfoldable pub times : System → (ℕ → ℤ) → ℕ → ℕ → ℤ
 times g x t r = sumℤ (g .variables) (λ v. matrix g t r v *ℤ x v)
 
--- each triple's variables are variables of the system
-abbrev pub Within : System → Type 0
-Within g = (t p : ℕ) → t < g .triples → p < 3 → member (g .members) t p < g .variables
-
 pub record PaperSystem (g : System) : Type 0 where
-  -- a row of A has its three signs, at the three variables of its triple
-  pub rows : (x : ℕ → ℤ) (t r : ℕ) → t < g .triples → times g x t r ≡ sumℤ 3 (λ p. sign r p *ℤ x (member (g .members) t p))
+  -- a row of A has its three signs, at the three members of its triple; the blank has no column, since its v is 0
+  pub rows : (x : ℕ → ℤ) → x blank ≡ pos 0 → (t r : ℕ) → t < g .triples → times g x t r ≡ sumℤ 3 (λ p. sign r p *ℤ x (member (g .members) t p))
   -- A v ≤ b with b = 0, 0, 0, 2 (equations 8b and 8c): a 0/1 point meets the system exactly when it holds of its entries
   pub points : (p : List ℕ) → Bits (g .variables) p
       → Point g p ↔ ((t r : ℕ) → t < g .triples → r < 4 → times g (λ v. pos (bitAt p v)) t r ≤ℤ right r)

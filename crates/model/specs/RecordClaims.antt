@@ -7,7 +7,7 @@ use mathlib.Core.Logic.{_↔_}
 use Prim.Native.Nat.{ℕ, suc, _<_}
 use lib.Dec.{leb, ltb}
 use lib.ListN.{length, getD}
-use Rattle.model.specs.Limits.{mostBits, mostChecks, mostTriples}
+use Rattle.model.specs.Limits.{mostBits, mostChecks, leastDegree, mostDegree, mostTriples}
 use Rattle.model.specs.Causes.{_if_, firstOf, outside}
 use Rattle.model.specs.Code.{Code, triples}
 use Rattle.model.specs.Records.{codeOf, covered, judge, recordCauses, recordsOf, recordsSize}
@@ -24,7 +24,7 @@ indicesCause n low [] = 0
 indicesCause n low (i ∷ c) = firstOf (5 if leb n i ∷ 6 if ltb i low ∷ indicesCause n (suc i) c ∷ [])
 
 unfoldable pub checkCause : ℕ → List ℕ → ℕ
-checkCause n c = firstOf (4 if outside 3 32 (length c) ∷ indicesCause n 0 c ∷ [])
+checkCause n c = firstOf (4 if outside leastDegree mostDegree (length c) ∷ indicesCause n 0 c ∷ [])
 
 unfoldable pub checksCause : ℕ → List (List ℕ) → ℕ
 checksCause n [] = 0

@@ -14,7 +14,7 @@ abbrev pub Rising : ℕ → ℕ → List ℕ → Type 0
 Rising n low [] = Unit {0}
 Rising n low (i ∷ l) = (low ≤ i) × (i < n) × Rising n (suc i) l
 
--- "a one-byte degree d (3 to 32), then d bit indices …, from 0, strictly rising"
+-- "a one-byte degree d …, then d bit indices …, from 0, strictly rising"; document 02, L6: d from 2 on
 pub record SoundCheck (n : ℕ) (c : List ℕ) : Type 0 where
   pub least : leastDegree ≤ length c
   pub most : length c ≤ mostDegree

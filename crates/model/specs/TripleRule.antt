@@ -1,7 +1,7 @@
--- Document 01, 'Splitting a check', as statements for all degrees together; the proofs are in proofs/TripleRule.antt.
+-- Document 01, 'Splitting a check', and document 02, L6, as statements for all degrees together; the proofs are in proofs/TripleRule.antt.
 use mathlib.Core.Path.{_≡_}
 use mathlib.Core.Bool.{cond}
-use mathlib.Core.List.{List, _++_}
+use mathlib.Core.List.{List, [], _∷_, _++_}
 use Prim.Native.Nat.{ℕ, _+_, _-_, _*_, _≤_, _<_}
 use lib.Dec.{ltb, eqb}
 use lib.ListN.{length, getD}
@@ -9,18 +9,21 @@ use Rattle.lists.specs.Tabulated.{tab}
 use Rattle.lists.specs.Entries.{some, total}
 use Rattle.model.specs.Causes.{_if_}
 use Rattle.model.specs.Code.{Code, turns, tripleCount, variables}
-use Rattle.model.specs.Splitting.{triplesOf, systemOf, member}
+use Rattle.model.specs.Splitting.{blank, waiting, triplesOf, systemOf, member}
 use Rattle.model.specs.Iteration.{occurrences}
 
--- all that ever waits in the queue, in the order in which it comes: the bits of the check, then the auxiliaries from a on
+-- all that ever waits in the queue, in the order in which it comes: what waits at first, then the auxiliaries from a on
 unfoldable pub items : List ℕ → ℕ → List ℕ
-items c a = c ++ tab (turns c) (λ j. a + j)
+items c a = waiting c ++ tab (turns c) (λ j. a + j)
 
 -- of the triples that the check c gives, a being the next auxiliary
 pub record TripleRule (c : List ℕ) (a : ℕ) : Type 0 where
   -- "A check of degree d yields d − 2 triples and d − 3 auxiliaries"
-  pub triples : tripleCount c ≡ length c - 2
+  pub triples : 3 ≤ length c → tripleCount c ≡ length c - 2
   pub auxiliaries : turns c ≡ length c - 3
+  -- a check of two bits "makes one triple and no auxiliary: its two bits, and in third place a blank"; no other check has it
+  pub two : length c ≡ 2 → (tripleCount c ≡ 1) × (turns c ≡ 0) × (triplesOf c a ≡ getD c 0 0 ∷ getD c 1 0 ∷ blank ∷ [])
+  pub no-blank : 3 ≤ length c → (t p : ℕ) → t < tripleCount c → p < 3 → member (triplesOf c a) t p < a + turns c
   pub long : length (triplesOf c a) ≡ 3 * tripleCount c
   -- the closed form: the two items that are next in turn, and the auxiliary that is made of them; at the end, the three that are left
   pub firsts : (t : ℕ) → t < tripleCount c → member (triplesOf c a) t 0 ≡ getD (items c a) (2 * t) 0
@@ -29,7 +32,7 @@ pub record TripleRule (c : List ℕ) (a : ℕ) : Type 0 where
   -- each bit of the check stands in exactly one of its triples, each auxiliary in exactly two
   pub bit-once : (i : ℕ) → i < length c → occurrences (triplesOf c a) (tripleCount c) (getD c i 0) ≡ 1
   pub auxiliary-twice : (j : ℕ) → j < turns c → occurrences (triplesOf c a) (tripleCount c) (a + j) ≡ 2
-  -- three different variables in every triple: they rise
+  -- three different members in every triple: they rise
   pub rising : (t : ℕ) → t < tripleCount c
       → (member (triplesOf c a) t 0 < member (triplesOf c a) t 1) × (member (triplesOf c a) t 1 < member (triplesOf c a) t 2)
 

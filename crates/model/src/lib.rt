@@ -7,7 +7,7 @@ pub const MOST_BITS: usize = 4096;
 
 pub const MOST_CHECKS: usize = 2048;
 
-pub const LEAST_DEGREE: usize = 3;
+pub const LEAST_DEGREE: usize = 2;
 
 pub const MOST_DEGREE: usize = 32;
 

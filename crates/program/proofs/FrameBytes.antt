@@ -5,6 +5,7 @@ use Rattle.integers.proofs.Prelude.{getD-take, getD-drop}
 use native.Mathlib.Nat.{zero-add, suc-add}
 use lib.Seq.{take-nil}
 use Rattle.model.specs.Causes.{_if_, firstOf, short, outside}
+use Rattle.model.specs.Limits.{leastDegree, mostDegree}
 use Rattle.model.specs.Code.{tripleCount}
 use Rattle.model.specs.Records.{twoBytes, numbers, degree, indices, judgeHeader, judgeIndices, judgeCheck}
 use Rattle.program.specs.Frames.{judgeHeldHeader, judgeHeldCheck, settingsOf, judgeSettingsUpTo, judgeSettings, frameSize, costsOf, judgeWhole, judgeFrame}
@@ -115,7 +116,7 @@ abbrev wrong : List ℕ → Bool
 wrong s = not (eqb (twoBytes s) 0x4C43)
 
 abbrev outer : List ℕ → Bool
-outer s = outside 3 32 (degree s)
+outer s = outside leastDegree mostDegree (degree s)
 
 -- the cause in them, and 1 where that is only their end
 abbrev opening : Bool → Bool → ℕ
@@ -140,7 +141,7 @@ module _ (n t : ℕ) (s : List ℕ) (long : 3 ≤ length s) where
       by true w e f = rw (judged true w e f)
       by false true e f = rw (judged false true e f)
       by false false e f =
-          let d = within 3 32 (degree s) f in
+          let d = within leastDegree mostDegree (degree s) f in
           rw (judged false false e f, none-there n (degree s) (drop 3 s) (omega (arith, length-drop 3 s)) (omega (arith, d .0)))
 
   whole-record : (opening (wrong s) (outer s) ≡ 1 → ⊥) → judgeHeldCheck n t s ≡ opening (wrong s) (outer s)
@@ -166,7 +167,7 @@ three-judged n t s h = by (ltb (length s) 3) refl
 
 -- what is known of a check of which these are sound
 pub opened-degree : (n t : ℕ) (b : List ℕ) → Opened n t b → (3 ≤ degree b) × (degree b ≤ 32)
-opened-degree n t b o = within 3 32 (degree b) (by (wrong b) (outer b) (sym (three-bytes n t b (omega (arith, o .three)) (o .three)) ∙ o .cut))
+opened-degree n t b o = within leastDegree mostDegree (degree b) (by (wrong b) (outer b) (sym (three-bytes n t b (omega (arith, o .three)) (o .three)) ∙ o .cut))
   where
     by : (v w : Bool) → opening v w ≡ 1 → w ≡ false
     by true w e = absurd (omega arith)
