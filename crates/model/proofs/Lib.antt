@@ -10,6 +10,7 @@ pub mod Rows
 pub mod Runs
 pub mod Queue
 pub mod TripleRule
+pub mod BaseCodes
 pub mod Agreement
 pub mod AlistCode
 pub mod AlistTrips

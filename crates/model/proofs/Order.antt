@@ -8,7 +8,7 @@ use Rattle.model.specs.Limits.{mostBits, mostChecks, leastDegree, mostDe
 use Rattle.model.specs.Causes.{_if_, firstOf, short, outside, accepted}
 use Rattle.model.specs.Code.{Code, triples}
 use Rattle.model.specs.Records.{twoBytes, bitCount, checkCount, degree, afterCheck, afterChecks, codeOf, covered}
-use Rattle.model.specs.Records.{headerCauses, indexCauses, degreeCauses, wholeCauses, indicesCauses, checkCauses, checksCauses, recordCauses}
+use Rattle.model.specs.Records.{headerCauses, indexCauses, degreeCauses, wholeCauses, indicesCauses, checkCausesFrom, checksCausesFrom, recordCausesFrom, recordCauses}
 use Rattle.model.specs.Records.{judgeHeader, judgeIndices, judgeCheck, judgeChecks, judge}
 use Rattle.model.specs.Words.{wordOf, firstUndecided, firstOdd, Outcome, tested, outcome}
 use Rattle.model.specs.Order.{oddCauses, runCauses, rank, follows, Follows, Ordered, oneToNine}
@@ -149,21 +149,21 @@ indices-order n zero low s = refl
 indices-order n (suc d) low s =
     rw (indices-order n d (suc (twoBytes s)) (drop 2 s)) (first-end (indexCauses n low s) (indicesCauses n d (suc (twoBytes s)) (drop 2 s)))
 
-check-order : (n : ℕ) (s : List ℕ) → judgeCheck n s ≡ firstOf (checkCauses n s)
+check-order : (n : ℕ) (s : List ℕ) → judgeCheck n s ≡ firstOf (checkCausesFrom leastDegree n s)
 unfolding judgeCheck
 check-order n s = rw (indices-order n (degree s) 0 (drop 3 s)) (first-end (degreeCauses s) (indicesCauses n (degree s) 0 (drop 3 s)))
 
-checks-order : (n m : ℕ) (s : List ℕ) → judgeChecks n m s ≡ firstOf (checksCauses n m s)
-unfolding judgeChecks checksCauses
+checks-order : (n m : ℕ) (s : List ℕ) → judgeChecks n m s ≡ firstOf (checksCausesFrom leastDegree n m s)
+unfolding judgeChecks checksCausesFrom
 checks-order n zero s = refl
 checks-order n (suc m) s =
-    let more = checksCauses n m (afterCheck s) in
-    rw (check-order n s, checks-order n m (afterCheck s)) (first-in (checkCauses n s) (firstOf more ∷ []) ∙ first-end (checkCauses n s) more)
+    let more = checksCausesFrom leastDegree n m (afterCheck s) in
+    rw (check-order n s, checks-order n m (afterCheck s)) (first-in (checkCausesFrom leastDegree n s) (firstOf more ∷ []) ∙ first-end (checkCausesFrom leastDegree n s) more)
 
 pub judge-order : (s : List ℕ) → judge s ≡ firstOf (recordCauses s)
-unfolding judge judgeHeader recordCauses
+unfolding judge judgeHeader recordCausesFrom
 judge-order s =
-    let checks = checksCauses (bitCount s) (checkCount s) (drop 6 s) in
+    let checks = checksCausesFrom leastDegree (bitCount s) (checkCount s) (drop 6 s) in
     let rest = firstOf checks ∷ wholeCauses s in
     rw (checks-order (bitCount s) (checkCount s) (drop 6 s))
     (first-in (headerCauses s) rest ∙ sym (first-end (headerCauses s) rest)
@@ -181,25 +181,25 @@ module _ (more : List ℕ) where
       both table (indexCauses n low s) _ (listed table ((1, short 2 s) ∷ (5, leb n (twoBytes s)) ∷ (6, ltb (twoBytes s) low) ∷ []) refl)
       (indices-listed n d (suc (twoBytes s)) (drop 2 s))
 
-  checks-listed : (n m : ℕ) (s : List ℕ) → Listed table (checksCauses n m s)
-  unfolding checksCauses
+  checks-listed : (n m : ℕ) (s : List ℕ) → Listed table (checksCausesFrom leastDegree n m s)
+  unfolding checksCausesFrom
   checks-listed n zero s = listed table [] refl
   checks-listed n (suc m) s =
-      both table (checkCauses n s) (checksCauses n m (afterCheck s))
+      both table (checkCausesFrom leastDegree n s) (checksCausesFrom leastDegree n m (afterCheck s))
       (both table (degreeCauses s) _
       (listed table ((1, short 2 s) ∷ (2, not (eqb (twoBytes s) 0x4C43)) ∷ (1, short 3 s) ∷ (4, outside leastDegree mostDegree (degree s)) ∷ []) refl)
       (indices-listed n (degree s) 0 (drop 3 s)))
       (checks-listed n m (afterCheck s))
 
   records-listed : (s : List ℕ) → Listed table (recordCauses s)
-  unfolding recordCauses
+  unfolding recordCausesFrom
   records-listed s =
       both table (headerCauses s) _
       (listed table
       ((1, short 2 s) ∷ (2, not (eqb (twoBytes s) 0x4C48))
       ∷ (1, short 4 s) ∷ (3, outside 3 mostBits (bitCount s))
       ∷ (1, short 6 s) ∷ (3, outside 1 mostChecks (checkCount s)) ∷ []) refl)
-      (both table (checksCauses (bitCount s) (checkCount s) (drop 6 s)) _ (checks-listed (bitCount s) (checkCount s) (drop 6 s)) (listed table (whole s) refl))
+      (both table (checksCausesFrom leastDegree (bitCount s) (checkCount s) (drop 6 s)) _ (checks-listed (bitCount s) (checkCount s) (drop 6 s)) (listed table (whole s) refl))
 
   -- an entry that reads records, with the causes l after them
   pub after-records : (b l : List ℕ) (number : ℕ) → Listed table l → number ≡ firstOf (judge b ∷ l) → Ordered (recordCauses b ++ l) table number

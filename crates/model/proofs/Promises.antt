@@ -18,7 +18,7 @@ use Rattle.model.specs.Words.{firstOdd, Outcome}
 use Rattle.model.specs.Points.{Bits, Codeword, pointOf}
 use Rattle.model.specs.Reflection.{reflect, sumOfWords}
 use Rattle.model.specs.Channel.{finite, inRange, product, costOf}
-use Rattle.model.specs.Calls.{unequal, forbidden, notBinary, ReaderAnswer, reader, Split, splitter, wordCauses, codewordTest}
+use Rattle.model.specs.Calls.{unequal, forbidden, notBinary, ReaderAnswer, reader, Split, splitterCauses, splitter, wordCauses, codewordTest}
 use Rattle.model.specs.Calls.{Extended, extensionCauses, extension, Lists, Decoded, noRoom, decoderCause, decoder, Costs, frontCauses, channelFront, reflectorCauses, reflector}
 use Rattle.model.specs.Order.{oddCauses, Ordered, oneToNine}
 use Rattle.model.specs.Told.{Refuses}
@@ -29,9 +29,10 @@ use Rattle.model.specs.DecoderClaims.{Refused, Ran, Iterated, Bounded, A
 use Rattle.model.specs.Promises.{ReaderCall, SplitterCall, FrontCall, ReflectorCall, AdderCall, TestCall, ExtensionCall, DecoderCall}
 use Rattle.model.proofs.Causes.{stays, clear, unless}
 use Rattle.model.proofs.Accepted as Accepted
+use Rattle.model.proofs.BaseCodes.{as-in-base}
 use Rattle.model.proofs.Order.{listed, whole, follow, ordered, refuses, after-records, records-ordered, word-order}
 use Rattle.model.proofs.RecordClaims.{record-claims}
-use Rattle.model.proofs.WordClaims.{point-claims}
+use Rattle.model.proofs.WordClaims.{splits, point-claims}
 use Rattle.model.proofs.WordCalls.{answer-odd, answer-place, none-listed, test-is, test-exactly}
 use Rattle.model.proofs.WordCalls.{no-room, room-listed, extension-is, extension-exactly, point-taken}
 use Rattle.model.proofs.Points.{points}
@@ -58,6 +59,7 @@ reader-call b a bytes meets = subst (ReaderCall b) (sym meets) (record {
   );
   refused = λ c h. rw h;
   read = λ h. rw h;
+  base-code = as-in-base b;
 })
 
 -- the number of a refused code is a refusal's
@@ -77,6 +79,8 @@ splitter-call b ts cs a meets =
       follows = follow (whole b ++ ((10, none) ∷ [])) refl;
       refused = λ c h. rw h (refl, refl);
       split = λ h. rw h (refl, refl);
+      splits = λ h. splits (codeOf b) (Accepted.accepted b (clear (judge b ∷ splitterCauses (codeOf b) ts cs) h .0));
+      base-code = as-in-base b;
     })
 
 -- ---- the channel front
@@ -249,6 +253,7 @@ module _ (b : List ℕ) (o : Settings) (costs : List ℤ) (l : Lists) (d : Decod
     iterated = λ h. subst (Iterated b o costs l) (sym meets) (iterated b o costs l h);
     bounded = λ h. subst (Bounded b o costs) (sym meets) (bounded b o costs l h (small h));
     as-before = λ h. subst (AsBefore b o costs l) (sym meets) (Calls.as-before b o costs l h);
+    base-code = as-in-base b;
     published = λ h. published b (Calls.sound b o costs l h) o costs (Calls.settings-allowed b o costs l h);
     demand-3 = Demand3.demand-3 b;
     reflected = reflected;

@@ -6,53 +6,61 @@ use native.Mathlib.Nat.{mul-pos, zero-lt-suc}
 use Rattle.lists.specs.Entries.{some}
 use Rattle.quotient.specs.Quotient.{quotient}
 use Rattle.model.specs.declared.Settings.{Settings}
-use Rattle.model.specs.Code.{triples}
+use Rattle.model.specs.Code.{Code, triples, variables}
 use Rattle.model.specs.Records.{twoBytes, numbers, checksIn, afterChecks, codeOf, judgeHeader, judgeIndices, judgeCheck, judgeChecks, covered, judge}
 use Rattle.model.specs.Splitting.{queue, triplesFrom, systemOf}
 use Rattle.model.specs.Iteration.{sign, rowSum, share, sumOf, occurrences, sumsOf, countsOf, valuesOf, rowsOf, iterate}
 use Rattle.model.specs.Run.{changes, settledBy, start, after, runFrom, run}
 use Rattle.model.specs.Words.{wordOf, firstUndecided, firstOdd, tested, outcome}
-use Rattle.model.specs.Calls.{outOfRange, unequal, forbidden, Lists, Decoded, noRoom, decoderCauseUpTo, decoderUpTo, decodedBy, decoder, reader}
+use Rattle.model.specs.Calls.{outOfRange, unequal, forbidden, Lists, HasRoom, Decoded, noRoom, decoderCauseUpTo, decoderUpTo, decodedBy, decoder, reader}
 use Rattle.model.specs.Table.{by-hand}
-use Rattle.model.specs.WholeCalls.{listed, Room, listedSettings, WholeCalls, RunEdges, ChannelEdges}
+use Rattle.model.specs.WholeCalls.{listed, Room, pairs, pairs-by-hand, single, listedSettings, WholeCalls, RunEdges, ChannelEdges}
 use Rattle.model.specs.Channel.{scaleInRange, floorInRange, inRange}
 use Rattle.model.proofs.Floats.{above-zero, below-zero}
 use Rattle.model.proofs.Causes.{in-range}
 use Rattle.model.proofs.Worked.{computes, quotient-computes}
 
-room : (l : Lists) → Room l → noRoom (codeOf listed) l ≡ false
-unfolding codeOf twoBytes numbers checksIn
-room l r =
+-- of a code of T triples, N variables and n bits
+room : (k : Code) (T N n : ℕ) (l : Lists) → triples k ≡ T → variables k ≡ N → k .bits ≡ n → HasRoom T N n l → noRoom k l ≡ false
+room k T N n l t v b r =
     rw (
-      le-ltb (length (l .triples)) 3 (r .triples),
-      le-ltb (length (l .counts)) 3 (r .counts),
-      le-ltb (length (l .sums)) 3 (r .sums),
-      le-ltb (length (l .values)) 3 (r .values),
-      le-ltb (length (l .rows)) 4 (r .rows),
-      le-ltb (length (l .word)) 3 (r .word),
+      t,
+      v,
+      b,
+      le-ltb (length (l .triples)) (3 * T) (r .triples),
+      le-ltb (length (l .counts)) N (r .counts),
+      le-ltb (length (l .sums)) N (r .sums),
+      le-ltb (length (l .values)) N (r .values),
+      le-ltb (length (l .rows)) (4 * T) (r .rows),
+      le-ltb (length (l .word)) n (r .word),
     )
 
 -- a call over another division
-abbrev callBy : (ℤ → ℤ → ℤ) → Settings → List ℤ → Lists → Decoded
-callBy div o costs l = decodedBy (codeOf listed) (run div (systemOf (codeOf listed)) o costs) l
+abbrev callBy : List ℕ → (ℤ → ℤ → ℤ) → Settings → List ℤ → Lists → Decoded
+callBy b div o costs l = decodedBy (codeOf b) (run div (systemOf (codeOf b)) o costs) l
 
-called : (o : Settings) (costs : List ℤ) (l : Lists) → Room l → outOfRange o ≡ false → unequal costs 3 ≡ false → some forbidden costs ≡ false
-    → decoder listed o costs l ≡ callBy computes o costs l
-unfolding decoderUpTo decoderCauseUpTo judge judgeHeader judgeChecks judgeCheck judgeIndices afterChecks covered codeOf twoBytes numbers checksIn
-called o costs l r d e f =
+called : (b : List ℕ) (o : Settings) (costs : List ℤ) (l : Lists) → judge b ≡ 0 → noRoom (codeOf b) l ≡ false
+    → outOfRange o ≡ false → unequal costs (codeOf b .bits) ≡ false → some forbidden costs ≡ false → decoder b o costs l ≡ callBy b computes o costs l
+unfolding decoderUpTo decoderCauseUpTo
+called b o costs l j r d e f =
     let q : quotient ≡ computes = fun-ext (λ n. fun-ext (quotient-computes n)) in
-    rw (d, e, f, room l r, q)
+    rw (j, d, e, f, r, q)
 
 pub whole-calls : WholeCalls
 unfolding decoderUpTo decoderCauseUpTo reader decodedBy judge judgeHeader judgeChecks judgeCheck judgeIndices afterChecks covered codeOf twoBytes numbers checksIn queue triplesFrom systemOf sign rowSum share sumOf occurrences sumsOf countsOf valuesOf rowsOf iterate changes settledBy start after runFrom wordOf firstUndecided firstOdd tested outcome
 whole-calls = record {
   code = refl;
-  undecided = λ l r. called (listedSettings 2) (pos 0 ∷ pos 0 ∷ pos 0 ∷ []) l r refl refl refl;
-  odd = λ l r. called (listedSettings 2) by-hand l r refl refl refl;
-  word = λ l r. called (listedSettings 2) (pos 20000 ∷ pos 20000 ∷ pos 20000 ∷ []) l r refl refl refl;
-  longest = λ l r. called (listedSettings 4000) by-hand l r refl refl refl;
+  undecided = λ l r. called listed (listedSettings 2) (pos 0 ∷ pos 0 ∷ pos 0 ∷ []) l refl (has l r) refl refl refl;
+  odd = λ l r. called listed (listedSettings 2) by-hand l refl (has l r) refl refl refl;
+  word = λ l r. called listed (listedSettings 2) (pos 20000 ∷ pos 20000 ∷ pos 20000 ∷ []) l refl (has l r) refl refl refl;
+  longest = λ l r. called listed (listedSettings 4000) by-hand l refl (has l r) refl refl refl;
+  two-bits = λ l r. called pairs (listedSettings 2) pairs-by-hand l refl (room (codeOf pairs) 2 3 3 l refl refl refl r) refl refl refl;
+  one-bit = refl;
   too-long = λ l. refl;
 }
+  where
+    has : (l : Lists) → Room l → noRoom (codeOf listed) l ≡ false
+    has l r = room (codeOf listed) 1 3 3 l refl refl refl r
 
 -- ---- settings
 pub run-edges : RunEdges

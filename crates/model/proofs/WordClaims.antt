@@ -15,10 +15,11 @@ use Rattle.model.specs.Iteration.{at}
 use Rattle.model.specs.Words.{bitAt, bitOf, wordOf, firstUndecided, odd, firstOdd, Outcome, tested, outcome}
 use Rattle.model.specs.Points.{Bits, Codeword, pointOf}
 use Rattle.model.specs.Calls.{unequal, notBinary, wordCauses}
-use Rattle.model.specs.WordClaims.{check, checkSum, Tested, Decided, firstAuxiliary, queued, PointOf}
+use Rattle.model.specs.TripleRule.{check, firstAuxiliary, Splits}
+use Rattle.model.specs.WordClaims.{checkSum, Tested, Decided, queued, PointOf}
 use Rattle.model.proofs.Causes.{clear, unless}
 use Rattle.model.proofs.Sound.{sound-at}
-use Rattle.model.proofs.TripleRule.{triple-rule, triples-of-long, few-variables}
+use Rattle.model.proofs.TripleRule.{triple-rule, triples-of-long, few-variables, members, counts}
 use Rattle.model.proofs.Points.{point, begins, point-even, point-binary}
 
 -- ---- the test
@@ -148,20 +149,28 @@ module _ (n : ℕ) where
   triples-below (c ∷ cs) zero i l m = omega arith
   triples-below (c ∷ cs) (suc j) i l m = omega (arith, triples-below cs j i (omega arith) m)
 
+module _ (k : Code) (s : Sound k) where
+  pub splits : Splits k
+  unfolding systemOf
+  splits = record {
+    rule = λ j h. triple-rule (k .bits) (firstAuxiliary k j) (check k j) (sound-at (k .bits) (k .checks) (s .checks) j h) (omega arith)
+        (omega (arith, total-next turns (k .checks) j [] h, total-part turns (k .checks) (suc j), few-variables k s));
+    placed = triples-at (k .bits) (k .checks) (k .bits) (s .checks) (omega arith);
+    members = members k s;
+    counts = counts k s;
+  }
+
 -- ---- the point of a codeword
 module _ (k : Code) (s : Sound k) (w : List ℕ) (c : Codeword k w) where
-  few : (j : ℕ) → j < length (k .checks) → firstAuxiliary k j + turns (check k j) ≤ blank
-  few j h = omega (arith, total-next turns (k .checks) j [] h, total-part turns (k .checks) (suc j), few-variables k s)
-
   auxiliary : (j i : ℕ) → j < length (k .checks) → i < turns (check k j)
       → bitAt (pointOf k w) (firstAuxiliary k j + i) ≡ (bitAt (pointOf k w) (getD (queued k j) (2 * i) 0) + bitAt (pointOf k w) (getD (queued k j) (2 * i + 1) 0)) % 2
   unfolding systemOf
   auxiliary j i h l =
       let x : ℕ → ℕ = bitAt (pointOf k w) in
       let t = total tripleCount (take j (k .checks)) + i in
-      let r = triple-rule (k .bits) (firstAuxiliary k j) (check k j) (sound-at (k .bits) (k .checks) (s .checks) j h) (omega arith) (few j h) in
+      let r = splits k s .rule j h in
       let m : (p : ℕ) → p < 3 → member (systemOf k .members) t p ≡ member (triplesOf (check k j) (firstAuxiliary k j)) i p
-      = λ p q. triples-at (k .bits) (k .checks) (k .bits) (s .checks) (omega arith) j i p h (omega arith) q in
+      = λ p q. splits k s .placed j i p h (omega arith) q in
       let a : member (systemOf k .members) t 0 ≡ getD (queued k j) (2 * i) 0 = m 0 (omega arith) ∙ r .firsts i (omega arith) in
       let b : member (systemOf k .members) t 1 ≡ getD (queued k j) (2 * i + 1) 0 = m 1 (omega arith) ∙ r .seconds i (omega arith) in
       let z : member (systemOf k .members) t 2 ≡ firstAuxiliary k j + i

@@ -21,6 +21,7 @@ pub mod Alist
 pub mod AlistClaims
 pub mod AlistTexts
 pub mod TripleRule
+pub mod BaseCodes
 pub mod Bounds
 pub mod Claims
 pub mod Paper

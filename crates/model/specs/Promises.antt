@@ -26,6 +26,8 @@ use Rattle.model.specs.Channel.{product, costOf}
 use Rattle.model.specs.Calls.{ReaderAnswer, reader, Split, splitterCauses, splitter, wordCauses, codewordTest, Extended, extensionCauses, extension}
 use Rattle.model.specs.Calls.{Lists, Decoded, noRoom, decoderCauses, decoderCause, decoder, Costs, frontCauses, channelFront, reflectorCauses, reflector}
 use Rattle.model.specs.Order.{oddCauses, runCauses, Follows, Ordered, oneToNine}
+use Rattle.model.specs.TripleRule.{Splits}
+use Rattle.model.specs.BaseCodes.{NoPairs, AsInBase}
 use Rattle.model.specs.WordClaims.{Tested, PointOf}
 use Rattle.model.specs.ChannelClaims.{Costed}
 use Rattle.model.specs.Claims.{Demand3}
@@ -42,6 +44,8 @@ pub record ReaderCall (b : List ℕ) (a : ReaderAnswer) : Type 0 where
   pub refused : (c : ℕ) → a .number ≡ suc c → a ≡ record { number = suc c; bits = 0; checks = 0; triples = 0 }
   pub read : a .number ≡ 0
       → a ≡ record { number = 0; bits = codeOf b .bits; checks = length (codeOf b .checks); triples = triples (codeOf b) }
+  -- document 02, L6: without checks of two bits the causes, and all that is made of the code, are what they were
+  pub base-code : NoPairs (codeOf b) → AsInBase b
 
 -- ---- the splitting: a is its number and the lists that were ts and cs
 pub record SplitterCall (b ts cs : List ℕ) (a : Split) : Type 0 where
@@ -50,6 +54,9 @@ pub record SplitterCall (b ts cs : List ℕ) (a : Split) : Type 0 where
   pub follows : Follows 0 (wholeCauses b ++ splitterCauses (codeOf b) ts cs)
   pub refused : (c : ℕ) → a .number ≡ suc c → (a .triples ≡ ts) × (a .counts ≡ cs)
   pub split : a .number ≡ 0 → (a .triples ≡ written (systemOf (codeOf b) .members) ts) × (a .counts ≡ written (countsOf (systemOf (codeOf b))) cs)
+  -- they are the triples of the rule, check by check, and how often each variable stands in them
+  pub splits : a .number ≡ 0 → Splits (codeOf b)
+  pub base-code : NoPairs (codeOf b) → AsInBase b
 
 -- ---- the channel front: a is its number and the list that was old
 pub record FrontCall (setting : declared.Channel) (samples : List Float) (old : List ℤ) (a : Costs) : Type 0 where
@@ -152,6 +159,7 @@ pub record DecoderCall (b : List ℕ) (o : Settings) (costs : List ℤ) (l : Lis
   pub bounded : decoderCause b o costs l ≡ 0 → Bounded b o costs d
   pub published : decoderCause b o costs l ≡ 0 → Published b o costs
   pub as-before : o .limit ≤ baseIterations → AsBefore b o costs l d
+  pub base-code : NoPairs (codeOf b) → AsInBase b
   -- demand 3 of the code, and of this call and a second one, which gave e, with the costs that w reflects and lists m of its own that have the room
   pub demand-3 : judge b ≡ 0 → Demand3 (codeOf b)
   pub reflected : decoderCause b o costs l ≡ 0 → (w : List ℕ) → Codeword (codeOf b) w → (m : Lists) → noRoom (codeOf b) m ≡ false

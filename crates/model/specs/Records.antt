@@ -75,11 +75,14 @@ unfoldable pub judgeIndices : ℕ → ℕ → ℕ → List ℕ → ℕ
 judgeIndices n zero low s = 0
 judgeIndices n (suc d) low s = firstOf (indexCauses n low s ++ (judgeIndices n d (suc (twoBytes s)) (drop 2 s) ∷ []))
 
--- of a check record, before its indices
-abbrev pub degreeCauses : List ℕ → List ℕ
-degreeCauses s =
+-- of a check record, before its indices; over any least degree, so that document 02, L6, which moves it, can be compared with document 01
+abbrev pub degreeCausesFrom : ℕ → List ℕ → List ℕ
+degreeCausesFrom least s =
     1 if short 2 s ∷ 2 if not (eqb (twoBytes s) 0x4C43) ∷
-    1 if short 3 s ∷ 4 if outside leastDegree mostDegree (degree s) ∷ []
+    1 if short 3 s ∷ 4 if outside least mostDegree (degree s) ∷ []
+
+abbrev pub degreeCauses : List ℕ → List ℕ
+degreeCauses s = degreeCausesFrom leastDegree s
 
 unfoldable pub judgeCheck : ℕ → List ℕ → ℕ
 judgeCheck n s = firstOf (degreeCauses s ++ (judgeIndices n (degree s) 0 (drop 3 s) ∷ []))
@@ -107,15 +110,19 @@ unfoldable pub indicesCauses : ℕ → ℕ → ℕ → List ℕ → List ℕ
 indicesCauses n zero low s = []
 indicesCauses n (suc d) low s = indexCauses n low s ++ indicesCauses n d (suc (twoBytes s)) (drop 2 s)
 
-abbrev pub checkCauses : ℕ → List ℕ → List ℕ
-checkCauses n s = degreeCauses s ++ indicesCauses n (degree s) 0 (drop 3 s)
+module _ (least : ℕ) where
+  abbrev pub checkCausesFrom : ℕ → List ℕ → List ℕ
+  checkCausesFrom n s = degreeCausesFrom least s ++ indicesCauses n (degree s) 0 (drop 3 s)
 
-unfoldable pub checksCauses : ℕ → ℕ → List ℕ → List ℕ
-checksCauses n zero s = []
-checksCauses n (suc m) s = checkCauses n s ++ checksCauses n m (afterCheck s)
+  unfoldable pub checksCausesFrom : ℕ → ℕ → List ℕ → List ℕ
+  checksCausesFrom n zero s = []
+  checksCausesFrom n (suc m) s = checkCausesFrom n s ++ checksCausesFrom n m (afterCheck s)
 
-unfoldable pub recordCauses : List ℕ → List ℕ
-recordCauses s = headerCauses s ++ (checksCauses (bitCount s) (checkCount s) (drop 6 s) ++ wholeCauses s)
+  unfoldable pub recordCausesFrom : List ℕ → List ℕ
+  recordCausesFrom s = headerCauses s ++ (checksCausesFrom (bitCount s) (checkCount s) (drop 6 s) ++ wholeCauses s)
+
+abbrev pub recordCauses : List ℕ → List ℕ
+recordCauses s = recordCausesFrom leastDegree s
 
 -- ---- the records of a code
 -- "Two-byte numbers have the high byte first."

@@ -4,12 +4,12 @@ use mathlib.Core.Bool.{cond}
 use mathlib.Core.List.{List, [], _∷_, _++_}
 use Prim.Native.Nat.{ℕ, _+_, _-_, _*_, _≤_, _<_}
 use lib.Dec.{ltb, eqb}
-use lib.ListN.{length, getD}
+use lib.ListN.{length, getD, take}
 use Rattle.lists.specs.Tabulated.{tab}
 use Rattle.lists.specs.Entries.{some, total}
 use Rattle.model.specs.Causes.{_if_}
 use Rattle.model.specs.Code.{Code, turns, tripleCount, variables}
-use Rattle.model.specs.Splitting.{blank, waiting, triplesOf, systemOf, member}
+use Rattle.model.specs.Splitting.{blank, waiting, triplesOf, systemOf, member, Members}
 use Rattle.model.specs.Iteration.{occurrences}
 
 -- all that ever waits in the queue, in the order in which it comes: what waits at first, then the auxiliaries from a on
@@ -36,6 +36,16 @@ pub record TripleRule (c : List ℕ) (a : ℕ) : Type 0 where
   pub rising : (t : ℕ) → t < tripleCount c
       → (member (triplesOf c a) t 0 < member (triplesOf c a) t 1) × (member (triplesOf c a) t 1 < member (triplesOf c a) t 2)
 
+-- ---- of a whole code: check j, its first auxiliary and its first triple: "Checks go in record order; auxiliaries are numbered n, n + 1, on."
+abbrev pub check : Code → ℕ → List ℕ
+check k j = getD (k .checks) j []
+
+abbrev pub firstAuxiliary : Code → ℕ → ℕ
+firstAuxiliary k j = k .bits + total turns (take j (k .checks))
+
+abbrev pub firstTriple : Code → ℕ → ℕ
+firstTriple k j = total tripleCount (take j (k .checks))
+
 -- how often each variable of a code stands in its triples
 abbrev pub standing : Code → ℕ → ℕ
 standing k v = occurrences (systemOf k .members) (systemOf k .triples) v
@@ -44,3 +54,11 @@ pub record Counts (k : Code) : Type 0 where
   -- a bit as often as there are checks that have it
   pub bits : (b : ℕ) → b < k .bits → standing k b ≡ total (λ c. 1 if some (eqb b) c) (k .checks)
   pub auxiliaries : (v : ℕ) → k .bits ≤ v → v < variables k → standing k v ≡ 2
+
+pub record Splits (k : Code) : Type 0 where
+  -- the rule holds of every check, of two bits as of more, and its triples stand in the list in their order
+  pub rule : (j : ℕ) → j < length (k .checks) → TripleRule (check k j) (firstAuxiliary k j)
+  pub placed : (j i p : ℕ) → j < length (k .checks) → i < tripleCount (check k j) → p < 3
+      → member (systemOf k .members) (firstTriple k j + i) p ≡ member (triplesOf (check k j) (firstAuxiliary k j)) i p
+  pub members : Members (systemOf k .members) (variables k)
+  pub counts : Counts k

@@ -1,5 +1,5 @@
--- Document 01, 'The frame program' and 'Numbers by hand': the three listed frames as whole calls of the decoder on bytes; and the ends of the
--- ranges of settings. Statements only; the proofs are in proofs/WholeCalls.antt.
+-- Document 01, 'The frame program' and 'Numbers by hand': the three listed frames as whole calls of the decoder on bytes; a call with checks of two bits; and
+-- the ends of the ranges of settings. Statements only; the proofs are in proofs/WholeCalls.antt.
 use mathlib.Core.Path.{_≡_}
 use mathlib.Core.Bool.{Bool, true, false, _&&_}
 use mathlib.Core.Logic.{_↔_}
@@ -33,7 +33,17 @@ leaves l S c s w = record {
   word = w;
 }
 
--- its settings, W = 256, A = 0 and X = 0, with this K
+-- document 02, L6: n = 3 with the checks (0,1) and (1,2), costs for it, and n = 3 with a check of one bit
+abbrev pub pairs : List ℕ
+pairs = 0x4C ∷ 0x48 ∷ 0 ∷ 3 ∷ 0 ∷ 2 ∷ 0x4C ∷ 0x43 ∷ 2 ∷ 0 ∷ 0 ∷ 0 ∷ 1 ∷ 0x4C ∷ 0x43 ∷ 2 ∷ 0 ∷ 1 ∷ 0 ∷ 2 ∷ []
+
+abbrev pub pairs-by-hand : List ℤ
+pairs-by-hand = pos 20000 ∷ (− 8000) ∷ pos 5000 ∷ []
+
+abbrev pub single : List ℕ
+single = 0x4C ∷ 0x48 ∷ 0 ∷ 3 ∷ 0 ∷ 1 ∷ 0x4C ∷ 0x43 ∷ 1 ∷ 0 ∷ 0 ∷ []
+
+-- the settings, W = 256, A = 0 and X = 0, with this K
 abbrev pub listedSettings : ℕ → Settings
 listedSettings limit = record { weight = 256; ratio = 0; limit = limit; tolerance = 0 }
 
@@ -61,6 +71,20 @@ pub record WholeCalls : Type 0 where
     lists = leaves l (pos 49504 ∷ pos 49504 ∷ pos 81568 ∷ []) ((− 16384) ∷ (− 16384) ∷ (− 16384) ∷ [])
         (pos 0 ∷ pos 0 ∷ pos 16032 ∷ (− 65536) ∷ []) (written (0 ∷ 0 ∷ 0 ∷ []) (l .word));
   }
+  -- document 02, L6: two triples with the blank in third place and no auxiliary; two iterations by hand, the second with c = −62.5 for bit 1
+  pub two-bits : (l : Lists) → HasRoom 2 3 3 l → decoder pairs (listedSettings 2) pairs-by-hand l ≡ record {
+    answer = record { number = 0; place = 0; k = 2; settled = 0 };
+    lists = record {
+      triples = written (0 ∷ 1 ∷ 65535 ∷ 1 ∷ 2 ∷ 65535 ∷ []) (l .triples);
+      counts = written (1 ∷ 2 ∷ 1 ∷ []) (l .counts);
+      sums = written (pos 8000 ∷ pos 8500 ∷ pos 500 ∷ []) (l .sums);
+      values = written ((− 7000) ∷ (− 63) ∷ (− 1375) ∷ []) (l .values);
+      rows = written ((− 6937) ∷ pos 12937 ∷ (− 25705) ∷ (− 39831) ∷ pos 3562 ∷ (− 1312) ∷ (− 31330) ∷ (− 34206) ∷ []) (l .rows);
+      word = written (0 ∷ 0 ∷ 0 ∷ []) (l .word);
+    };
+  }
+  -- "Cause 4 now starts below 2."
+  pub one-bit : reader single ≡ record { number = 4; bits = 0; checks = 0; triples = 0 }
   pub too-long : (l : Lists) → decoder listed (listedSettings 4001) by-hand l ≡ record {
     answer = record { number = 11; place = 0; k = 0; settled = 0 };
     lists = l;

@@ -2,7 +2,7 @@
 -- codewords. Statements only; the proofs are in proofs/WordClaims.antt.
 use mathlib.Core.Path.{_≡_}
 use mathlib.Core.Logic.{_↔_, _⊎_}
-use mathlib.Core.List.{List, []}
+use mathlib.Core.List.{List}
 use Prim.Native.Nat.{ℕ, _+_, _*_, _%_, _<_}
 use lib.IntN.{ℤ, pos}
 use lib.ListN.{length, getD, take}
@@ -10,15 +10,12 @@ use lib.Signed.{_<ℤ_}
 use Rattle.lists.specs.Entries.{total}
 use Rattle.model.specs.Code.{Code, turns}
 use Rattle.model.specs.Splitting.{systemOf}
-use Rattle.model.specs.TripleRule.{items}
+use Rattle.model.specs.TripleRule.{items, check, firstAuxiliary}
 use Rattle.model.specs.Iteration.{at}
 use Rattle.model.specs.Words.{bitAt, wordOf, tested, outcome}
 use Rattle.model.specs.Points.{Bits, Codeword, Point}
 
--- check j of a code, and the sum of a word over it
-abbrev pub check : Code → ℕ → List ℕ
-check k j = getD (k .checks) j []
-
+-- the sum of a word over check j
 abbrev pub checkSum : Code → List ℕ → ℕ → ℕ
 checkSum k w j = total (bitAt w) (check k j)
 
@@ -46,10 +43,6 @@ pub record Decided (k : Code) (c : List ℤ) : Type 0 where
   pub codeword : outcome k c .number ≡ 0 → Codeword k (wordOf k c)
 
 -- ---- the point of a codeword
--- the first auxiliary of check j: "Checks go in record order; auxiliaries are numbered n, n + 1, on."
-abbrev pub firstAuxiliary : Code → ℕ → ℕ
-firstAuxiliary k j = k .bits + total turns (take j (k .checks))
-
 -- all that waits in the queue of check j, in its order
 abbrev pub queued : Code → ℕ → List ℕ
 queued k j = items (check k j) (firstAuxiliary k j)
