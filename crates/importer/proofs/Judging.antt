@@ -20,7 +20,7 @@ refuses x e f = record { first = e ∙ sym f; counted = λ z. absurd (omega arit
 -- ---- one check
 pub check-long : (n : ℕ) (c : List ℕ) → 32 < length c → checkCause n c ≡ 4
 unfolding checkCause
-check-long n c h = rw (le-ltb (length c) 3 (omega arith), lt-ltb 32 (length c) h)
+check-long n c h = rw (le-ltb (length c) 2 (omega arith), lt-ltb 32 (length c) h)
 
 -- its record begins a list, which was judged
 pub record-judged : (n : ℕ) (c : List ℕ) {old list : List ℕ} {cause triples bytes : ℕ} → Appended 0 (recordOf c) old list bytes → cause ≡ judgeCheck n list

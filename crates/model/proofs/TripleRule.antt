@@ -1,5 +1,5 @@
 -- The triple rule, for all degrees together, and how often each variable of a code occurs. Assumes nothing.
-use Rattle.integers.proofs.Prelude.{_≡_, refl, sym, ap, subst, _∙_, Bool, true, false, cond, _||_, List, [], _∷_, _++_, append-assoc, ℕ, zero, suc, _+_, _-_, _*_}
+use Rattle.integers.proofs.Prelude.{_≡_, refl, sym, ap, subst, _∙_, Bool, true, false, cond, _||_, List, [], _∷_, _++_, append-assoc, ℕ, zero, suc, _+_, _-_, _*_, _/_, _%_}
 use Rattle.integers.proofs.Prelude.{_≤_, _<_, arith, decLt, lt-ltb, le-ltb, eqb-true, eqb-false, eq-eqb, ne-eqb, T, eqb, ltb, length, getD, drop}
 use Rattle.integers.proofs.Prelude.{length-append, getD-drop, getD-append-add, List·getD-append}
 use mathlib.Core.Logic.{_⊎_, inl, inr}
@@ -252,6 +252,14 @@ module _ (n a : ℕ) (c : List ℕ) (sound : SoundCheck n c) (above : n ≤ a) (
           only : (P : ℕ → Type 0) → P 0 → (t : ℕ) → 3 * t + 2 < 3 → P t
           only P z zero b = z
           only P z (suc t) b = absurd (omega arith)
+
+-- entry by entry
+pub members-at : (ts : List ℕ) (T n : ℕ) → length ts ≡ 3 * T → Members ts n → (i : ℕ) → i < length ts → (getD ts i 0 < n) ⊎ (getD ts i 0 ≡ blank)
+members-at ts T n long m i h =
+    let t = i / 3 in
+    let at : 3 * t + i % 3 ≡ i = omega arith in
+    subst (λ (j : ℕ). (getD ts j 0 < n) ⊎ (getD ts j 0 ≡ blank)) at
+    (three (λ p. (member ts t p < n) ⊎ (member ts t p ≡ blank)) (inl (m .first t (omega arith))) (inl (m .second t (omega arith))) (m .third t (omega arith)) (i % 3) (omega arith))
 
 -- ---- of a whole code
 pub triples-long : (n : ℕ) (cs : List (List ℕ)) (a : ℕ) → SoundChecks n cs → length (triplesFrom cs a) ≡ 3 * total tripleCount cs

@@ -11,7 +11,7 @@ use Rattle.model.specs.declared.Settings.{Settings}
 use Rattle.model.specs.Limits.{mostChecks, mostTriples, mostWeight, mostRatio, mostIterations, mostCost}
 use Rattle.model.specs.Limits.{mostSlack, mostMultiplier, mostRow, mostSum, mostNumerator}
 use Rattle.model.specs.Code.{Code}
-use Rattle.model.specs.Splitting.{System, Named}
+use Rattle.model.specs.Splitting.{System, Members}
 use Rattle.model.specs.Iteration.{at, multiplier, slack, occurrences, numerator, divisor, State, iterate}
 use Rattle.model.specs.Run.{changes}
 
@@ -39,7 +39,7 @@ pub record Lent (o : Settings) (ts counts : List ℕ) (costs : List ℤ) (T : �
   pub members : 3 * T ≡ length ts
   pub sums : length S ≡ length c
   pub rows : 4 * T ≡ length s
-  pub below : Named ts (length c)
+  pub below : Members ts (length c)
   pub counted : counts ≡ tab (length c) (occurrences ts T)
   pub ready : Ready (length c) ts T o costs
 

@@ -13,6 +13,9 @@ pub const MOST_DEGREE: usize = 32;
 
 pub const MOST_TRIPLES: usize = 8192;
 
+// in third place of a triple of two bits (specs/Splitting.antt)
+pub const BLANK: usize = 65535;
+
 pub const MOST_PLACES: usize = 12288;
 
 pub const MOST_WEIGHT: u32 = 65535;

@@ -166,7 +166,7 @@ three-judged n t s h = by (ltb (length s) 3) refl
         first ∙ sym (whole-record n t s long (λ z. absurd (omega (arith, h (first ∙ z)))))
 
 -- what is known of a check of which these are sound
-pub opened-degree : (n t : ℕ) (b : List ℕ) → Opened n t b → (3 ≤ degree b) × (degree b ≤ 32)
+pub opened-degree : (n t : ℕ) (b : List ℕ) → Opened n t b → (leastDegree ≤ degree b) × (degree b ≤ mostDegree)
 opened-degree n t b o = within leastDegree mostDegree (degree b) (by (wrong b) (outer b) (sym (three-bytes n t b (omega (arith, o .three)) (o .three)) ∙ o .cut))
   where
     by : (v w : Bool) → opening v w ≡ 1 → w ≡ false

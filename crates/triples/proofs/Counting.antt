@@ -1,19 +1,24 @@
 -- Counts that grow with the triples. Assumes nothing.
 use Rattle.integers.proofs.Prelude.{_≡_, refl, sym, List, ℕ, zero, suc, _+_, _*_, _≤_, _<_, arith, add-one, add-two, eq-eqb, ne-eqb, eqb, getD}
+use mathlib.Core.Logic.{_⊎_, inl, inr}
 use Rattle.integers.specs.Sum.{sumℕ}
 use Rattle.integers.proofs.Sums.{sumℕ-bound}
 use Rattle.lists.specs.Tabulated.{over}
-use Rattle.lists.proofs.Tabulated.{over-in, over-set}
+use Rattle.lists.proofs.Tabulated.{over-in, over-set, over-same}
 use Rattle.model.specs.Causes.{_if_}
+use Rattle.model.specs.Splitting.{blank}
 use Rattle.model.specs.Iteration.{occurrences}
 use Rattle.model.proofs.TripleRule.{if-most}
 use Rattle.triples.specs.Counting.{counted}
 
-pub count-next : (n : ℕ) (f : ℕ → ℕ) (old : List ℕ) (v : ℕ) → v < n → counted (over n f old) v ≡ over n (λ u. f u + 1 if eqb v u) old
-count-next n f old v h =
-    over-set n f (λ u. f u + 1 if eqb v u) old v (getD (over n f old) v 0 + 1) h
+pub count-next : (n : ℕ) (f : ℕ → ℕ) (old : List ℕ) (v : ℕ) → n ≤ blank → (v < n) ⊎ (v ≡ blank) → counted (over n f old) v ≡ over n (λ u. f u + 1 if eqb v u) old
+count-next n f old v few (inl h) =
+    rw (ne-eqb v blank (λ e. omega arith))
+    (over-set n f (λ u. f u + 1 if eqb v u) old v (getD (over n f old) v 0 + 1) h
     (rw (over-in n f old v 0 h, eq-eqb v v refl))
-    (λ u l p. rw (ne-eqb v u (λ e. p (sym e))) (omega arith))
+    (λ u l p. rw (ne-eqb v u (λ e. p (sym e))) (omega arith)))
+count-next n f old v few (inr h) =
+    rw (eq-eqb v blank h) (over-same n f (λ u. f u + 1 if eqb v u) old (λ u l. rw (ne-eqb v u (λ e. omega arith)) (omega arith)))
 
 -- how often v stands in the first n entries
 abbrev pub hits : List ℕ → ℕ → ℕ → ℕ

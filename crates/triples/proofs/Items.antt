@@ -1,23 +1,37 @@
 -- What ever waits in the queue, by its place, and the triples from it. Assumes nothing.
-use Rattle.integers.proofs.Prelude.{_≡_, ap, _∙_, List, ℕ, _+_, _-_, _*_, _≤_, _<_, arith, length, getD, set, List·getD-append, getD-append-add}
+use Rattle.integers.proofs.Prelude.{_≡_, ap, _∙_, List, ℕ, _+_, _-_, _*_, _≤_, _<_, arith, length, getD, set, length-append, List·getD-append, getD-append-add}
+use lib.ListN.{replicate, length-replicate, getD-replicate}
 use Rattle.lists.specs.Tabulated.{tab, over}
 use Rattle.lists.proofs.Tabulated.{getD-tab, over-three}
 use Rattle.model.specs.Code.{turns, tripleCount}
-use Rattle.model.specs.Splitting.{triplesOf, member}
+use Rattle.model.specs.Splitting.{blank, waiting, triplesOf, member}
 use Rattle.model.specs.TripleRule.{items, TripleRule}
 
-module _ (c : List ℕ) (a i : ℕ) where
-  pub item-bit : i < length c → getD (items c a) i 0 ≡ getD c i 0
-  unfolding items
-  item-bit h = List·getD-append c (tab (turns c) (λ j. a + j)) 0 i h
+pub length-waiting : (c : List ℕ) → length (waiting c) ≡ length c + (3 - length c)
+length-waiting c = length-append c (replicate (3 - length c) blank) ∙ rw (length-replicate (3 - length c) blank)
 
-  pub item-auxiliary : length c ≤ i → i < length c + turns c → getD (items c a) i 0 ≡ a + (i - length c)
+module _ (c : List ℕ) (a i : ℕ) where
+  item-waiting : i < length (waiting c) → getD (items c a) i 0 ≡ getD (waiting c) i 0
   unfolding items
-  item-auxiliary h l =
+  item-waiting h = List·getD-append (waiting c) (tab (turns c) (λ j. a + j)) 0 i h
+
+  pub item-bit : i < length c → getD (items c a) i 0 ≡ getD c i 0
+  item-bit h = item-waiting (omega (arith, length-waiting c)) ∙ List·getD-append c (replicate (3 - length c) blank) 0 i h
+
+  pub item-blank : length c ≤ i → length c < 3 → i < length (waiting c) + turns c → getD (items c a) i 0 ≡ blank
+  item-blank h d l =
       let e : i ≡ length c + (i - length c) = omega arith in
+      item-waiting (omega arith) ∙ ap (λ (k : ℕ). getD (waiting c) k 0) e
+      ∙ getD-append-add c (replicate (3 - length c) blank) (i - length c) 0
+      ∙ getD-replicate (3 - length c) (i - length c) blank 0 (omega (arith, length-waiting c))
+
+  pub item-auxiliary : length c ≤ i → 3 ≤ length c → i < length (waiting c) + turns c → getD (items c a) i 0 ≡ a + (i - length c)
+  unfolding items
+  item-auxiliary h d l =
+      let e : i ≡ length (waiting c) + (i - length c) = omega (arith, length-waiting c) in
       ap (λ (k : ℕ). getD (items c a) k 0) e
-      ∙ getD-append-add c (tab (turns c) (λ j. a + j)) (i - length c) 0
-      ∙ getD-tab (turns c) (λ j. a + j) (i - length c) 0 (omega arith)
+      ∙ getD-append-add (waiting c) (tab (turns c) (λ j. a + j)) (i - length c) 0
+      ∙ getD-tab (turns c) (λ j. a + j) (i - length c) 0 (omega (arith, length-waiting c))
 
 -- entry n of the triples of a check
 abbrev pub entry : List ℕ → ℕ → ℕ → ℕ

@@ -7,23 +7,26 @@ ghost use Rattle.model.specs.Limits.{mostTriples, mostVariables};
 ghost use Rattle.model.specs.Code.{turns, tripleCount};
 ghost use Rattle.model.specs.Records.{indices, codeOf, judge};
 ghost use Rattle.model.specs.Sound.{SoundCheck};
-ghost use Rattle.model.specs.Splitting.{triplesOf, systemOf, Named};
+ghost use Rattle.model.specs.Splitting.{blank, waiting, triplesOf, systemOf, Members};
 ghost use Rattle.model.specs.TripleRule.{items};
 ghost use Rattle.model.specs.Iteration.{occurrences, countsOf};
 ghost use Rattle.model.specs.Promises.{SplitterCall};
 ghost use Rattle.records.specs.Whole.{Whole};
 ghost use Rattle.triples.specs.Counting.{counted};
+use model::BLANK;
 use model::Reading;
 
-// Item i of the queue of the check record that `s` begins with: its bits, then the auxiliaries from `next` on.
+// Item i of the queue of the check record that `s` begins with: its bits, the blank behind two of them, then the auxiliaries from `next` on.
 pub fn item(s: &[u8], next: usize, i: usize) -> u16
     requires { ⌜ Whole (now s) × (next ≤ mostVariables) ⌝ }
-    requires { ⌜ i < length (indices (now s)) + turns (indices (now s)) ⌝ }
+    requires { ⌜ i < length (waiting (indices (now s))) + turns (indices (now s)) ⌝ }
     ensures { λ r. ⌜ r ≡ getD (items (indices (now (s .entry))) next) i 0 ⌝ }
 {
     let d = records::degree(s);
     if i < d {
         records::index(s, i) as u16
+    } else if d < 3 {
+        BLANK as u16
     } else {
         (next + (i - d)) as u16
     }
@@ -32,7 +35,7 @@ pub fn item(s: &[u8], next: usize, i: usize) -> u16
 // Triple t of that check: items 2t and 2t + 1, and the third.
 fn put(s: &[u8], next: usize, t: usize, third: u16, out: &mut [u16])
     requires { ⌜ Whole (now s) × (next ≤ mostVariables) ⌝ }
-    requires { ⌜ (2 * t + 1 < length (indices (now s)) + turns (indices (now s))) × (3 * t + 3 ≤ length (now out)) ⌝ }
+    requires { ⌜ (2 * t + 1 < length (waiting (indices (now s))) + turns (indices (now s))) × (3 * t + 3 ≤ length (now out)) ⌝ }
     ensures { λ _. ⌜ now (out .exit) ≡ (let i = items (indices (now (s .entry))) next in
         set (set (set (now (out .entry)) (3 * t) (getD i (2 * t) 0)) (3 * t + 1) (getD i (2 * t + 1) 0)) (3 * t + 2) third) ⌝ }
 {
@@ -85,21 +88,22 @@ fn clear(counts: &mut [u16], n: usize)
     }
 }
 
-// One more for the variable at entry i.
+// One more for the variable at entry i; the blank has no count.
 fn count(triples: &[u16], i: usize, counts: &mut [u16])
     requires { ⌜ i < length (now triples) ⌝ }
-    requires { ⌜ getD (now triples) i 0 < length (now counts) ⌝ }
-    requires { ⌜ getD (now counts) (getD (now triples) i 0) 0 < 65535 ⌝ }
+    requires { ⌜ ((getD (now triples) i 0 ≡ blank → ⊥) → (getD (now triples) i 0 < length (now counts)) × (getD (now counts) (getD (now triples) i 0) 0 < 65535)) ⌝ }
     ensures { λ _. ⌜ now (counts .exit) ≡ counted (now (counts .entry)) (getD (now (triples .entry)) i 0) ⌝ }
 {
     let v = slices::index(triples[i]);
-    counts[v] += 1;
+    if v != BLANK {
+        counts[v] += 1;
+    }
 }
 
 // How often each of the variables stands in the triples, of which there are `total`.
 fn write_counts(triples: &[u16], total: usize, variables: usize, counts: &mut [u16])
     requires { ⌜ (total ≤ mostTriples) × (length (now triples) ≡ 3 * total) ⌝ }
-    requires { ⌜ (variables ≤ length (now counts)) × Named (now triples) variables ⌝ }
+    requires { ⌜ (variables ≤ length (now counts)) × Members (now triples) variables ⌝ }
     ensures { λ _. ⌜ now (counts .exit) ≡ over variables (occurrences (now (triples .entry)) total) (now (counts .entry)) ⌝ }
 {
     clear(counts, variables);

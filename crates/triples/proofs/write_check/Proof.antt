@@ -4,8 +4,9 @@ use Rattle.lists.specs.Tabulated.{over}
 use Rattle.lists.proofs.Tabulated.{length-over, over-all}
 use Rattle.model.specs.Code.{turns, tripleCount}
 use Rattle.model.specs.Records.{indices}
-use Rattle.model.specs.Splitting.{triplesOf, member}
+use Rattle.model.specs.Splitting.{waiting, triplesOf, member}
 use Rattle.model.specs.TripleRule.{items, TripleRule}
+use Rattle.model.proofs.Queue.{waiting-long}
 use Rattle.model.proofs.TripleRule.{triple-rule}
 use Rattle.triples.proofs.Items.{entry, triple-next}
 use Rattle.triples.proofs.write_check.Statement.{statement}
@@ -18,7 +19,11 @@ abbrev μ-loop : tie.MeasureT-loop
 μ-loop s next out₀ turns t₀ out t = turns - t
 
 rule : (s : tie.Start Inv-loop μ-loop) → TripleRule (indices (s .args .s .now)) (s .args .next)
-rule s = triple-rule (s .args .next) (s .args .next) (indices (s .args .s .now)) (s .pre .0 .1) (omega arith)
+rule s = triple-rule (s .args .next) (s .args .next) (indices (s .args .s .now)) (s .pre .0 .1) (omega arith) (omega (arith, s .pre .0 .1 .most))
+
+-- what waits at first, as many as the rule says
+waits : (s : tie.Start Inv-loop μ-loop) → length (waiting (indices (s .args .s .now))) ≡ 3 + turns (indices (s .args .s .now))
+waits s = waiting-long (indices (s .args .s .now)) (s .pre .0 .1 .least)
 
 long : (c : tie.At-loop Inv-loop μ-loop) → length (c .loop .out) ≡ length (c .before .before .before .before .args .out .now)
 long c =
@@ -64,5 +69,6 @@ returns c =
 pub write-check-spec : {M : Type 1} → statement M
 write-check-spec =
     tie.close (tie.spec Inv-loop μ-loop (λ c κs. search needs) (λ c. (omega arith, refl)) (λ c. search needs) (λ c. search needs)
-    (λ c κs. omega (arith, long (c .before .before))) (λ c. search needs) (λ c. search needs) loop-again (λ c. search needs) (λ c. search needs)
-    (λ c κs. search needs) (λ c κs. omega (arith, long (c .before .before .before))) same-length returns)
+    (λ c κs. omega (arith, long (c .before .before), waits (c .before .before .before .before .before .before))) (λ c. search needs) (λ c. search needs) loop-again
+    (λ c. search needs) (λ c. search needs) (λ c κs. omega (arith, waits (c .before .before .before .before .before)))
+    (λ c κs. omega (arith, long (c .before .before .before), waits (c .before .before .before .before .before .before .before))) same-length returns)

@@ -5,18 +5,18 @@ use Rattle.lists.proofs.Tabulated.{over-tab, take-written}
 use Rattle.model.specs.Code.{Code}
 use Rattle.model.specs.Records.{codeOf}
 use Rattle.model.specs.Sound.{Sound}
-use Rattle.model.specs.Splitting.{systemOf, Named}
+use Rattle.model.specs.Splitting.{systemOf, Members}
 use Rattle.model.specs.Iteration.{occurrences, countsOf}
 use Rattle.model.proofs.Accepted.{accepted}
-use Rattle.model.proofs.TripleRule.{members-long, members-named}
+use Rattle.model.proofs.TripleRule.{members-long, members}
 use Rattle.triples.proofs.write_system.Statement.{statement}
 use Rattle.triples.proofs.write_system.Tie as tie
 
 -- ---- of the list l that has the triples of a code
 module _ (k : Code) (l : List ℕ) (t n : ℕ) (is : l ≡ systemOf k .members) (total : t ≡ systemOf k .triples) (variables : n ≡ systemOf k .variables) where
-  named : Sound k → Named l n
+  named : Sound k → Members l n
   unfolding systemOf
-  named s = rw (is, variables) (members-named k s)
+  named s = rw (is, variables) (members k s)
 
   counts-are : (old : List ℕ) → over n (occurrences l t) old ≡ written (countsOf (systemOf k)) old
   unfolding countsOf
