@@ -6,20 +6,21 @@ use Rattle.lists.specs.Tabulated.{written}
 use Rattle.lists.specs.Entries.{total}
 use Rattle.lists.proofs.Tabulated.{length-written, written-in, take-written}
 use Rattle.lists.proofs.Parts.{written-next, written-over}
+use Rattle.model.specs.Limits.{mostVariables}
 use Rattle.model.specs.Code.{turns, tripleCount, variables}
 use Rattle.model.specs.Records.{bitCount, checkCount, indices, afterCheck, checksIn, codeOf, judge}
 use Rattle.model.specs.Sound.{SoundCheck}
-use Rattle.model.specs.Splitting.{triplesOf, triplesFrom, systemOf, member}
+use Rattle.model.specs.Splitting.{blank, triplesOf, triplesFrom, systemOf, member}
 use Rattle.model.specs.TripleRule.{items, TripleRule}
 use Rattle.model.specs.Words.{bitAt}
 use Rattle.model.specs.Points.{extend, pointOf}
 use Rattle.model.proofs.Accepted.{accepted}
 use Rattle.model.proofs.Points.{extend-made, extend-kept, extend-long}
 use Rattle.model.proofs.Sound.{rising-below}
-use Rattle.model.proofs.TripleRule.{triple-rule}
+use Rattle.model.proofs.TripleRule.{triple-rule, few-variables}
 use Rattle.records.proofs.Walk.{total-within}
 use Rattle.triples.proofs.Auxiliaries.{body, Numbered, numbered-next, checks-so-far}
-use Rattle.triples.proofs.Items.{item-bit, item-auxiliary}
+use Rattle.triples.proofs.Items.{length-waiting, item-bit, item-auxiliary}
 use Rattle.triples.proofs.Writing.{members-to, members-next, length-members}
 
 extend-append : (n : ℕ) (ts rest p : List ℕ) → length ts ≡ 3 * n → extend (ts ++ rest) p ≡ extend rest (extend ts p)
@@ -39,16 +40,19 @@ pub made-none : (c : List ℕ) (a : ℕ) (old : List ℕ) → length (take a old
 unfolding extend
 made-none c a old h = rw h (sym (take-append-drop a old))
 
-module _ (c : List ℕ) (a : ℕ) (sound : SoundCheck a c) where
+module _ (c : List ℕ) (a : ℕ) (sound : SoundCheck a c) (low : a ≤ mostVariables) where
+  few : a + turns c < blank
+  few = omega (arith, sound .most)
+
   rule : TripleRule c a
-  rule = triple-rule a a c sound (omega arith)
+  rule = triple-rule a a c sound (omega arith) (omega (arith, few))
 
   pub item-below : (i t : ℕ) → i < length c + t → t ≤ turns c → getD (items c a) i 0 < a + t
   item-below i t h l = by (decLt i (length c))
     where
       by : Dec (i < length c) → getD (items c a) i 0 < a + t
       by (yes k) = omega (arith, item-bit c a i k, rising-below a 0 c (sound .rising) i k)
-      by (no k) = omega (arith, item-auxiliary c a i (omega arith) (omega arith))
+      by (no k) = omega (arith, item-auxiliary c a i (omega arith) (omega arith) (omega (arith, length-waiting c)))
 
   -- a triple more
   made-triple : (p : List ℕ) (t : ℕ) → t < tripleCount c
@@ -91,13 +95,22 @@ module _ (c : List ℕ) (a : ℕ) (sound : SoundCheck a c) where
         = e ∙ rw (at x (2 * t) p₁ (omega arith), at y (2 * t + 1) p₂ (omega arith)) in
         rw (is, made-next p t l h, ← new, ← l) (written-next q old v (omega arith))
 
+    -- the last triple makes no auxiliary
+    last-kept : member (triplesOf c a) (turns c) 2 ≡ a + turns c → ⊥
+    last-kept e = by (decLt 2 (length c))
+      where
+        by : Dec (2 < length c) → ⊥
+        by (yes l) = omega (arith, rule .no-blank l (turns c) 2 (omega arith) (omega arith))
+        by (no l) =
+            let two = rule .two (omega (arith, sound .least)) in
+            let at : member (triplesOf c a) (turns c) 2 ≡ blank = ap (λ (l : List ℕ). member l (turns c) 2) (two .2) ∙ rw (two .1) in
+            omega (arith, few)
+
     pub made-all : made c a p (turns c) ≡ extend (triplesOf c a) p
     unfolding extend
     made-all =
         let n = turns c in
-        let third : member (triplesOf c a) n 2 ≡ getD (items c a) (2 * n + 2) 0 = rule .thirds n (omega arith) ∙ rw (le-ltb n n (omega arith)) in
-        let kept = extend-kept _ _ (member (triplesOf c a) n 2) [] (made c a p n)
-        (omega (arith, third, item-below (2 * n + 2) n (omega (arith, sound .least)) (omega arith), made-long n (omega arith))) in
+        let kept = extend-kept _ _ (member (triplesOf c a) n 2) [] (made c a p n) (λ e. last-kept (e ∙ made-long n (omega arith))) in
         sym (ap (λ (l : List ℕ). extend l p) (sym (take-all (3 * (n + 1)) (triplesOf c a) (omega (arith, rule .long)))) ∙ made-triple p n (omega arith) ∙ kept)
 
 -- ---- all checks: check j is next, at `rest`, and `next` is its first auxiliary
@@ -109,7 +122,9 @@ module _ (b w : List ℕ) (judged : judge b ≡ 0) (word-long : length w ≡ cod
     pub point-long : length (point-to b w j) ≡ next
     unfolding codeOf
     point-long =
-        extend-long (bitCount b) (omega (arith, accepted b judged .bits-least)) (checksIn j (body b)) (bitCount b) (omega arith) (checks-so-far b j judged (n .few)) w word-long
+        let s = accepted b judged in
+        extend-long (bitCount b) (omega (arith, s .bits-least)) (checksIn j (body b)) (bitCount b) (omega arith)
+        (omega (arith, total-within turns j (checkCount b) (body b) (n .few), few-variables (codeOf b) s)) (checks-so-far b j judged (n .few)) w word-long
         ∙ sym (n .auxiliary)
 
     pub point-next : point-to b w (j + 1) ≡ extend (triplesOf (indices rest) next) (point-to b w j)
