@@ -14,10 +14,11 @@ use Rattle.quotient.specs.Quotient.{unit}
 use Rattle.model.specs.Limits.{mostTriples, mostDone, mostSlack, mostRow}
 use Rattle.model.specs.Causes.{_if_}
 use Rattle.model.specs.Splitting.{member}
-use Rattle.model.specs.Iteration.{at, sumAt, row, slack, multiplier, renewed, renewedAt}
+use Rattle.model.specs.Iteration.{at, valueAt, sumAt, row, slack, multiplier, renewed, renewedAt}
 use Rattle.model.specs.Run.{squareOfChange, changes, settledBy}
 use Rattle.model.specs.Bounds.{RowsWithin}
 use Rattle.model.proofs.Bounds.{rowSum-bound, renewed-multiplier, renewed-slack, multiplier-change}
+use Rattle.model.proofs.Rows.{value-small}
 use Rattle.rows.specs.Sides.{Rows, changeOf}
 use Rattle.rows.proofs.Four.{rows-are, side-multiplier, side-slack}
 use Rattle.layout.specs.Transposed.{cell, Fours, lane, stored, place, straight, Aligned}
@@ -38,7 +39,10 @@ old-fours s t small = fours-are (λ k r. row s (t + r) k) (λ k r _ _. small-abs
 
 module _ (ts : List ℕ) (c : List ℤ) (unit-most : (v : ℕ) → natAbs (at c v) ≤ unit) where
   sum-small : (t r : ℕ) → r < 4 → natAbs (sumAt ts c t r) ≤ 3 * unit
-  sum-small t r l = rowSum-bound r _ _ _ l (unit-most (member ts t 0)) (unit-most (member ts t 1)) (unit-most (member ts t 2))
+  sum-small t r l = rowSum-bound r _ _ _ l (small 0) (small 1) (small 2)
+    where
+      small : (p : ℕ) → natAbs (valueAt c (member ts t p)) ≤ unit
+      small p = value-small c (member ts t p) (unit-most (member ts t p))
 
   new-abs : (z : ℤ) (t r : ℕ) → r < 4 → SmallRow z → natAbs (renewed z (sumAt ts c t r)) ≤ mostRow
   new-abs z t r l h = let sum = sumAt ts c t r in let k = sum-small t r l in omega (arith, about (renewed z sum), renewed-multiplier z sum k, renewed-slack z sum k, h .0)

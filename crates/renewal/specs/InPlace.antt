@@ -10,7 +10,7 @@ use Rattle.integers.specs.Sum.{sumℕ}
 use Rattle.lists.specs.Tabulated.{tab}
 use Rattle.quotient.specs.Quotient.{unit}
 use Rattle.model.specs.Limits.{mostTriples, mostDone, mostSlack, mostMultiplier}
-use Rattle.model.specs.Splitting.{Named}
+use Rattle.model.specs.Splitting.{Members}
 use Rattle.model.specs.Iteration.{at, row, sumAt, multiplier, slack, renewed, renewedAt}
 use Rattle.rows.specs.Sides.{changeOf}
 use Rattle.layout.specs.Transposed.{cell, place, straight}
@@ -21,7 +21,7 @@ Sized T ts s = (T ≤ mostTriples) × (3 * T ≡ length ts) × (4 * T ≡ length
 
 -- every variable of the triples has a value, and no value exceeds U
 abbrev pub Valued : List ℕ → List ℤ → Type 0
-Valued ts c = Named ts (length c) × ((v : ℕ) → natAbs (at c v) ≤ unit)
+Valued ts c = Members ts (length c) × ((v : ℕ) → natAbs (at c v) ≤ unit)
 
 -- a row that may be renewed once more
 abbrev pub SmallRow : ℤ → Type 0

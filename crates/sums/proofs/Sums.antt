@@ -10,7 +10,7 @@ use Rattle.integers.proofs.Machine.{param}
 use Rattle.lists.specs.Tabulated.{tab}
 use Rattle.lists.proofs.Tabulated.{length-tab, getD-tab, tab-same, tab-set}
 use Rattle.model.specs.Limits.{mostTriples, mostDone, mostRow}
-use Rattle.model.specs.Splitting.{member, Named}
+use Rattle.model.specs.Splitting.{member, Members}
 use Rattle.model.specs.Iteration.{at, share, _when_, sumOf}
 use Rattle.model.specs.Bounds.{RowsWithin}
 use Rattle.model.proofs.Bounds.{row-small, share-small}
@@ -70,7 +70,7 @@ module _ (ts : List ℕ) (s : List ℤ) (w : RowsWithin mostDone s) where
   partly-small t p u h k = omega (arith, abs-add (sumOf ts t s u) (sumℤ p (term ts t s u)), sums-small t u, terms-small ts t s w u p k)
 
 -- ---- a list of them
-pub summed-none : {ts : List ℕ} {n : ℕ} {s : List ℤ} (l : List ℤ) → Named ts n → RowsWithin mostDone s → l ≡ tab n (λ _. pos 0) → Summed ts (length l) 0 s l
+pub summed-none : {ts : List ℕ} {n : ℕ} {s : List ℤ} (l : List ℤ) → Members ts n → RowsWithin mostDone s → l ≡ tab n (λ _. pos 0) → Summed ts (length l) 0 s l
 unfolding sumOf
 summed-none {n = n} l named w e = let f : length l ≡ n = ap length e ∙ length-tab n (λ _. pos 0) in record { named = rw f named; within = w; are = rw f e }
 
@@ -90,11 +90,16 @@ module _ {ts : List ℕ} {N t : ℕ} {s l : List ℤ} where
 
   -- what is asked where v, the variable at position p, is given its share, and what it comes to
   module _ (g : Summed ts N t s l) (h : t < mostTriples) (k : List ℤ) (p : ℕ) (e : k ≡ tab N (partly ts t s p)) (v : ℕ) (is : v ≡ member ts t p) where
-    pub may-add : p < 3 → 3 * t + p < length ts → (v < length k) × (natAbs (at k v) ≤ 2 ^ 60)
-    may-add m j =
-        let below : v < N = rw is (g .named (3 * t + p) j) in
-        rw (e, length-tab N (partly ts t s p), getD-tab N (partly ts t s p) v (pos 0) below)
-        (below, partly-small ts s (g .within) t p v (omega arith) (omega arith))
+    long : length k ≡ N
+    long = ap length e ∙ length-tab N (partly ts t s p)
+
+    pub may-add-third : p < 3 → v < length k → natAbs (at k v) ≤ 2 ^ 60
+    may-add-third m l =
+        let below : v < N = omega (arith, long) in
+        rw (e, getD-tab N (partly ts t s p) v (pos 0) below) (partly-small ts s (g .within) t p v (omega arith) (omega arith))
+
+    pub may-add : p < 3 → member ts t p < N → (v < length k) × (natAbs (at k v) ≤ 2 ^ 60)
+    may-add m j = let below : v < length k = omega (arith, long) in (below, may-add-third m below)
 
     pub partly-next : (x : ℤ) (r : List ℤ) → x ≡ share s t p → r ≡ tab N (λ u. partly ts t s p u +ℤ (x when eqb v u)) → r ≡ tab N (partly ts t s (suc p))
     partly-next x r f c =

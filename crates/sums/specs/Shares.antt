@@ -5,13 +5,13 @@ use Prim.Native.Nat.{ℕ, _+_, _-_, _*_, _%_, _≤_, _<_}
 use lib.IntN.{ℤ}
 use Rattle.lists.specs.Tabulated.{tab}
 use Rattle.model.specs.Limits.{mostDone}
-use Rattle.model.specs.Splitting.{Named}
+use Rattle.model.specs.Splitting.{Members}
 use Rattle.model.specs.Iteration.{at, share, sumOf}
 use Rattle.model.specs.Bounds.{RowsWithin}
 
 -- l has the sums of N variables over the first t triples, whose rows are in s
 pub record Summed (ts : List ℕ) (N t : ℕ) (s l : List ℤ) : Type 0 where
-  pub named : Named ts N
+  pub named : Members ts N
   pub within : RowsWithin mostDone s
   pub are : l ≡ tab N (sumOf ts t s)
 

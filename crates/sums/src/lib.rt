@@ -8,7 +8,7 @@ ghost use lib.IntN.{ℤ, natAbs, _+ℤ_};
 ghost use lib.ListN.{length};
 ghost use Rattle.lists.specs.Tabulated.{tab};
 ghost use Rattle.model.specs.Limits.{mostTriples, mostDone};
-ghost use Rattle.model.specs.Splitting.{Named};
+ghost use Rattle.model.specs.Splitting.{Members};
 ghost use Rattle.model.specs.Iteration.{at, share, _when_, sumOf};
 ghost use Rattle.model.specs.Bounds.{RowsWithin};
 ghost use Rattle.layout.specs.Transposed.{straight};
@@ -20,6 +20,16 @@ fn add(sums: &mut [i64], v: usize, x: i32)
     ensures { λ _. ⌜ ((n : ℕ) (f : ℕ → ℤ) → now (sums .entry) ≡ tab n f → now (sums .exit) ≡ tab n (λ u. f u +ℤ (x when eqb v u))) ⌝ }
 {
     sums[v] += x as i64;
+}
+
+// The same where v is a variable: the blank lies past the list and is given nothing.
+fn add_third(sums: &mut [i64], v: usize, x: i32)
+    requires { ⌜ (v < length (now sums) → natAbs (at (now sums) v) ≤ 2 ^ 60) ⌝ }
+    ensures { λ _. ⌜ ((n : ℕ) (f : ℕ → ℤ) → now (sums .entry) ≡ tab n f → now (sums .exit) ≡ tab n (λ u. f u +ℤ (x when eqb v u))) ⌝ }
+{
+    if v < sums.len() {
+        add(sums, v, x);
+    }
 }
 
 // Each variable of triple t is given its share.
@@ -34,13 +44,13 @@ fn give(triples: &[u16], t: usize, shares: [i32; 3], sums: &mut [i64])
     let v2 = layout::variable(triples, t, 2);
     add(sums, v0, shares[0]);
     add(sums, v1, shares[1]);
-    add(sums, v2, shares[2]);
+    add_third(sums, v2, shares[2]);
 }
 
 // The first triples, whose rows are not transposed.
 fn give_first(triples: &[u16], rows: &[i32], count: usize, sums: &mut [i64])
     requires { ⌜ (count ≤ mostTriples) × (3 * count ≡ length (now triples)) × (4 * count ≡ length (now rows)) ⌝ }
-    requires { ⌜ (Named (now triples) (length (now sums))) × (RowsWithin mostDone (now rows)) ⌝ }
+    requires { ⌜ (Members (now triples) (length (now sums))) × (RowsWithin mostDone (now rows)) ⌝ }
     ensures { λ _. ⌜ Summed (now (triples .entry)) (length (now (sums .entry))) (count % 4) (straight count (now (rows .entry))) (now (sums .exit)) ⌝ }
 {
     slices::clear_i64(sums);
@@ -97,7 +107,7 @@ fn give_group(triples: &[u16], t: usize, n: usize, shares: &[i32], sums: &mut [i
 // "S is the sum over its rows of z + p", for every variable. The shares of up to 64 triples are formed before they are given.
 pub fn gather(triples: &[u16], rows: &[i32], count: usize, sums: &mut [i64])
     requires { ⌜ (count ≤ mostTriples) × (3 * count ≡ length (now triples)) × (4 * count ≡ length (now rows)) ⌝ }
-    requires { ⌜ (Named (now triples) (length (now sums))) × (RowsWithin mostDone (now rows)) ⌝ }
+    requires { ⌜ (Members (now triples) (length (now sums))) × (RowsWithin mostDone (now rows)) ⌝ }
     ensures { λ _. ⌜ now (sums .exit) ≡ tab (length (now (sums .entry))) (sumOf (now (triples .entry)) count (straight count (now (rows .entry)))) ⌝ }
 {
     give_first(triples, rows, count, sums);

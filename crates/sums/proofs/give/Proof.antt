@@ -4,7 +4,7 @@ use Rattle.lists.specs.Tabulated.{tab}
 use Rattle.lists.proofs.Tabulated.{getD-tab}
 use Rattle.model.specs.Iteration.{at, share}
 use Rattle.sums.specs.Shares.{Summed}
-use Rattle.sums.proofs.Sums.{read-share, partly, partly-none, partly-all, may-add, partly-next}
+use Rattle.sums.proofs.Sums.{read-share, partly, partly-none, partly-all, may-add, may-add-third, partly-next}
 use Rattle.sums.proofs.give.Statement.{statement}
 use Rattle.sums.proofs.give.Tie as tie
 
@@ -53,30 +53,30 @@ add-requires : tie.Need-add-requires
 add-requires c κs =
     let r = c .before .before in
     let k = known (start r) in
-    may-add (k .summed) (start r .pre .0 .0) _ 0 (partly-none (k .summed)) _ (r .before .before .variable .ensures) (omega arith) (omega (arith, start r .pre .0 .1))
+    may-add (k .summed) (start r .pre .0 .0) _ 0 (partly-none (k .summed)) _ (r .before .before .variable .ensures) (omega arith) (k .summed .named .first _ (start r .pre .0 .1))
 
 add-requires-2 : tie.Need-add-requires-2
 add-requires-2 c κs =
     let a = c .before .before .before in
     let r = first a in
     let k = known (start r) in
-    may-add (k .summed) (start r .pre .0 .0) _ 1 (one a k) _ (r .before .variable2 .ensures) (omega arith) (omega (arith, start r .pre .0 .1))
+    may-add (k .summed) (start r .pre .0 .0) _ 1 (one a k) _ (r .before .variable2 .ensures) (omega arith) (k .summed .named .second _ (start r .pre .0 .1))
 
-add-requires-3 : tie.Need-add-requires-3
-add-requires-3 c κs =
+add-third-requires : tie.Need-add-third-requires
+add-third-requires c κs =
     let a = c .before .before .before in
     let r = first (second a) in
     let k = known (start r) in
-    may-add (k .summed) (start r .pre .0 .0) _ 2 (two a k) _ (r .variable3 .ensures) (omega arith) (start r .pre .0 .1)
+    may-add-third (k .summed) (start r .pre .0 .0) _ 2 (two a k) _ (r .variable3 .ensures) (omega arith)
 
 returns : tie.Need-returns
 returns c N s g e =
     let a = c .before .before .before .before .before in
     let r = first (second a) in
     let k : Known (start r) = record { N = N; s = s; summed = g; shares = e } in
-    partly-all g _ (partly-next g (start r .pre .0 .0) _ 2 (two a k) _ (r .variable3 .ensures) _ _ (x-is k 2 (omega arith)) (c .before .add3 .ensures N _ (two a k)))
+    partly-all g _ (partly-next g (start r .pre .0 .0) _ 2 (two a k) _ (r .variable3 .ensures) _ _ (x-is k 2 (omega arith)) (c .before .add-third .ensures N _ (two a k)))
 
 pub give-spec : {M : Type 1} → statement M
 give-spec =
     tie.close (tie.spec (λ c κs. search needs) (λ c κs. search needs) (λ c κs. search needs) (λ c. search needs) add-requires (λ c. search needs)
-    add-requires-2 (λ c. search needs) add-requires-3 (λ c. search needs) returns)
+    add-requires-2 (λ c. search needs) add-third-requires (λ c. search needs) returns)
