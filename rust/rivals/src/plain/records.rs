@@ -6,6 +6,8 @@ pub struct Code {
     pub bits: usize,
     pub degrees: Vec<u8>,
     pub indices: Vec<u16>,
+    /// How many checks have two bits.
+    pub pairs: usize,
 }
 
 /// Takes a field of N bytes off the front.
@@ -49,6 +51,7 @@ impl Code {
             bits,
             degrees: Vec::new(),
             indices: Vec::new(),
+            pairs: 0,
         };
         for _ in 0..checks {
             code.take_check(&mut bytes)?;
@@ -66,7 +69,7 @@ impl Code {
     fn take_check(&mut self, bytes: &mut &[u8]) -> Refused<()> {
         take_mark(bytes, b'C')?;
         let [degree] = take(bytes)?;
-        if !(3..=32).contains(&degree) {
+        if !(2..=32).contains(&degree) {
             return Err(4);
         }
         let mut least = 0;
@@ -82,6 +85,9 @@ impl Code {
             self.indices.push(index);
         }
         self.degrees.push(degree);
+        if degree == 2 {
+            self.pairs += 1;
+        }
         Ok(())
     }
 
@@ -98,12 +104,14 @@ impl Code {
         }
     }
 
+    /// A check of d bits makes d - 2, but one of two bits makes one.
     pub fn triples(&self) -> usize {
-        self.indices.len() - 2 * self.degrees.len()
+        self.indices.len() + self.pairs - 2 * self.degrees.len()
     }
 
+    /// Each triple of a check but one makes an auxiliary.
     pub fn variables(&self) -> usize {
-        self.bits + self.indices.len() - 3 * self.degrees.len()
+        self.bits + self.triples() - self.degrees.len()
     }
 
     /// The indices of each check.

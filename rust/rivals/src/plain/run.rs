@@ -140,7 +140,7 @@ pub fn run_on(task: &Task, state: &mut State, done: u32) -> (u32, bool) {
     unreachable!("the limit is at least 1")
 }
 
-/// S of every variable.
+/// S of every variable; a blank is none.
 fn add_rows(task: &Task, state: &mut State) {
     state.sums.fill(0);
     let triples = task.triples.chunks_exact(3);
@@ -148,7 +148,9 @@ fn add_rows(task: &Task, state: &mut State) {
         let [a, b, c, d] = [rows[0], rows[1], rows[2], rows[3]].map(|s| i64::from(s.abs()));
         state.sums[usize::from(triple[0])] += a - b - c + d;
         state.sums[usize::from(triple[1])] += b - a - c + d;
-        state.sums[usize::from(triple[2])] += c - a - b + d;
+        if let Some(sum) = state.sums.get_mut(usize::from(triple[2])) {
+            *sum += c - a - b + d;
+        }
     }
 }
 
@@ -181,7 +183,10 @@ fn renew_rows(task: &Task, state: &mut State) -> (u64, u64) {
     let triples = task.triples.chunks_exact(3);
     for (triple, rows) in triples.zip(state.rows.chunks_exact_mut(4)) {
         let value = |place: usize| i32::from(state.values[usize::from(triple[place])]);
-        let [a, b, c] = [value(0), value(1), value(2)];
+        // A blank's c is -U.
+        let third = state.values.get(usize::from(triple[2]));
+        let third = third.map_or(-UNIT as i32, |&c| c.into());
+        let [a, b, c] = [value(0), value(1), third];
         let sums = [a - b - c, b - a - c, c - a - b, a + b + c];
         for (s, sum) in rows.iter_mut().zip(sums) {
             let old = *s;

@@ -1,6 +1,6 @@
 //! The pass over the checks.
 
-use super::lanes::{auxiliary_value, renewed, shares_of, Totals};
+use super::lanes::{auxiliary_value, renewed, renewed_pair, shares_of, shares_of_pair, Totals};
 use std::arch::x86_64::*;
 use std::mem::MaybeUninit;
 
@@ -26,6 +26,7 @@ pub fn renew_checks(
 ) {
     unsafe {
         match degree {
+            2 => renew_pairs(blocks, tolerance, totals),
             3 => renew_blocks(3, blocks, factor, tolerance, totals),
             4 => renew_blocks(4, blocks, factor, tolerance, totals),
             5 => renew_blocks(5, blocks, factor, tolerance, totals),
@@ -60,6 +61,41 @@ unsafe fn renew_blocks(
     for _ in counted..number {
         renew_block::<false>(degree, &mut block, factor, totals);
     }
+}
+
+/// The same for checks of two bits.
+#[inline(always)]
+unsafe fn renew_pairs(blocks: Blocks, tolerance: f64, totals: &mut Totals) {
+    let slots = blocks.slots.chunks_exact_mut(2);
+    let mut blocks = slots.zip(blocks.rows.chunks_exact_mut(4));
+    while totals.within(tolerance) {
+        let Some((slots, rows)) = blocks.next() else {
+            return;
+        };
+        renew_pair::<true>(slots, rows, totals);
+    }
+    for (slots, rows) in blocks {
+        renew_pair::<false>(slots, rows, totals);
+    }
+}
+
+/// Takes c of both bits out of the slots and puts their shares into them.
+#[inline(always)]
+unsafe fn renew_pair<const COUNTING: bool>(
+    slots: &mut [__m128],
+    rows: &mut [__m128],
+    totals: &mut Totals,
+) {
+    let sum = _mm_add_ps(slots[0], slots[1]);
+    let difference = _mm_sub_ps(slots[0], slots[1]);
+    let new = renewed_pair([rows[0], rows[1]], sum, difference);
+    if COUNTING {
+        for (&old, &new) in rows.iter().zip(&new) {
+            totals.add(old, new);
+        }
+    }
+    rows.copy_from_slice(&new);
+    slots.copy_from_slice(&shares_of_pair([new[0], new[1]], sum));
 }
 
 /// Where the vectors of a block start.

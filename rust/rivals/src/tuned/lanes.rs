@@ -54,6 +54,34 @@ pub unsafe fn shares_of(rows: [__m128; 4]) -> [__m128; 3] {
     ]
 }
 
+/// The new s of the four rows of two bits and a blank, from the sum and the difference of the
+/// bits' c. No multiplier of the last two rows is ever above 0, since c is at most U.
+#[inline(always)]
+pub unsafe fn renewed_pair(old: [__m128; 2], sum: __m128, difference: __m128) -> [__m128; 4] {
+    let zero = _mm_setzero_ps();
+    let most = _mm_set1_ps(32768.0);
+    [
+        _mm_add_ps(_mm_max_ps(old[0], zero), difference),
+        _mm_sub_ps(_mm_max_ps(old[1], zero), difference),
+        _mm_sub_ps(_mm_sub_ps(zero, most), sum),
+        _mm_sub_ps(sum, most),
+    ]
+}
+
+/// What these rows add to the S of the two bits: the sizes of the last two differ by twice the
+/// sum.
+#[inline(always)]
+pub unsafe fn shares_of_pair(rows: [__m128; 2], sum: __m128) -> [__m128; 2] {
+    let sign = _mm_set1_ps(-0.0);
+    let [first, second] = rows.map(|s| _mm_andnot_ps(sign, s));
+    let change = _mm_sub_ps(first, second);
+    let back = _mm_add_ps(sum, sum);
+    [
+        _mm_sub_ps(change, back),
+        _mm_sub_ps(_mm_sub_ps(_mm_setzero_ps(), change), back),
+    ]
+}
+
 /// The squares of the changes of p and z, two lanes each; exact, since they
 /// stay below 2^53.
 pub struct Totals {

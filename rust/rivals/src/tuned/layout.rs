@@ -19,9 +19,16 @@ pub const NO_TRIPLE: u32 = u32::MAX;
 /// Blocks of checks of one degree.
 pub struct CheckClass {
     pub degree: usize,
+    /// The triples of each check; all but one make an auxiliary.
+    pub triples: usize,
     pub blocks: usize,
     /// Lanes of the last block that hold no check.
     pub free_lanes: usize,
+}
+
+/// The triples of a check; one of two bits has one, with a blank.
+fn triples_of(degree: usize) -> usize {
+    degree.max(3) - 2
 }
 
 /// Groups of bits in the same number of checks.
@@ -83,24 +90,26 @@ impl Layout {
         }
         let mut next = [Next::default(); 33];
         let mut block = 0;
-        for degree in 3..=32 {
+        for degree in 2..=32 {
             let blocks = usize::div_ceil(numbers[degree], 4);
             next[degree] = Next {
                 block,
                 lane: 0,
                 slot: 4 * self.slot_vectors,
             };
+            let triples = triples_of(degree);
             if blocks > 0 {
                 self.check_classes.push(CheckClass {
                     degree,
+                    triples,
                     blocks,
                     free_lanes: 4 * blocks - numbers[degree],
                 });
             }
             block += blocks;
-            self.row_vectors += 4 * blocks * (degree - 2);
+            self.row_vectors += 4 * blocks * triples;
             self.slot_vectors += blocks * degree;
-            self.auxiliary_vectors += blocks * (degree - 3);
+            self.auxiliary_vectors += blocks * (triples - 1);
         }
         self.origins = vec![[(NO_TRIPLE, 0); 4]; block];
         next
@@ -154,8 +163,8 @@ impl Layout {
                 *block += 1;
                 *slot += 4 * degree;
             }
-            triple += degree - 2;
-            auxiliary += degree - 3;
+            triple += triples_of(degree);
+            auxiliary += triples_of(degree) - 1;
         }
     }
 }

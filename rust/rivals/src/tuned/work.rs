@@ -3,7 +3,7 @@
 use super::bits::renew_bits;
 use super::checks::{renew_checks, Blocks};
 use super::lanes::Totals;
-use super::layout::{Layout, NO_TRIPLE};
+use super::layout::{CheckClass, Layout, NO_TRIPLE};
 use super::lists::{write_auxiliaries, write_rows};
 
 use crate::plain::run::{State, Task};
@@ -85,13 +85,21 @@ impl<'a> Work<'a> {
     fn fill_free_lanes(&mut self) {
         let mut end = 0;
         for class in &self.layout.check_classes {
-            let vectors = 4 * (class.degree - 2);
+            let vectors = 4 * class.triples;
             end += class.blocks * vectors;
-            let mut lanes = [0.0; 4];
-            lanes[4 - class.free_lanes..].fill(-16384.0);
-            let [a, b, c, d] = lanes;
-            // SAFETY: every x86-64 processor has SSE2.
-            self.rows[end - vectors..end].fill(unsafe { _mm_setr_ps(a, b, c, d) });
+            let rows = match class.degree {
+                2 => [0.0, 0.0, -32768.0, -32768.0],
+                _ => [-16384.0; 4],
+            };
+            let rows = rows.map(|s| {
+                let mut lanes = [0.0; 4];
+                lanes[4 - class.free_lanes..].fill(s);
+                let [a, b, c, d] = lanes;
+                // SAFETY: every x86-64 processor has SSE2.
+                unsafe { _mm_setr_ps(a, b, c, d) }
+            });
+            let last = self.rows[end - vectors..end].chunks_exact_mut(4);
+            last.for_each(|triple| triple.copy_from_slice(&rows));
         }
     }
 
@@ -128,7 +136,7 @@ impl<'a> Work<'a> {
         let mut place = Place::default();
         for class in &self.layout.check_classes {
             let start = place;
-            place.advance(class.degree, class.blocks);
+            place.advance(class, class.blocks);
             let auxiliaries = start.auxiliary..place.auxiliary;
             let blocks = Blocks {
                 rows: &mut self.rows[start.row..place.row],
@@ -154,7 +162,7 @@ impl<'a> Work<'a> {
         let mut place = Place::default();
         let mut origins = self.layout.origins.iter();
         for class in &self.layout.check_classes {
-            let (rows, auxiliaries) = (4 * (class.degree - 2), class.degree - 3);
+            let (rows, auxiliaries) = (4 * class.triples, class.triples - 1);
             for origins in origins.by_ref().take(class.blocks) {
                 let present = |&(triple, _): &(u32, u32)| triple != NO_TRIPLE;
                 let lanes = origins.iter().take_while(|origin| present(origin)).count();
@@ -165,7 +173,7 @@ impl<'a> Work<'a> {
                 // The swap has put the last iteration's sums second.
                 let from = &self.next_sums[place.auxiliary..place.auxiliary + auxiliaries];
                 write_auxiliaries(from, factor, &firsts[..lanes], state.sums, state.values);
-                place.advance(class.degree, 1);
+                place.advance(class, 1);
             }
         }
     }
@@ -180,10 +188,10 @@ struct Place {
 }
 
 impl Place {
-    fn advance(&mut self, degree: usize, blocks: usize) {
-        self.row += blocks * 4 * (degree - 2);
-        self.slot += blocks * degree;
-        self.auxiliary += blocks * (degree - 3);
+    fn advance(&mut self, class: &CheckClass, blocks: usize) {
+        self.row += blocks * 4 * class.triples;
+        self.slot += blocks * class.degree;
+        self.auxiliary += blocks * (class.triples - 1);
     }
 }
 

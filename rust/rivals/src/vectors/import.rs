@@ -48,10 +48,11 @@ fn judge(columns: &Side, rows: &Side) -> Refused<()> {
     let sizes = (3..=4_096).contains(&bits) && (1..=2_048).contains(&checks);
     refuse_if(!sizes, 3)?;
     for row in rows.lists() {
-        refuse_if(!(3..=32).contains(&row.len()), 4)?;
+        refuse_if(!(2..=32).contains(&row.len()), 4)?;
         refuse_if(row.windows(2).any(|pair| pair[0] >= pair[1]), 6)?;
     }
-    refuse_if(rows.indices.len() - 2 * checks > 8_192, 7)?;
+    let pairs = rows.degrees.iter().filter(|&&degree| degree == 2).count();
+    refuse_if(rows.indices.len() + pairs - 2 * checks > 8_192, 7)?;
     refuse_if(columns.degrees.contains(&0), 8)
 }
 
