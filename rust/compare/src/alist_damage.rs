@@ -185,10 +185,10 @@ fn keep_checks(plan: &mut Plan, count: usize) {
     }
 }
 
-/// A row of 0 to 2 bits.
+/// A row of 0 or 1 bit, or of two, which is allowed.
 fn lower_degree(random: &mut Random, plan: &mut Plan) {
     if let Some(row) = some_place(random, &plan.rows) {
-        let degree = random.pick(&[0, 1, 2, 2]);
+        let degree = random.pick(&[0, 1, 1, 2]);
         while plan.rows[row].len() > degree {
             let entry = random.below(plan.rows[row].len());
             leave_out(plan, row, entry);
@@ -242,7 +242,10 @@ fn add_rows(plan: &mut Plan, widest: usize, rows: usize, triples: usize) {
     let mut made: usize = plan
         .rows
         .iter()
-        .map(|row| row.len().saturating_sub(2))
+        .map(|row| match row.len() {
+            2 => 1,
+            degree => degree.saturating_sub(2),
+        })
         .sum();
     while degree > 2 && plan.rows.len() < rows && made < triples {
         let start = plan.rows.len() * degree;

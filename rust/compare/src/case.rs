@@ -93,6 +93,24 @@ pub fn exact_case(code: &Code, settings: Settings, costs: Vec<i16>) -> Case {
 }
 
 impl Case {
+    /// The code records that the case has, unless it is an input of the frame program.
+    pub fn records(&self) -> Option<&[u8]> {
+        match self {
+            Case::Decode(case) => Some(&case.code),
+            Case::Read { code }
+            | Case::Split { code, .. }
+            | Case::Test { code, .. }
+            | Case::Extend { code, .. }
+            | Case::Export { code, .. }
+            | Case::ExportSize { code }
+            | Case::MessageLength { code }
+            | Case::Encode { code, .. }
+            | Case::EncodeFrames { code, .. }
+            | Case::ReadMessage { code, .. } => Some(code),
+            _ => None,
+        }
+    }
+
     /// The entry that the case calls; each kind of channel counts as one.
     pub fn entry(&self) -> &'static str {
         match self {

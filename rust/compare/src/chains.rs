@@ -6,7 +6,7 @@ use crate::codes::{any_code, records, Code};
 use crate::codewords::Codewords;
 use crate::lent::{accepted, ensure, filled};
 use crate::random::Random;
-use crate::reflection::Reflection;
+use crate::reflection::{all_kinds_met, Kinds, Reflection};
 use crate::seeds;
 use crate::sums::{check_laws, check_refusals, sum_of};
 use interface::Library;
@@ -35,7 +35,7 @@ pub struct Met {
     /// Chains of codewords, by how many there are.
     codewords: BTreeMap<usize, u64>,
     /// Outcomes of runs, where the sum of the codewords is not all 0.
-    outcomes: BTreeMap<u32, u64>,
+    outcomes: Kinds,
 }
 
 /// Fails unless every chain holds, with chains of each length and each event often enough.
@@ -48,8 +48,7 @@ pub fn assert_chains(library: &dyn Library) {
     }
     let often = |event| met.events.get(event).is_some_and(|&count| count >= 100);
     assert!(EVENTS.into_iter().all(often));
-    assert!(met.outcomes.keys().eq(&[0, 16, 17]));
-    assert!(met.outcomes.values().all(|&count| count >= 100));
+    assert!(all_kinds_met(&met.outcomes, 100));
 }
 
 /// Checks chains, sums and points, from a seed on; what was met, or a failure.
@@ -116,9 +115,7 @@ fn check_codewords(
     reflection.codeword = sum;
     let run = reflection.check_costs(library, library, &end);
     let number = run.map_err(of("run"))?;
-    if reflection.codeword.contains(&1) {
-        *met.outcomes.entry(number).or_default() += 1;
-    }
+    reflection.count(number, &mut met.outcomes);
     Ok(())
 }
 

@@ -1,6 +1,7 @@
 //! Codes to decode: their records, and random and regular constructions.
 
 use crate::random::Random;
+use crate::two_bits::{small_two_bit_code, tiny_two_bit_code};
 pub use reference::records::Code;
 use std::collections::BTreeSet;
 
@@ -70,7 +71,7 @@ pub fn one_check(bits: usize) -> Code {
     }
 }
 
-/// A random code of at most these sizes.
+/// A random code of at most these sizes, with no check of two bits.
 pub fn code_within(random: &mut Random, bits: usize, checks: usize, triples: usize) -> Code {
     let bits = random.between(3, bits);
     let widest = bits.min(32);
@@ -83,12 +84,20 @@ pub fn code_within(random: &mut Random, bits: usize, checks: usize, triples: usi
     code_of(random, bits, checks, triples)
 }
 
+/// One time in eight with checks of two bits.
 pub fn tiny_code(random: &mut Random) -> Code {
-    code_within(random, 8, 5, 20)
+    match random.below(8) {
+        0 => tiny_two_bit_code(random),
+        _ => code_within(random, 8, 5, 20),
+    }
 }
 
+/// One time in eight with checks of two bits.
 pub fn small_code(random: &mut Random) -> Code {
-    code_within(random, 40, 20, 120)
+    match random.below(8) {
+        0 => small_two_bit_code(random),
+        _ => code_within(random, 40, 20, 120),
+    }
 }
 
 /// A small code, or the training code.
@@ -99,9 +108,12 @@ pub fn small_or_training_code(random: &mut Random) -> Code {
     }
 }
 
-/// Mostly tiny codes, small ones, and now and then a larger one or one that corrects errors.
+/// Mostly tiny codes, small ones, some with checks of two bits, and now and then a larger one or
+/// one that corrects errors.
 pub fn any_code(random: &mut Random) -> Code {
-    match random.below(40) {
+    match random.below(48) {
+        40..=44 => tiny_two_bit_code(random),
+        45.. => small_two_bit_code(random),
         0 => code_within(random, 300, 150, 1_000),
         1 => training_code(),
         2..=5 => regular_code(random, 24, 3, 6),

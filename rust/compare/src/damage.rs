@@ -11,6 +11,7 @@ pub enum Damage {
     Mark,
     Size,
     Degree,
+    TwoBits,
     HighIndex,
     Order,
     Triples,
@@ -28,12 +29,13 @@ pub enum Damage {
     Frames,
 }
 
-const OF_RECORDS: [Damage; 10] = [
+const OF_RECORDS: [Damage; 11] = [
     Damage::Cut,
     Damage::Flip,
     Damage::Mark,
     Damage::Size,
     Damage::Degree,
+    Damage::TwoBits,
     Damage::HighIndex,
     Damage::Order,
     Damage::Triples,
@@ -85,7 +87,11 @@ pub fn apply(random: &mut Random, draft: &mut Draft, entry: Entry, damage: Damag
         Damage::Flip => flip(random, draft),
         Damage::Mark => wrong_mark(random, draft),
         Damage::Size => wrong_size(random, draft),
-        Damage::Degree => wrong_degree(random, draft),
+        Damage::Degree => {
+            let degree = random.pick(&[0, 1, 1, 33, 255]);
+            other_degree(random, draft, degree);
+        }
+        Damage::TwoBits => other_degree(random, draft, 2),
         Damage::HighIndex => high_index(random, draft),
         Damage::Order => wrong_order(random, draft),
         Damage::Triples => more_checks(random, draft),
@@ -169,13 +175,10 @@ fn wrong_size(random: &mut Random, draft: &mut Draft) {
     }
 }
 
-fn wrong_degree(random: &mut Random, draft: &mut Draft) {
+/// Another degree, with the check's indices as they were.
+fn other_degree(random: &mut Random, draft: &mut Draft, degree: u8) {
     let (start, _) = some_check(random, draft);
-    write(
-        &mut draft.records,
-        start + 2,
-        &[random.pick(&[0, 2, 33, 255])],
-    );
+    write(&mut draft.records, start + 2, &[degree]);
 }
 
 fn high_index(random: &mut Random, draft: &mut Draft) {
@@ -197,21 +200,26 @@ fn wrong_order(random: &mut Random, draft: &mut Draft) {
 }
 
 /// Adds checks until there are more than 8,192 triples, if the code has the
-/// bits for it.
+/// bits for it; at times the last ones have two bits.
 fn more_checks(random: &mut Random, draft: &mut Draft) {
     let degree = draft.code.bits.min(32);
     let mut checks = draft.code.checks.len();
     let mut triples = draft.code.triples();
-    if triples + (2_048 - checks) * (degree - 2) <= 8_192 {
+    // The last checks are those of two bits.
+    let wide = (2_048 - checks).saturating_sub(32);
+    if triples + wide * (degree - 2) <= 8_192 {
         return;
     }
     let least = 8_193 + random.below(3);
+    let two_bits = random.once_in(2);
     while triples < least {
+        let fits = triples + degree - 2 <= least;
+        let degree = if two_bits && !fits { 2 } else { degree };
         draft.records.extend([b'L', b'C', degree as u8]);
         for bit in 0..degree {
             draft.records.extend((bit as u16).to_be_bytes());
         }
-        triples += degree - 2;
+        triples += degree.max(3) - 2;
         checks += 1;
     }
     write_two(&mut draft.records, 4, checks);

@@ -2,6 +2,7 @@
 
 use crate::codes::{code_of, code_within, small_code, tiny_code, training_code, Code};
 use crate::random::Random;
+use crate::two_bits::{small_two_bit_code, tiny_two_bit_code};
 use reference::encoder::MOST_ENCODED_BITS;
 use std::collections::BTreeSet;
 
@@ -52,7 +53,7 @@ pub fn with_dependent_checks(random: &mut Random, mut code: Code) -> Code {
         let [one, other] = [(); 2].map(|()| random.below(code.checks.len()));
         let both = sum(&code.checks[one], &code.checks[other]);
         let check = match both.len() {
-            3..=32 => both,
+            2..=32 => both,
             _ => code.checks[one].clone(),
         };
         code.checks
@@ -75,9 +76,12 @@ pub fn longest_code(random: &mut Random) -> Code {
     code_of(random, MOST_ENCODED_BITS, checks, triples)
 }
 
-/// Mostly tiny and small codes; some with checks that depend on others.
+/// Mostly tiny and small codes; some with checks of two bits, some with checks that depend on
+/// others.
 pub fn encoded_code(random: &mut Random) -> Code {
-    let code = match random.below(40) {
+    let code = match random.below(50) {
+        40..=46 => tiny_two_bit_code(random),
+        47.. => small_two_bit_code(random),
         0 => training_code(),
         1..=2 => longest_code(random),
         3..=4 => code_within(random, MOST_ENCODED_BITS, 150, 1_000),

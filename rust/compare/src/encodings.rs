@@ -5,7 +5,7 @@ use crate::codewords::Codewords;
 use crate::encoder_codes::encoded_code;
 use crate::lent::{accepted, ensure, filled, refused};
 use crate::random::Random;
-use crate::reflection::Reflection;
+use crate::reflection::{all_kinds_met, Kinds, Reflection};
 use crate::seeds;
 use crate::sums::{sum_of, wrong_words};
 use interface::{Encoder, Library};
@@ -29,7 +29,7 @@ const EVENTS: [&str; 5] = [
 pub struct Met {
     events: BTreeMap<&'static str, u64>,
     /// Outcomes of runs that were reflected by a word that is not all 0.
-    outcomes: BTreeMap<u32, u64>,
+    outcomes: Kinds,
 }
 
 /// Fails unless every encoding is as promised, with each event often enough.
@@ -38,8 +38,7 @@ pub fn assert_encodings(library: &(impl Library + Encoder)) {
     println!("{met:?}");
     let often = |event| met.events.get(event).is_some_and(|&count| count >= 10);
     assert!(EVENTS.into_iter().all(often));
-    assert!(met.outcomes.keys().eq(&[0, 16, 17]));
-    assert!(met.outcomes.values().all(|&count| count >= 20));
+    assert!(all_kinds_met(&met.outcomes, 20));
 }
 
 /// Checks encodings of random codes, from a seed on; what was met, or a failure.
@@ -86,10 +85,7 @@ fn check(
     }
     encoding.check_codeword(random, &columns)?;
     encoding.check_refusals(random)?;
-    if let Some(number) = encoding.check_run(random)? {
-        *met.outcomes.entry(number).or_default() += 1;
-    }
-    Ok(())
+    encoding.check_run(random, &mut met.outcomes)
 }
 
 impl<L: Library + Encoder> Encoding<'_, L> {
@@ -211,11 +207,12 @@ impl<L: Library + Encoder> Encoding<'_, L> {
         ensure(read == tested, "another check is told than by the test")
     }
 
-    /// Reflects a run by the word of a message; its number unless the word is all 0.
-    fn check_run(&self, random: &mut Random) -> Result<Option<u32>, String> {
+    /// Reflects a run by the word of a message.
+    fn check_run(&self, random: &mut Random, outcomes: &mut Kinds) -> Result<(), String> {
         let mut reflection = Reflection::random(random, self.code.clone());
         reflection.codeword = self.encoded(&random.word(self.length))?;
         let number = reflection.check(self.library, self.library)?;
-        Ok(reflection.codeword.contains(&1).then_some(number))
+        reflection.count(number, outcomes);
+        Ok(())
     }
 }

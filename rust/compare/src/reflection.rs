@@ -4,8 +4,23 @@ use crate::codes::{records, Code};
 use crate::codewords::Codewords;
 use crate::draft::Draft;
 use crate::random::Random;
+use crate::two_bits::has_two_bits;
 use interface::{DecodeAnswer, Decoder, Library, OwnLists, Settings};
 use reference::iteration::SIGNS;
+use std::collections::BTreeMap;
+
+/// The number of an outcome, and whether the code has checks of two bits.
+pub type Kind = (u32, bool);
+
+/// How often each was reflected by a codeword that is not all 0.
+pub type Kinds = BTreeMap<Kind, u64>;
+
+/// Whether 0, 16 and 17 were met so often, without and with checks of two bits, and nothing else.
+pub fn all_kinds_met(kinds: &Kinds, least: u64) -> bool {
+    let due = [0, 16, 17].into_iter();
+    let due = due.flat_map(|number| [(number, false), (number, true)]);
+    kinds.keys().copied().eq(due) && kinds.values().all(|&count| count >= least)
+}
 
 /// A code, a run's settings and costs, and a codeword to reflect by.
 #[derive(Clone, Debug)]
@@ -49,6 +64,13 @@ impl Reflection {
             return Err("the reflector refuses".into());
         }
         self.check_costs(decoder, library, &costs)
+    }
+
+    /// Counts an outcome, unless the codeword is all 0.
+    pub fn count(&self, number: u32, kinds: &mut Kinds) {
+        if self.codeword.contains(&1) {
+            *kinds.entry((number, has_two_bits(&self.code))).or_default() += 1;
+        }
     }
 
     /// The same with reflected costs that are given.
@@ -99,14 +121,23 @@ fn compare_runs(first: &Run, second: &Run, point: &[u8]) -> Result<(), String> {
     Ok(())
 }
 
+/// The sign that a point gives an item of a triple; a blank keeps its own.
+fn sign_of(point: &[u8], item: u16) -> Result<i64, String> {
+    match (item, point.get(usize::from(item))) {
+        (0xFFFF, _) => Ok(1),
+        (_, Some(&entry)) => Ok(1 - 2 * i64::from(entry)),
+        _ => Err(format!("no variable {item}")),
+    }
+}
+
 /// Each row's s goes to the row whose signs differ exactly where the point has
 /// a 1.
 fn compare_rows(first: &OwnLists, second: &OwnLists, point: &[u8]) -> Result<(), String> {
     for (place, triple) in first.triples.chunks_exact(3).enumerate() {
         for (row, signs) in SIGNS.iter().enumerate() {
             let mut turned = *signs;
-            for (sign, &variable) in turned.iter_mut().zip(triple) {
-                *sign *= 1 - 2 * i64::from(point[usize::from(variable)]);
+            for (sign, &item) in turned.iter_mut().zip(triple) {
+                *sign *= sign_of(point, item)?;
             }
             let Some(other) = SIGNS.iter().position(|signs| *signs == turned) else {
                 return Err(format!("the point at triple {place}"));

@@ -2,14 +2,10 @@
 
 use crate::codes::any_code;
 use crate::random::Random;
-use crate::reflection::Reflection;
+use crate::reflection::{all_kinds_met, Kinds, Reflection};
 use crate::seeds;
 use interface::{Decoder, Library};
 use reference::run::MOST_ITERATIONS;
-use std::collections::BTreeMap;
-
-/// How often each outcome was reflected by a codeword that is not all 0.
-pub type Met = BTreeMap<u32, u64>;
 
 /// The first seed, unless another is given.
 pub const SEED: u64 = 0x5245_464C;
@@ -18,8 +14,7 @@ pub const SEED: u64 = 0x5245_464C;
 pub fn assert_reflects(decoder: &dyn Decoder, library: &dyn Library) {
     let met = check_reflections(decoder, library, seeds::first(SEED)).unwrap();
     println!("{met:?}");
-    assert!(met.keys().eq(&[0, 16, 17]));
-    assert!(met.values().all(|&count| count >= 100));
+    assert!(all_kinds_met(&met, 100));
 }
 
 /// Checks reflections, with a library's reflector and extension, from a seed on; the
@@ -28,8 +23,8 @@ pub fn check_reflections(
     decoder: &dyn Decoder,
     library: &dyn Library,
     first: u64,
-) -> Result<Met, String> {
-    let mut met = Met::new();
+) -> Result<Kinds, String> {
+    let mut met = Kinds::new();
     for seed in first..first + 1_500 {
         let mut random = Random::new(seed);
         let code = any_code(&mut random);
@@ -43,9 +38,7 @@ pub fn check_reflections(
             let number = reflection
                 .check(decoder, library)
                 .map_err(|what| format!("seed {seed:#x}: {what}; {reflection:?}"))?;
-            if reflection.codeword.contains(&1) {
-                *met.entry(number).or_default() += 1;
-            }
+            reflection.count(number, &mut met);
         }
     }
     Ok(met)

@@ -8,6 +8,7 @@ use crate::draft::{Draft, Entry};
 use crate::lent::{accepted, written};
 use crate::random::Random;
 use crate::seeds;
+use crate::two_bits::has_two_bits;
 use interface::{Alist, BytesAnswer};
 use std::collections::BTreeMap;
 
@@ -16,6 +17,9 @@ pub type Met = BTreeMap<(&'static str, u32), u64>;
 
 /// The first seed, unless another is given.
 pub const SEED: u64 = 0x414C_4953;
+
+/// In the place of a call: codes with checks of two bits, which passed.
+const TWO_BITS: &str = "two bits";
 
 /// Fails unless every round trip ends where it began, the one with the longest text
 /// too, with refusals often enough.
@@ -30,6 +34,7 @@ pub fn assert_round_trips(alist: &dyn Alist) {
     assert!([0, 3, 4, 6, 8, 18, 19]
         .iter()
         .all(|&number| often("import", number)));
+    assert!(often(TWO_BITS, 0));
     assert!(!met.contains_key(&("import", 10)));
     check_code(alist, &longest()).unwrap();
 }
@@ -44,6 +49,7 @@ pub fn check_round_trips(alist: &dyn Alist, first: u64) -> Result<Met, String> {
         let at_seed = |what| format!("seed {seed:#x}: {what}");
         check_code(alist, &code).map_err(at_seed)?;
         check_style(alist, &mut random, &code).map_err(at_seed)?;
+        *met.entry((TWO_BITS, 0)).or_default() += u64::from(has_two_bits(&code));
         for text in [
             damaged_text(&mut random, &code),
             unlike_text(&mut random, &code),

@@ -1,12 +1,14 @@
 //! Counts of what the compared cases met, so that no comparison is empty.
 
 use crate::case::{Case, DecodeCase};
+use crate::degrees::{degrees_of, kinds_at, kinds_with_two_bits};
 use crate::encoder_events::{encoder_events, OF_FRAMES, OF_WORDS};
 use crate::families::seed;
 use crate::limit_events::{limit_end_events, limit_events, OF_LIMITS};
 use crate::outcome::Outcome;
 use crate::run_events::{end_events, iteration_events, Largest, OF_RUNS};
 use crate::text_events::{pairs_against_texts, text_events, OF_TEXTS};
+use crate::two_bit_events::{two_bit_events, OF_TWO_BITS};
 use reference::iteration::Problem;
 use reference::run::{run, MOST_ITERATIONS};
 use reference::SOUND;
@@ -39,9 +41,10 @@ const KINDS: [(&str, &str); 18] = [
 ];
 
 /// What must happen in some run, accepted import, accepted export, accepted encoding and frame.
-const EVENTS: [(&str, &[&str]); 7] = [
+const EVENTS: [(&str, &[&str]); 8] = [
     ("decode", &OF_RUNS),
     ("decode", &OF_LIMITS),
+    ("decode", &OF_TWO_BITS),
     ("import", &OF_TEXTS),
     (
         "export",
@@ -70,6 +73,14 @@ impl Tally {
         *self.counts.entry(what.into()).or_default() += 1;
     }
 
+    /// Counts a number or line, also with the degrees that its case shows.
+    fn count_kind(&mut self, kind: String, degrees: &[usize]) {
+        for what in kinds_at(&kind, degrees) {
+            self.count(what);
+        }
+        self.count(kind);
+    }
+
     pub fn of(&self, what: &str) -> u64 {
         self.counts.get(what).copied().unwrap_or(0)
     }
@@ -77,9 +88,10 @@ impl Tally {
     /// Counts a case with its outcome.
     pub fn add(&mut self, case: &Case, outcome: &Outcome) {
         self.cases += 1;
+        let degrees = degrees_of(case);
         match outcome.fields.first() {
-            Some((_, number)) => self.count(format!("{} {number}", case.entry())),
-            None => self.add_lines(&outcome.text),
+            Some((_, number)) => self.count_kind(format!("{} {number}", case.entry()), &degrees),
+            None => self.add_lines(&outcome.text, &degrees),
         }
         match case {
             Case::Decode(case) => self.add_run(case, outcome),
@@ -128,10 +140,10 @@ impl Tally {
         }
     }
 
-    fn add_lines(&mut self, text: &[u8]) {
+    fn add_lines(&mut self, text: &[u8], degrees: &[usize]) {
         let text = String::from_utf8_lossy(text);
         if text.is_empty() {
-            self.count("frames ");
+            self.count_kind("frames ".into(), degrees);
         }
         for line in text.lines() {
             let kind = if line.starts_with('R') {
@@ -139,7 +151,7 @@ impl Tally {
             } else {
                 &line[..1]
             };
-            self.count(format!("frames {kind}"));
+            self.count_kind(format!("frames {kind}"), degrees);
             if line.split(' ').nth(1) == Some(&MOST_ITERATIONS.to_string()) {
                 self.count(LONGEST_FRAME);
             }
@@ -156,6 +168,7 @@ impl Tally {
         let problem = Problem::new(SOUND, split, case.settings, &case.costs);
         self.add_events(end_events(&problem, outcome));
         self.add_events(limit_end_events(&problem, outcome));
+        self.add_events(two_bit_events(&code, outcome));
         let largest = self.largest.get_or_insert_default();
         largest.add(&problem, outcome);
         if 4 * code.triples() * k <= MOST_WATCHED {
@@ -207,6 +220,10 @@ fn of_entry(entry: &str) -> Vec<String> {
     let events = EVENTS.iter().filter(|(other, _)| *other == entry);
     let events = events.flat_map(|(_, events)| events.iter());
     let kinds = kinds.split(',').map(|kind| format!("{entry} {kind}"));
+    let kinds = kinds.flat_map(|kind| {
+        let others = kinds_with_two_bits(&kind);
+        std::iter::once(kind).chain(others)
+    });
     let pairs = pairs_against_texts()
         .into_iter()
         .filter(|_| entry == "import");

@@ -119,6 +119,10 @@ fn reflections_catch_what_breaks_them() {
         Fault::WordWrittenAlways,
         Fault::AuxiliaryOfLastTwo,
         Fault::NegatedAtZeros,
+        Fault::BlankIsFirst,
+        Fault::BlankIsLast,
+        Fault::BlankShareAdded,
+        Fault::BlankIsNextIndex,
     ] {
         let faulty = with(fault);
         assert!(
@@ -145,6 +149,7 @@ fn round_trips_catch_what_breaks_them() {
         Fault::BytesToldShort,
         Fault::BytesWithRefusal,
         Fault::OneByteMoreNeeded,
+        Fault::OneMore(2),
     ] {
         assert!(
             check_round_trips(&with(fault), round_trips::SEED).is_err(),
@@ -210,7 +215,7 @@ fn encodings_catch_what_breaks_them() {
         (Fault::MessageBackwards, "do not rise"),
         (Fault::RowNotCleared, "is no codeword"),
         (Fault::PivotCounted, "is no codeword"),
-        (Fault::RankTold, "as another message"),
+        (Fault::RankTold, "is no codeword"),
         (Fault::DependentChecksCounted, "is no codeword"),
         (Fault::PivotsRead, "as another message"),
         (Fault::NoMessageRefused, "refused with 12"),
@@ -223,6 +228,9 @@ fn encodings_catch_what_breaks_them() {
             "number 0 where 17 is due",
         ),
         (Fault::RestCleared, "an entry past"),
+        (Fault::TwoBitsNotReduced, "is no codeword"),
+        (Fault::TwoBitsNotTested, "number 0 where 17 is due"),
+        (Fault::OneMore(2), "number: 4"),
     ] {
         let found = check_encodings(&with(fault), encodings::SEED).unwrap_err();
         println!("{fault:?}: {found}");

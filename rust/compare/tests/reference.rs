@@ -2,12 +2,13 @@
 //! points that are exactly the codewords' points.
 
 use compare::chains::assert_chains;
-use compare::codes::tiny_code;
+use compare::codes::{tiny_code, Code};
 use compare::encodings::assert_encodings;
 use compare::random::Random;
 use compare::reflections::assert_reflects;
+use compare::two_bits::tiny_two_bit_code;
 use reference::iteration::{SIGNS, UNIT};
-use reference::splitting::Split;
+use reference::splitting::{Split, BLANK};
 use reference::SOUND;
 
 #[test]
@@ -25,10 +26,14 @@ fn encodings_of_the_reference() {
     assert_encodings(&SOUND);
 }
 
-/// Whether all four sums of each triple are at most U at the centred values.
+/// Whether all four sums of each triple are at most U at the centred values; a blank's is -U.
 fn meets_system(split: &Split, point: &[u8]) -> bool {
+    let centred = |item: usize| match item {
+        BLANK => -UNIT,
+        variable => (2 * i64::from(point[variable]) - 1) * UNIT,
+    };
     split.triples.iter().all(|triple| {
-        let values = triple.map(|variable| (2 * i64::from(point[variable]) - 1) * UNIT);
+        let values = triple.map(centred);
         let sum = |signs: [i64; 3]| (0..3).map(|i| signs[i] * values[i]).sum::<i64>();
         SIGNS.iter().all(|&signs| sum(signs) <= UNIT)
     })
@@ -42,10 +47,20 @@ fn digits(number: u32, length: usize) -> Vec<u8> {
 
 #[test]
 fn points_that_meet_the_system_are_those_of_codewords() {
+    check_points(tiny_code);
+}
+
+#[test]
+fn the_same_with_checks_of_two_bits() {
+    check_points(tiny_two_bit_code);
+}
+
+/// Over all points of some codes.
+fn check_points(make: fn(&mut Random) -> Code) {
     let mut random = Random::new(8);
     let (mut codewords, mut others) = (0, 0);
     for _ in 0..200 {
-        let code = tiny_code(&mut random);
+        let code = make(&mut random);
         let split = SOUND.split_code(&code);
         if split.variables() > 14 {
             continue;

@@ -81,7 +81,7 @@ fn edge_settings() -> Vec<Case> {
     cases
 }
 
-fn run_of(random: &mut Random, code: fn(&mut Random) -> Code) -> Case {
+pub fn run_of(random: &mut Random, code: fn(&mut Random) -> Code) -> Case {
     let mut draft = Draft::random(random, code);
     if random.once_in(2) {
         draft.lengthen(random);
@@ -97,18 +97,26 @@ fn small_run(random: &mut Random) -> Case {
     run_of(random, small_or_training_code)
 }
 
-/// One list shorter than needed or longer, the others exact.
 fn other_lengths(random: &mut Random) -> Case {
-    let mut draft = Draft::random(random, tiny_code);
+    other_lengths_of(random, tiny_code)
+}
+
+/// One list shorter than needed or longer, the others exact.
+pub fn other_lengths_of(random: &mut Random, code: fn(&mut Random) -> Code) -> Case {
+    let mut draft = Draft::random(random, code);
     let list = random.below(6);
     let room = draft.room[list];
     draft.room[list] = random.pick(&[room - 1, room - 1, 0, room + 1, room + 1_000]);
     draft.case(Entry::Decode)
 }
 
-/// A tolerance equal to the larger total of some iteration, or one less.
 fn exact_tolerance(random: &mut Random) -> Case {
-    let mut draft = Draft::random(random, tiny_code);
+    exact_tolerance_of(random, tiny_code)
+}
+
+/// A tolerance equal to the larger total of some iteration, or one less.
+pub fn exact_tolerance_of(random: &mut Random, code: fn(&mut Random) -> Code) -> Case {
+    let mut draft = Draft::random(random, code);
     draft.settings.limit = random.between(2, 40) as u32;
     draft.settings.tolerance = 0;
     let split = SOUND.split_code(&draft.code);

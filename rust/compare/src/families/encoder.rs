@@ -55,7 +55,7 @@ fn small_codes() -> Vec<Code> {
 }
 
 /// All messages of a code alone and as frames of one call, all of its words, and its length.
-fn all_of(code: &Code) -> Vec<Case> {
+pub fn all_of(code: &Code) -> Vec<Case> {
     let (bits, length) = (code.bits, length_of(code));
     let code = records(code);
     let messages: Vec<Vec<u8>> = (0..1 << length)
@@ -203,7 +203,7 @@ fn wrong_entries() -> Vec<Case> {
 
 /// A call of every entry of the encoder, sound but for the bits, and with something else
 /// wrong.
-fn calls(random: &mut Random, code: Code) -> Vec<Case> {
+pub fn calls(random: &mut Random, code: Code) -> Vec<Case> {
     let mut draft = Draft::of(random, code);
     let mut cases = OF_ENCODER.map(|entry| draft.case(entry)).to_vec();
     draft.word[0] = 2;
@@ -268,7 +268,7 @@ fn many_frames(random: &mut Random) -> Case {
 }
 
 /// A call for a code that is drawn, with lists that are long enough.
-fn of(random: &mut Random, code: fn(&mut Random) -> Code) -> Case {
+pub fn of(random: &mut Random, code: fn(&mut Random) -> Code) -> Case {
     let mut draft = Draft::random(random, code);
     if random.once_in(2) {
         draft.lengthen(random);

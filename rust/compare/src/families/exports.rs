@@ -69,7 +69,7 @@ fn digits() -> Vec<Case> {
 }
 
 /// An export with room for it, mostly, or its size.
-fn export_of(random: &mut Random, code: Code) -> Case {
+pub fn export_of(random: &mut Random, code: Code) -> Case {
     let mut draft = Draft::of(random, code);
     draft.text_room = match random.below(6) {
         0 => draft.text_room - 1,

@@ -73,7 +73,8 @@ fn written(random: &mut Random, plan: &Plan) -> Case {
     Case::Import { text, room }
 }
 
-fn damaged(random: &mut Random, code: Code) -> Case {
+/// A text of a code with damaged lists, mostly.
+pub fn damaged(random: &mut Random, code: Code) -> Case {
     let mut plan = Plan::of(&code);
     if random.once_in(2) {
         plan.shuffle_columns(random);
@@ -95,13 +96,17 @@ fn damaged_small(random: &mut Random) -> Case {
     damaged(random, code)
 }
 
-/// Every pair of damages to the lists, with room or without.
 fn damage_pairs() -> Vec<Case> {
-    let mut random = Random::new(9);
+    damage_pairs_of(9, small_code)
+}
+
+/// Every pair of damages to the lists, with room or without.
+pub fn damage_pairs_of(seed: u64, code: fn(&mut Random) -> Code) -> Vec<Case> {
+    let mut random = Random::new(seed);
     let mut cases = Vec::new();
     for first in LIST_DAMAGES {
         for second in LIST_DAMAGES {
-            let mut plan = Plan::of(&small_code(&mut random));
+            let mut plan = Plan::of(&code(&mut random));
             damage_lists(&mut random, &mut plan, first);
             damage_lists(&mut random, &mut plan, second);
             let text = text_of(&plan.lines());
@@ -158,7 +163,13 @@ fn most_triples() -> Vec<Case> {
 fn about_most_triples(random: &mut Random) -> Case {
     let bits = random.between(32, 50);
     let triples = random.pick(&[8_191, 8_192, 8_193, 8_193, 8_194, 8_200]);
-    let mut plan = Plan::of(&code_of(random, bits, 280, triples));
+    let code = code_of(random, bits, 280, triples);
+    damaged_most_triples(random, &code)
+}
+
+/// Damage beside which there may be too many triples.
+pub fn damaged_most_triples(random: &mut Random, code: &Code) -> Case {
+    let mut plan = Plan::of(code);
     let damage = random.pick(&[
         ListDamage::Excess,
         ListDamage::OtherIndex,

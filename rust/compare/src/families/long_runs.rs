@@ -28,15 +28,24 @@ fn long_run(random: &mut Random) -> Case {
     draft.case(Entry::Decode)
 }
 
-/// A row that grows to the end, or until the other checks give way: the run then
-/// settles late. No bit lies in more checks than the tuned rival takes.
+/// No bit lies in more checks than the tuned rival takes.
 fn strained_run(random: &mut Random) -> Case {
     let code = strained_code([0; 3].map(|_| random.between(4, 31)));
+    strained_run_of(random, &code, straining_costs)
+}
+
+/// A row that grows to the end, or until the other checks give way: the run then
+/// settles late. The costs are made from their least size.
+pub fn strained_run_of(
+    random: &mut Random,
+    code: &Code,
+    costs: fn(&mut Random, &Code, usize) -> Vec<i16>,
+) -> Case {
     let least = random.pick(&[20_000, 30_000, 32_767]);
-    let costs = straining_costs(random, &code, least);
+    let costs = costs(random, code, least);
     let limit = random.pick(&[1_500, 3_999, 4_000, 4_000]);
     let ratio = random.pick(&[0, 150, 1_023]);
-    exact_case(&code, Settings::new(65_535, ratio, limit, 0), costs)
+    exact_case(code, Settings::new(65_535, ratio, limit, 0), costs)
 }
 
 /// Weak costs and a ratio of 0, with which nearly all runs go on to the end, or one

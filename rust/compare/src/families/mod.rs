@@ -10,6 +10,7 @@ mod long_runs;
 mod programs;
 mod records;
 mod small_texts;
+mod two_bits;
 mod words;
 
 use crate::case::Case;
@@ -93,33 +94,48 @@ impl Family {
 pub fn all() -> Vec<Family> {
     let mut families = calls();
     families.extend(texts());
-    families.extend(encoder::families());
+    families.extend(encoder_alone());
     families.extend(program());
     families
 }
 
 /// The families of `Library`'s calls.
 pub fn calls() -> Vec<Family> {
-    let mut families = records::families();
+    let mut families = of_records();
     families.extend(words::families());
     families.extend(channels::families());
     families.extend(decoding::families());
     families.extend(limit::families());
     families.extend(long_runs::families());
+    families.extend(two_bits::calls());
     families
 }
 
 /// The families with calls of import and export.
 pub fn conversions() -> Vec<Family> {
-    let mut families = records::families();
+    let mut families = of_records();
     families.extend(texts());
     families
 }
 
 /// The families with calls of the encoder.
 pub fn encodings() -> Vec<Family> {
+    let mut families = of_records();
+    families.extend(encoder_alone());
+    families
+}
+
+/// The families with calls of every entry that takes records.
+fn of_records() -> Vec<Family> {
     let mut families = records::families();
-    families.extend(encoder::families());
+    families.extend(two_bits::records());
+    families
+}
+
+/// The families of the encoder alone.
+fn encoder_alone() -> Vec<Family> {
+    let mut families = encoder::families();
+    families.extend(two_bits::encoder());
     families
 }
 
@@ -128,10 +144,13 @@ fn texts() -> Vec<Family> {
     let mut families = small_texts::families();
     families.extend(imports::families());
     families.extend(exports::families());
+    families.extend(two_bits::texts());
     families
 }
 
 /// The families of the frame program.
 pub fn program() -> Vec<Family> {
-    programs::families()
+    let mut families = programs::families();
+    families.extend(two_bits::program());
+    families
 }

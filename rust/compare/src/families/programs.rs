@@ -45,7 +45,7 @@ fn frame_record(costs: &[i16]) -> Vec<u8> {
 }
 
 /// The settings of document 01's listing.
-const LISTED: Settings = Settings::new(256, 0, 2, 0);
+pub const LISTED: Settings = Settings::new(256, 0, 2, 0);
 
 fn listing() -> Vec<Case> {
     let mut input = records(&one_check(3));
@@ -57,7 +57,7 @@ fn listing() -> Vec<Case> {
 }
 
 /// Every beginning of an input, and the input.
-fn cut_everywhere(input: &[u8]) -> Vec<Case> {
+pub fn cut_everywhere(input: &[u8]) -> Vec<Case> {
     (0..=input.len())
         .map(|length| Case::Frames {
             input: input[..length].to_vec(),
@@ -107,8 +107,7 @@ fn unused_bit() -> Vec<Case> {
 /// by settings.
 fn room() -> Vec<Case> {
     let mut random = Random::new(6);
-    let mut cases = Vec::new();
-    for (bits, checks, triples) in [
+    let sizes = [
         (512, 256, 1_024),
         (512, 256, 1_025),
         (513, 256, 1_024),
@@ -117,27 +116,29 @@ fn room() -> Vec<Case> {
         (32, 35, 1_024),
         (32, 35, 1_030),
         (7, 206, 1_026),
-    ] {
-        let code = code_of(&mut random, bits, checks, triples);
-        let end = records(&code).len();
-        let frame = frame_record(&vec![100; bits]);
-        let whole = [records(&code), settings_record(LISTED), frame].concat();
-        let mut no_checks = whole.clone();
-        no_checks[4..6].copy_from_slice(&[0, 0]);
-        let mut unused = whole.clone();
-        unused[2..4].copy_from_slice(&(bits as u16 + 1).to_be_bytes());
-        let mut high_index = whole.clone();
-        high_index[end - 1] = 255;
-        high_index[end - 2] = 255;
-        for length in [4, 5, 6, end - 1, end, end + 1, end + 2, end + 12] {
-            let input = whole[..length].to_vec();
-            cases.push(Case::Frames { input });
-        }
-        for input in [whole, no_checks, unused, high_index] {
-            cases.push(Case::Frames { input });
-        }
-    }
-    cases
+    ];
+    let of_sizes = |(bits, checks, triples)| about(&code_of(&mut random, bits, checks, triples));
+    sizes.into_iter().flat_map(of_sizes).collect()
+}
+
+/// A code with settings and a frame, whole, cut about the end of the code, with no checks, with
+/// a bit more and with a last index too high.
+pub fn about(code: &Code) -> Vec<Case> {
+    let end = records(code).len();
+    let whole = input_of(code, LISTED, &[vec![100; code.bits]]);
+    let mut no_checks = whole.clone();
+    no_checks[4..6].copy_from_slice(&[0, 0]);
+    let mut unused = whole.clone();
+    unused[2..4].copy_from_slice(&(code.bits as u16 + 1).to_be_bytes());
+    let mut high_index = whole.clone();
+    high_index[end - 1] = 255;
+    high_index[end - 2] = 255;
+    let lengths = [4, 5, 6, end - 1, end, end + 1, end + 2, end + 12];
+    let cut = lengths.map(|length| whole[..length].to_vec());
+    let inputs = cut
+        .into_iter()
+        .chain([whole, no_checks, unused, high_index]);
+    inputs.map(|input| Case::Frames { input }).collect()
 }
 
 fn edge_settings() -> Vec<Case> {
@@ -161,11 +162,17 @@ fn edge_settings() -> Vec<Case> {
 }
 
 /// The input of a code, settings and frames.
-fn whole(code: &Code, settings: Settings, frames: &[Vec<i16>]) -> Case {
+pub fn input_of(code: &Code, settings: Settings, frames: &[Vec<i16>]) -> Vec<u8> {
     let mut input = records(code);
     input.extend(settings_record(settings));
     input.extend(frames.iter().flat_map(|costs| frame_record(costs)));
-    Case::Frames { input }
+    input
+}
+
+pub fn whole(code: &Code, settings: Settings, frames: &[Vec<i16>]) -> Case {
+    Case::Frames {
+        input: input_of(code, settings, frames),
+    }
 }
 
 /// Two frames that go on to the limit, and one between them that settles.
@@ -197,7 +204,7 @@ fn settings_and_frames(random: &mut Random, code: &Code, count: usize) -> Vec<u8
     bytes
 }
 
-fn stream_of(random: &mut Random, code: fn(&mut Random) -> Code) -> Vec<u8> {
+pub fn stream_of(random: &mut Random, code: fn(&mut Random) -> Code) -> Vec<u8> {
     let code = code(random);
     [records(&code), after_code(random, &code)].concat()
 }
@@ -221,9 +228,13 @@ fn cut_stream(random: &mut Random) -> Case {
     Case::Frames { input }
 }
 
-/// A stream with bytes flipped, left out or put in.
 fn damaged_stream(random: &mut Random) -> Case {
-    let mut input = stream_of(random, some_code);
+    damaged_stream_of(random, some_code)
+}
+
+/// A stream with bytes flipped, left out or put in.
+pub fn damaged_stream_of(random: &mut Random, code: fn(&mut Random) -> Code) -> Case {
+    let mut input = stream_of(random, code);
     for _ in 0..random.between(1, 2) {
         let place = random.below(input.len());
         match random.below(4) {
@@ -235,9 +246,13 @@ fn damaged_stream(random: &mut Random) -> Case {
     Case::Frames { input }
 }
 
-/// Damaged code records, with settings and frames after them.
 fn damaged_records(random: &mut Random) -> Case {
-    let mut draft = Draft::random(random, some_code);
+    damaged_records_of(random, some_code)
+}
+
+/// Damaged code records, with settings and frames after them.
+pub fn damaged_records_of(random: &mut Random, code: fn(&mut Random) -> Code) -> Case {
+    let mut draft = Draft::random(random, code);
     for _ in 0..random.between(1, 2) {
         let damage = random.pick(&damages_of(Entry::Read));
         apply(random, &mut draft, Entry::Read, damage);

@@ -33,7 +33,7 @@ fn exact_split(code: &Code) -> Case {
 }
 
 /// A call of every entry with these records, else fit for this code.
-fn calls(code: &Code, records: &[u8]) -> Vec<Case> {
+pub fn calls(code: &Code, records: &[u8]) -> Vec<Case> {
     let mut draft = Draft::of(&mut Random::new(0), code.clone());
     draft.records = records.to_vec();
     draft.settings.limit = 2;
@@ -90,8 +90,8 @@ fn edges() -> Vec<Case> {
 
 fn every_degree() -> Vec<Case> {
     let mut cases = Vec::new();
-    for degree in 2..=34 {
-        let code = one_check(degree.max(3));
+    for degree in 3..=34 {
+        let code = one_check(degree);
         let (triples, variables) = (3 * (code.bits - 2), 2 * code.bits - 3);
         for room in [
             [triples, variables],
@@ -108,14 +108,18 @@ fn every_degree() -> Vec<Case> {
     cases
 }
 
-/// Every pair of damages that an entry can meet, on several codes.
 fn damage_pairs() -> Vec<Case> {
-    let mut random = Random::new(2);
+    damage_pairs_of(2, small_code)
+}
+
+/// Every pair of damages that an entry can meet, on several codes.
+pub fn damage_pairs_of(seed: u64, code: fn(&mut Random) -> Code) -> Vec<Case> {
+    let mut random = Random::new(seed);
     let mut cases = Vec::new();
     for entry in ENTRIES {
         for first in damages_of(entry) {
             for second in damages_of(entry) {
-                let mut draft = Draft::random(&mut random, small_code);
+                let mut draft = Draft::random(&mut random, code);
                 apply(&mut random, &mut draft, entry, first);
                 apply(&mut random, &mut draft, entry, second);
                 cases.push(draft.case(entry));
@@ -142,18 +146,23 @@ fn largest() -> Vec<Case> {
         (32, 274, 8_220),
     ] {
         let code = code_of(&mut random, bits, checks, triples);
-        let whole = records(&code);
-        let after = [&whole[..], b"L"].concat();
-        let mut unused = whole.clone();
-        unused[2..4].copy_from_slice(&(bits as u16 + 1).to_be_bytes());
-        for records in [&whole[..], &after, &unused, &whole[..whole.len() - 1]] {
-            cases.extend(calls(&code, records));
-        }
+        cases.extend(about(&code));
     }
     cases
 }
 
-fn damaged(random: &mut Random, code: Code) -> Case {
+/// Calls with the records of a code, with a byte after them, with a bit more, and cut.
+pub fn about(code: &Code) -> Vec<Case> {
+    let whole = records(code);
+    let after = [&whole[..], b"L"].concat();
+    let mut unused = whole.clone();
+    unused[2..4].copy_from_slice(&(code.bits as u16 + 1).to_be_bytes());
+    let all = [&whole[..], &after, &unused, &whole[..whole.len() - 1]];
+    let of_each = |records: &[u8]| calls(code, records);
+    all.into_iter().flat_map(of_each).collect()
+}
+
+pub fn damaged(random: &mut Random, code: Code) -> Case {
     let entry = random.pick(&ENTRIES);
     let mut draft = Draft::of(random, code);
     if random.once_in(2) {

@@ -30,10 +30,15 @@ fn word_entry(random: &mut Random) -> Entry {
 }
 
 fn every_word() -> Vec<Case> {
-    let mut random = Random::new(4);
+    every_word_of(4, tiny_code)
+}
+
+/// Test and extension of every word of some codes.
+pub fn every_word_of(seed: u64, code: fn(&mut Random) -> Code) -> Vec<Case> {
+    let mut random = Random::new(seed);
     let mut cases = Vec::new();
     for _ in 0..8 {
-        let mut draft = Draft::random(&mut random, tiny_code);
+        let mut draft = Draft::random(&mut random, code);
         for number in 0..1 << draft.code.bits {
             let bits = 0..draft.code.bits;
             draft.word = bits.map(|bit| (number >> bit & 1) as u8).collect();
@@ -44,7 +49,7 @@ fn every_word() -> Vec<Case> {
     cases
 }
 
-fn word_of(random: &mut Random, code: fn(&mut Random) -> Code) -> Case {
+pub fn word_of(random: &mut Random, code: fn(&mut Random) -> Code) -> Case {
     let mut draft = Draft::random(random, code);
     draft.lengthen(random);
     draft.case(word_entry(random))
