@@ -27,7 +27,7 @@ pub fn meaning(number: u32) -> &'static str {
         1 => "the bytes end inside a record",
         2 => "another mark than the due one",
         3 => "n outside 3..4096 or m outside 1..2048",
-        4 => "a degree outside 3..32",
+        4 => "a degree outside 2..32",
         5 => "an index n or above",
         6 => "an index not above the one before",
         7 => "more than 8192 triples",

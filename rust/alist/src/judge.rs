@@ -3,11 +3,12 @@
 use crate::draft::{Axis, Draft, List};
 use crate::fault::Fault;
 use crate::numbers::Number;
+use crate::records::triples_of;
 use std::ops::RangeInclusive;
 
 pub const BITS: RangeInclusive<u16> = 3..=4_096;
 pub const CHECKS: RangeInclusive<u16> = 1..=2_048;
-pub const DEGREES: RangeInclusive<u16> = 3..=32;
+pub const DEGREES: RangeInclusive<u16> = 2..=32;
 pub const MOST_TRIPLES: usize = 8_192;
 
 /// The first cause against a draft, where it shows first.
@@ -151,11 +152,11 @@ fn rising(row: usize, list: &List) -> Result<(), Fault> {
     }
 }
 
-/// That the sum of degree - 2 is within its limit; the degrees are within theirs.
+/// That the triples are within their limit; the degrees are within theirs.
 fn triples(degrees: &[Number]) -> Result<(), Fault> {
     let mut sum = 0;
     for (i, degree) in degrees.iter().enumerate() {
-        sum += usize::from(degree.value) - 2;
+        sum += triples_of(degree.value.into());
         if sum > MOST_TRIPLES {
             let what = format!("up to row {} the checks make {sum} triples", i + 1);
             return Err(Fault::new(7, degree.at, what));

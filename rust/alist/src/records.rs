@@ -14,10 +14,18 @@ pub struct Code {
     pub checks: Vec<Vec<usize>>,
 }
 
+/// The triples of a check: degree - 2, and one of two bits.
+pub fn triples_of(degree: usize) -> usize {
+    (degree - 2).max(1)
+}
+
 impl Code {
-    /// The sum of degree - 2 over all checks.
+    /// The triples of all checks.
     pub fn triples(&self) -> usize {
-        self.checks.iter().map(|check| check.len() - 2).sum()
+        self.checks
+            .iter()
+            .map(|check| triples_of(check.len()))
+            .sum()
     }
 
     /// How many checks each bit lies in.
@@ -46,7 +54,7 @@ pub fn read(bytes: &[u8]) -> Result<Code, Fault> {
         reader.mark(CHECK_MARK, &format!("check {check}"))?;
         let at = reader.at;
         code.checks.push(reader.check(check, bits)?);
-        triples += code.checks[check].len() - 2;
+        triples += triples_of(code.checks[check].len());
         if triples > MOST_TRIPLES && too_many.is_none() {
             let what = format!("up to check {check} the checks make {triples} triples");
             too_many = Some(Fault::new(7, at, what));
@@ -115,7 +123,8 @@ impl Reader<'_> {
     fn check(&mut self, check: usize, bits: usize) -> Result<Vec<usize>, Fault> {
         let ([degree], at) = self.take(&format!("the degree of check {check}"))?;
         if !DEGREES.contains(&degree.into()) {
-            let what = format!("check {check} has degree {degree}; 3 to 32 are allowed");
+            let (least, most) = (DEGREES.start(), DEGREES.end());
+            let what = format!("check {check} has degree {degree}; {least} to {most} are allowed");
             return Err(Fault::new(4, at, what));
         }
         let mut indices: Vec<usize> = Vec::new();

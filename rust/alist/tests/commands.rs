@@ -4,7 +4,7 @@ mod common;
 
 use alist::{run, Streams};
 use common::{damaged, hamming, normal, text_of};
-use compare::codes::{records, tiny_code};
+use compare::codes::{records, tiny_code, Code};
 use compare::random::Random;
 use interface::{Alist, BytesAnswer};
 use reference::SOUND;
@@ -191,6 +191,24 @@ fn show_takes_text_and_records() {
 }
 
 #[test]
+fn a_check_of_two_bits_is_shown_as_one_triple() {
+    let code = Code {
+        bits: 4,
+        checks: vec![vec![0, 1], vec![0, 1, 2, 3], vec![2, 3]],
+    };
+    let (status, output, _) = alist(&["show"], &records(&code));
+    let shown = String::from_utf8(output).unwrap();
+    assert_eq!(status, 0);
+    for due in [
+        "triples T               4\n",
+        "variables V             5\n",
+        "rows of degree 2        2\n",
+    ] {
+        assert!(shown.contains(due), "{shown}");
+    }
+}
+
+#[test]
 fn refused_records_are_explained() {
     let code = records(&hamming());
     let edited = |at: usize, byte: u8| {
@@ -211,8 +229,8 @@ fn refused_records_are_explained() {
         (edited(3, 2), "2: n is 2; 3 to 4096 are allowed (3: "),
         (edited(4, 9), "4: m is 2307; 1 to 2048 are allowed (3: "),
         (
-            edited(8, 2),
-            "8: check 0 has degree 2; 3 to 32 are allowed (4: ",
+            edited(8, 1),
+            "8: check 0 has degree 1; 2 to 32 are allowed (4: a degree outside 2..32)",
         ),
         (
             edited(16, 9),

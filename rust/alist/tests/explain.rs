@@ -9,6 +9,7 @@ use compare::case::Case;
 use compare::codes::{code_of, small_code, tiny_code, Code};
 use compare::families::{conversions, Effort};
 use compare::random::Random;
+use compare::two_bits::with_two_bits;
 use std::collections::BTreeMap;
 use std::convert::Infallible;
 
@@ -26,7 +27,7 @@ fn unsound(random: &mut Random) -> Code {
     let row = random.below(code.checks.len());
     match random.below(5) {
         0 => code.bits += 1,
-        1 => code.checks[row].truncate(2),
+        1 => code.checks[row].truncate(random.below(2)),
         2 => code.checks[row].reverse(),
         3 => {
             let bit = code.checks[row][0];
@@ -69,10 +70,35 @@ fn the_number_is_the_librarys() {
         let code = code_of(&mut random, bits, checks, triples);
         compare(text_of(&code).as_bytes(), &mut tally);
     }
+    // The last check of two bits is one triple too many.
+    for two in [1, 2] {
+        let code = code_of(&mut random, 900, 274, 8_191);
+        let code = with_two_bits(&mut random, code, two, 900);
+        compare(text_of(&code).as_bytes(), &mut tally);
+    }
     for number in [0, 18, 19, 3, 4, 6, 8] {
         assert!(tally.get(&number) > Some(&20), "{number}: {tally:?}");
     }
-    assert_eq!(tally.get(&7), Some(&1));
+    assert_eq!(tally.get(&7), Some(&2));
+}
+
+/// Rows of no bit and of one are refused where their degree stands, one of two is not.
+#[test]
+fn the_least_degree() {
+    let told = |row: &[usize]| {
+        let code = Code {
+            bits: 3,
+            checks: vec![vec![0, 1, 2], row.to_vec()],
+        };
+        let text = text_of(&code);
+        let fault = explain(text.as_bytes())?;
+        let place = place(text.as_bytes(), fault.at);
+        Some(format!("{place} {}: {}", fault.number, fault.what))
+    };
+    let due = |degree| format!("4:3 4: row 2 has degree {degree}; 2 to 32 are allowed");
+    assert_eq!(told(&[]), Some(due(0)));
+    assert_eq!(told(&[1]), Some(due(1)));
+    assert_eq!(told(&[1, 2]), None);
 }
 
 /// The texts with which the library is compared.

@@ -96,7 +96,8 @@ impl Channel {
     }
 }
 
-/// The lists that the decoder's caller lends.
+/// The lists that the decoder's caller lends. A check of two bits has one triple, whose third
+/// entry is 0xFFFF, the blank; the lists of counts, sums and values have no entry for it.
 pub struct Lists<'a> {
     pub triples: &'a mut [u16],
     pub counts: &'a mut [u16],
@@ -154,7 +155,7 @@ pub trait Library: Decoder {
     /// Reads code records.
     fn read(&self, code: &[u8]) -> CodeAnswer;
 
-    /// Splits the checks of a code into triples.
+    /// Splits the checks of a code into triples; a check of two bits has 0xFFFF in third place.
     fn split(&self, code: &[u8], triples: &mut [u16], counts: &mut [u16]) -> u32;
 
     /// The channel front: costs of samples.
