@@ -10,8 +10,39 @@ use std::time::Instant;
 pub const ROUNDS: usize = 15;
 pub const FEW_ROUNDS: usize = 5;
 
+/// A decoder that takes part. An earlier library may refuse a degree that is allowed now.
+struct Entrant {
+    name: &'static str,
+    decoder: Box<dyn Decoder>,
+    may_refuse: bool,
+}
+
+impl Entrant {
+    fn new(name: &'static str, decoder: impl Decoder + 'static) -> Entrant {
+        Entrant {
+            name,
+            decoder: Box::new(decoder),
+            may_refuse: false,
+        }
+    }
+
+    #[cfg(feature = "before")]
+    fn earlier(name: &'static str, decoder: impl Decoder + 'static) -> Entrant {
+        Entrant {
+            may_refuse: true,
+            ..Entrant::new(name, decoder)
+        }
+    }
+
+    /// Whether it refuses a scenario's code for a degree.
+    fn refuses(&self, scenario: &Scenario) -> bool {
+        let answer = |decoder| decode(decoder, scenario, 0, &mut lists(scenario));
+        self.may_refuse && answer(self.decoder.as_ref()).number == 4
+    }
+}
+
 pub struct Contest {
-    decoders: Vec<(&'static str, Box<dyn Decoder>)>,
+    entrants: Vec<Entrant>,
 }
 
 /// What the frames came to, and the time that each decoder took for them.
@@ -21,8 +52,9 @@ pub struct ContestResult {
     pub right: usize,
     /// The part of all values that are -U or U at the end of their frames.
     pub at_limit: f64,
-    /// Seconds for all frames: each frame's least, and its middle, of all rounds.
-    pub seconds: Vec<(f64, f64)>,
+    /// Seconds for all frames: each frame's least, and its middle, of all rounds; nothing of a
+    /// decoder that refuses the code.
+    pub seconds: Vec<Option<(f64, f64)>>,
 }
 
 fn lists(scenario: &Scenario) -> OwnLists {
@@ -46,51 +78,58 @@ fn at_limit(values: &[i16]) -> f64 {
     limited.count() as f64 / values.len() as f64
 }
 
+/// The least and the middle times of frames, added up, if there are any.
+fn summed(frames: Vec<Vec<f64>>) -> Option<(f64, f64)> {
+    let times = frames.into_iter().map(|mut times| {
+        times.sort_by(f64::total_cmp);
+        (times[0], times[times.len() / 2])
+    });
+    times.reduce(|sum, times| (sum.0 + times.0, sum.1 + times.1))
+}
+
 impl Contest {
     pub fn new() -> Contest {
         Contest {
-            decoders: vec![
+            entrants: vec![
                 #[cfg(feature = "library")]
-                ("library", Box::new(widagbe::Widagbe)),
+                Entrant::new("library", widagbe::Widagbe),
                 #[cfg(feature = "before")]
-                ("before", Box::new(crate::before::Before)),
-                ("plain", Box::new(Plain)),
-                ("tuned", Box::new(Tuned)),
+                Entrant::earlier("before", crate::before::Before),
+                Entrant::new("plain", Plain),
+                Entrant::new("tuned", Tuned),
             ],
         }
     }
 
     pub fn names(&self) -> Vec<&'static str> {
-        self.decoders.iter().map(|(name, _)| *name).collect()
+        self.entrants.iter().map(|entrant| entrant.name).collect()
     }
 
     /// Checks that all decoders agree, then measures them in turn.
     pub fn run(&mut self, scenario: &Scenario, rounds: usize) -> ContestResult {
         let mut result = self.agreed(scenario);
         let mut lent = lists(scenario);
-        let frames = scenario.frames.len();
-        let mut times = vec![vec![Vec::new(); frames]; self.decoders.len()];
-        let count = self.decoders.len();
+        let count = self.entrants.len();
+        let mut times: Vec<Vec<Vec<f64>>> = self
+            .entrants
+            .iter()
+            .map(|entrant| match entrant.refuses(scenario) {
+                true => Vec::new(),
+                false => vec![Vec::new(); scenario.frames.len()],
+            })
+            .collect();
         for round in 0..rounds {
             // Another decoder begins in each round.
             for place in (0..count).map(|turn| (round + turn) % count) {
-                let (_, decoder) = &self.decoders[place];
+                let decoder = self.entrants[place].decoder.as_ref();
                 for (frame, times) in times[place].iter_mut().enumerate() {
                     let start = Instant::now();
-                    decode(decoder.as_ref(), scenario, frame, &mut lent);
+                    decode(decoder, scenario, frame, &mut lent);
                     times.push(start.elapsed().as_secs_f64());
                 }
             }
         }
-        for times in &mut times {
-            let mut sums = (0.0, 0.0);
-            for times in times {
-                times.sort_by(f64::total_cmp);
-                sums.0 += times[0];
-                sums.1 += times[rounds / 2];
-            }
-            result.seconds.push(sums);
-        }
+        result.seconds = times.into_iter().map(summed).collect();
         result
     }
 
@@ -105,7 +144,8 @@ impl Contest {
         for frame in 0..scenario.frames.len() {
             let mut first = lists(scenario);
             let answer = decode(&Plain, scenario, frame, &mut first);
-            for (name, decoder) in &self.decoders {
+            let taking = |entrant: &&Entrant| !entrant.refuses(scenario);
+            for Entrant { name, decoder, .. } in self.entrants.iter().filter(taking) {
                 let mut other = lists(scenario);
                 let found = decode(decoder.as_ref(), scenario, frame, &mut other);
                 assert!(found == answer && other == first, "{name} differs");

@@ -29,6 +29,11 @@ fn decoders() {
         let result = contest.run(&scenario, ROUNDS);
         report::line(&scenario, &result);
     }
+    report::two_bits_heading(contest.names());
+    for scenario in scenario::two_bits() {
+        let result = contest.run(&scenario, ROUNDS);
+        report::line(&scenario, &result);
+    }
     report::growth_heading(contest.names());
     for scenario in scenario::growing() {
         let result = contest.run(&scenario, ROUNDS);

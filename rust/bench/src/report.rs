@@ -29,9 +29,18 @@ fn ratio_names(names: &[&str]) -> Vec<String> {
 }
 
 pub fn heading(names: Vec<&str>) {
+    println!();
+    decoder_columns(names);
+}
+
+pub fn two_bits_heading(names: Vec<&str>) {
+    println!("\nCodes with checks of two bits, alone or a third of all:");
+    decoder_columns(names);
+}
+
+fn decoder_columns(names: Vec<&str>) {
     let ratios = ratio_names(&names);
     let ratios: Vec<&str> = ratios.iter().map(String::as_str).collect();
-    println!();
     println!(
         "   n     T level        dB frames  k/frame settled right at limit | ns per triple and iteration: {} | middle: {} | frames/s: {} | {}",
         columns(&names, 8),
@@ -47,19 +56,40 @@ fn per_triple(scenario: &Scenario, result: &ContestResult, seconds: f64) -> f64 
 }
 
 fn numbers(numbers: impl Iterator<Item = f64>, width: usize, digits: usize) -> String {
-    let numbers = numbers.map(|number| format!("{number:>width$.digits$}"));
+    columns_of(numbers.map(Some), width, digits)
+}
+
+/// The same, with blanks where there is no number.
+fn columns_of(numbers: impl Iterator<Item = Option<f64>>, width: usize, digits: usize) -> String {
+    let numbers = numbers.map(|number| match number {
+        Some(number) => format!("{number:>width$.digits$}"),
+        None => " ".repeat(width),
+    });
     numbers.collect::<Vec<String>>().join(" ")
 }
 
+/// The least time of each decoder for all frames.
+fn least(result: &ContestResult) -> impl Iterator<Item = Option<f64>> + '_ {
+    let times = result.seconds.iter();
+    times.map(|times| times.map(|(least, _)| least))
+}
+
+/// The middle time of each.
+fn middle(result: &ContestResult) -> impl Iterator<Item = Option<f64>> + '_ {
+    let times = result.seconds.iter();
+    times.map(|times| times.map(|(_, middle)| middle))
+}
+
 fn ratios(result: &ContestResult) -> String {
-    let first = result.seconds[0].0;
-    let others = result.seconds[1..].iter();
-    numbers(others.map(|(least, _)| first / least), RATIO_WIDTH, 3)
+    let mut times = least(result);
+    let first = times.next().flatten();
+    let ratio = |other: Option<f64>| Some(first? / other?);
+    columns_of(times.map(ratio), RATIO_WIDTH, 3)
 }
 
 pub fn line(scenario: &Scenario, result: &ContestResult) {
     let frames = scenario.frames.len();
-    let times = result.seconds.iter();
+    let per = |seconds: Option<f64>| Some(per_triple(scenario, result, seconds?));
     let decibels = scenario.decibels.map(|level| format!("{level:.1}"));
     println!(
         "{:>4} {:>5} {:<10} {:>4} {frames:>6} {:>8.1} {:>7} {:>5} {:>6.1} % | {:29}{} | {:7} {} | {:9} {} | {}",
@@ -72,11 +102,11 @@ pub fn line(scenario: &Scenario, result: &ContestResult) {
         result.right,
         100.0 * result.at_limit,
         "",
-        numbers(times.clone().map(|(least, _)| per_triple(scenario, result, *least)), 8, 2),
+        columns_of(least(result).map(per), 8, 2),
         "",
-        numbers(times.clone().map(|(_, middle)| per_triple(scenario, result, *middle)), 8, 2),
+        columns_of(middle(result).map(per), 8, 2),
         "",
-        numbers(times.map(|(least, _)| frames as f64 / least), 8, 0),
+        columns_of(least(result).map(|least| Some(frames as f64 / least?)), 8, 0),
         ratios(result),
     );
 }
@@ -92,15 +122,16 @@ pub fn growth_heading(names: Vec<&str>) {
 
 pub fn growth_line(scenario: &Scenario, result: &ContestResult) {
     let frames = scenario.frames.len() as f64;
-    let times = result.seconds.iter().map(|(least, _)| *least);
+    let per_frame = |seconds: Option<f64>| Some(1e6 * seconds? / frames);
+    let per = |seconds: Option<f64>| Some(per_triple(scenario, result, seconds?));
     println!(
         "{:>4} {:>5} | {:22}{} | {:29}{}",
         scenario.code.bits,
         scenario.code.triples(),
         "",
-        numbers(times.clone().map(|least| 1e6 * least / frames), 9, 1),
+        columns_of(least(result).map(per_frame), 9, 1),
         "",
-        numbers(times.map(|least| per_triple(scenario, result, least)), 8, 2),
+        columns_of(least(result).map(per), 8, 2),
     );
 }
 
@@ -116,7 +147,7 @@ pub fn longest_heading(names: Vec<&str>) {
 }
 
 pub fn longest_line(scenario: &Scenario, result: &ContestResult) {
-    let times = result.seconds.iter().map(|(least, _)| 1e3 * least);
+    let times = least(result).map(|least| Some(1e3 * least?));
     println!(
         "{:>4} {:>5} {:<22} {:>4} | {:10} {} | {}",
         scenario.code.bits,
@@ -124,7 +155,7 @@ pub fn longest_line(scenario: &Scenario, result: &ContestResult) {
         scenario.name,
         result.iterations,
         "",
-        numbers(times, 8, 0),
+        columns_of(times, 8, 0),
         ratios(result),
     );
 }

@@ -6,6 +6,7 @@ use compare::codes::{
 };
 use compare::draft::wild_costs;
 use compare::random::Random;
+use compare::two_bits::{pairs, ring};
 use interface::{Channel, Library, Settings};
 use reference::run::MOST_ITERATIONS;
 use reference::SOUND;
@@ -93,6 +94,36 @@ pub fn all() -> Vec<Scenario> {
         in_32_checks(),
         limited(),
     ]
+}
+
+/// Codes with checks of two bits, at a level where frames settle soon and at a hard one. In the
+/// first four all checks have two bits, and all bits are to be equal.
+pub fn two_bits() -> Vec<Scenario> {
+    let equal =
+        |name, code, noise, count| Scenario::of(name, code, SETTINGS, frames(1_008, noise, count));
+    vec![
+        equal("ring easy", ring(1_008), 0.5, 40),
+        equal("ring hard", ring(1_008), 4.0, 8),
+        equal("graph easy", graph(), 1.0, 40),
+        equal("graph hard", graph(), 16.0, 8),
+        Scenario::new("third easy", third(), 6.0, 20),
+        Scenario::new("third hard", third(), 0.5, 4),
+    ]
+}
+
+/// Each bit lies in four checks, all of two bits.
+fn graph() -> Code {
+    regular_code(&mut Random::new(SEED), 1_008, 4, 2)
+}
+
+/// A third of the checks have two bits, no bit twice.
+fn third() -> Code {
+    let random = &mut Random::new(SEED);
+    let mut code = code_of(random, 1_008, 336, 1_344);
+    code.checks
+        .extend(pairs(random, 1_008, 504).checks.into_iter().take(168));
+    random.shuffle(&mut code.checks);
+    code
 }
 
 /// Every bit lies in 32 checks.
