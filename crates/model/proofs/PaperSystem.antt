@@ -22,11 +22,11 @@ use Rattle.model.specs.Paper.{right, residual17}
 use Rattle.model.specs.PaperSystem.{matrix, times, PaperSystem, Projection, residual12, normSquare, StartStop}
 use Rattle.model.specs.DecoderClaims.{iterateOf, Published}
 use Rattle.model.proofs.Accepted.{accepted}
-use Rattle.model.proofs.TripleRule.{members, members-long, occurs-some}
+use Rattle.model.proofs.TripleRule.{members, members-long, member-is, occurs-some}
 use Rattle.model.proofs.Bounds.{divisor-above}
 use Rattle.model.proofs.Causes.{in-range}
 use Rattle.model.specs.Calls.{outOfRange}
-use Rattle.model.proofs.Rows.{three, none, value-variable}
+use Rattle.model.proofs.Rows.{none, value-variable}
 use Rattle.model.proofs.Paper.{right-is, paper}
 
 -- ---- a row of A
@@ -298,12 +298,7 @@ module _ (b : List ℕ) (judged : judge b ≡ 0) (o : Settings) (costs : List �
   within =
       let g = systemOf (codeOf b) in
       let m = members (codeOf b) (accepted b judged) in
-      let inside : (t : ℕ) → t < g .triples → 3 * t + 2 < length (g .members) = λ t h. omega (arith, members-long (codeOf b) (accepted b judged)) in
-      record {
-        few = m .few;
-        named = λ t p h. three (λ p. (member (g .members) t p < g .variables) ⊎ (member (g .members) t p ≡ blank))
-            (inl (m .first t (inside t h))) (inl (m .second t (inside t h))) (m .third t (inside t h)) p;
-      }
+      record { few = m .few; named = λ t p h l. member-is (g .members) (g .variables) m t p (omega (arith, members-long (codeOf b) (accepted b judged))) l }
 
   -- the divisors are above 0
   accepted-projection : outOfRange o ≡ false → (a : State) (v : ℕ) → v < variables (codeOf b) → Projection (systemOf (codeOf b)) o costs a v

@@ -253,13 +253,14 @@ module _ (n a : ℕ) (c : List ℕ) (sound : SoundCheck n c) (above : n ≤ a) (
           only P z zero b = z
           only P z (suc t) b = absurd (omega arith)
 
--- entry by entry
+-- position by position, and entry by entry
+pub member-is : (ts : List ℕ) (n : ℕ) → Members ts n → (t p : ℕ) → 3 * t + 2 < length ts → p < 3 → (member ts t p < n) ⊎ (member ts t p ≡ blank)
+member-is ts n m t p h = three (λ p. (member ts t p < n) ⊎ (member ts t p ≡ blank)) (inl (m .first t h)) (inl (m .second t h)) (m .third t h) p
+
 pub members-at : (ts : List ℕ) (T n : ℕ) → length ts ≡ 3 * T → Members ts n → (i : ℕ) → i < length ts → (getD ts i 0 < n) ⊎ (getD ts i 0 ≡ blank)
 members-at ts T n long m i h =
-    let t = i / 3 in
-    let at : 3 * t + i % 3 ≡ i = omega arith in
-    subst (λ (j : ℕ). (getD ts j 0 < n) ⊎ (getD ts j 0 ≡ blank)) at
-    (three (λ p. (member ts t p < n) ⊎ (member ts t p ≡ blank)) (inl (m .first t (omega arith))) (inl (m .second t (omega arith))) (m .third t (omega arith)) (i % 3) (omega arith))
+    let at : 3 * (i / 3) + i % 3 ≡ i = omega arith in
+    subst (λ (j : ℕ). (getD ts j 0 < n) ⊎ (getD ts j 0 ≡ blank)) at (member-is ts n m (i / 3) (i % 3) (omega arith) (omega arith))
 
 -- ---- of a whole code
 pub triples-long : (n : ℕ) (cs : List (List ℕ)) (a : ℕ) → SoundChecks n cs → length (triplesFrom cs a) ≡ 3 * total tripleCount cs

@@ -25,7 +25,7 @@ returns c =
 pub renew-four-spec : {M : Type 1} → statement M
 renew-four-spec =
     tie.close (tie.spec
-    (λ c κs. let s = c .before .before in (omega (arith, s .pre .0), omega (arith, s .pre .0), λ i h. small-abs (at (s .args .rows .now) i) (s .pre .1 .1 i h)))
-    (λ c κs. let s = start c in (search needs, (s .pre .1 .0, rw (c .load-four .ensures) (old-fours (s .args .rows .now) (s .args .t) (s .pre .1 .1)))))
-    (λ c κs. let s = start (c .before .before) in let a = s .args in (omega (arith, s .pre .0), omega (arith, s .pre .0), rw (new-is (c .before)) (new-fours (a .triples .now) (a .values .now) (s .pre .1 .0 .1) (a .rows .now) (a .t) (s .pre .1 .1))))
+    (λ c κs. let s = c .before .before in (omega (arith, s .pre .0), omega (arith, s .pre .0), λ i h. small-abs (at (s .args .rows .now) i) (s .pre .1 .1 .0 i h)))
+    (λ c κs. let s = start c in (search needs, (s .pre .1 .0, (rw (c .load-four .ensures) (old-fours (s .args .rows .now) (s .args .t) (s .pre .1 .1 .0)), s .pre .1 .1 .1))))
+    (λ c κs. let s = start (c .before .before) in let a = s .args in (omega (arith, s .pre .0), omega (arith, s .pre .0), rw (new-is (c .before)) (new-fours (a .triples .now) (a .values .now) (s .pre .1 .0 .1) (a .rows .now) (a .t) (s .pre .1 .1 .0))))
     (λ c. search needs) returns)

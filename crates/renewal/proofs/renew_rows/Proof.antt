@@ -13,9 +13,9 @@ returns c =
     let a = m .before .before .before .args in
     let r = m .renew-counted in
     let s = a .rows .now in
-    let e : c .before .before .renew-rest .last .1 .1 .0 ≡ renewedFrom (a .count) (a .triples .now) (a .values .now) 0 s = c .before .before .renew-rest .ensures ∙ r .ensures .1 .1 .rows in (
+    let e : c .before .before .renew-rest .last .1 .1 .1 .0 ≡ renewedFrom (a .count) (a .triples .now) (a .values .now) 0 s = c .before .before .renew-rest .ensures ∙ r .ensures .1 .1 .rows in (
       (ap (straight (a .count)) e ∙ all-straight (a .count) (a .triples .now) (a .values .now) s, ap length e ∙ length-tab (4 * a .count) _),
-      c .settles .ensures ∙ settled (a .count) (a .triples .now) (a .values .now) s (a .tolerance) (r .result .done) _ _ (r .last .1 .1 .0) (r .ensures .1 .1) (r .ensures .1 .0),
+      c .settles .ensures ∙ settled (a .count) (a .triples .now) (a .values .now) s (a .tolerance) (r .result .done) _ _ (r .last .1 .1 .1 .0) (r .ensures .1 .1) (r .ensures .1 .0),
     )
 
 pub renew-rows-spec : {M : Type 1} → statement M
