@@ -1,5 +1,5 @@
 -- The rows of T triples, as one triple or four triples after the other are renewed with the values c. Assumes nothing.
-use Rattle.integers.proofs.Prelude.{_≡_, refl, sym, ap, ap₂, _∙_, Bool, true, false, cond, _&&_, List, [], _∷_, ℕ, _+_, _-_, _*_, _/_, _%_, _^_, _≤_, _<_}
+use Rattle.integers.proofs.Prelude.{_≡_, refl, sym, ap, ap₂, subst, _∙_, Bool, true, false, cond, _&&_, List, [], _∷_, ℕ, _+_, _-_, _*_, _/_, _%_, _^_, _≤_, _<_}
 use Rattle.integers.proofs.Prelude.{arith, decLt, ltb-true, ltb-false, lt-ltb, le-ltb, leb-true, leb-false, lt-leb, le-leb, ltb, leb, ℤ, pos, negsuc, natAbs}
 use Rattle.integers.proofs.Prelude.{_*ℤ_, length, getD, sets}
 use mathlib.Core.Bool as bools
@@ -8,8 +8,9 @@ use Rattle.integers.specs.Sum.{sumℕ}
 use Rattle.integers.proofs.Sums.{sumℕ-same, sumℕ-split, sumℕ-bound, sumℕ-swap, sumℕ-fours}
 use Rattle.integers.proofs.Linear.{about, abs-difference}
 use Rattle.lists.specs.Tabulated.{tab, over}
+use Rattle.lists.proofs.Entries.{every-at}
 use Rattle.lists.proofs.Tests.{and-left, and-false}
-use Rattle.lists.proofs.Tabulated.{getD-tab, tab-same, tab-getD, length-over, over-in, over-out, over-sets, over-same, over-self}
+use Rattle.lists.proofs.Tabulated.{length-tab, getD-tab, tab-same, tab-getD, length-over, over-in, over-out, over-sets, over-same, over-self}
 use Rattle.quotient.specs.Quotient.{unit}
 use Rattle.model.specs.Limits.{mostTriples, mostDone, mostSlack, mostRow}
 use Rattle.model.specs.Causes.{_if_}
@@ -24,7 +25,7 @@ use Rattle.rows.proofs.Four.{rows-are, side-multiplier, side-slack}
 use Rattle.layout.specs.Transposed.{cell, Fours, lane, stored, place, straight, Aligned}
 use Rattle.layout.proofs.Arranged.{arranged-at, sum-arranged}
 use Rattle.layout.proofs.Places.{place-first, place-four, fours-are, cell-is, cells-are, transposed}
-use Rattle.renewal.specs.InPlace.{SmallRow, tripleChanges, fourChanges, renewedFour, renewedIn, renewedAll, Left, renewedFrom, changesFrom, Renewed}
+use Rattle.renewal.specs.InPlace.{withoutBlank, Known, SmallRow, tripleChanges, fourChanges, renewedFour, renewedIn, renewedAll, Left, renewedFrom, changesFrom, Renewed}
 
 -- ---- how large
 pub small-abs : (z : ℤ) → SmallRow z → natAbs z ≤ mostRow
@@ -251,3 +252,9 @@ met t n a b x h = ltb-true t n (and-left (ltb t n) (leb a x) (and-left (ltb t n 
 
 pub unmet : (t n a b x : ℕ) → ((ltb t n && leb a x) && leb b x) ≡ false → a ≤ x → b ≤ x → n ≤ t
 unmet t n a b x h p q = ltb-false t n (and-false (ltb t n) (leb a x) (and-false (ltb t n && leb a x) (leb b x) h (le-leb b x q)) (le-leb a x p))
+
+-- ---- the test for a blank, once for all iterations
+pub none-known : (ts : List ℕ) (T : ℕ) (c : List ℤ) (known : Bool) → 3 * T ≡ length ts → known ≡ withoutBlank ts T (length c) → Known known ts c
+none-known ts T c known long e k t h =
+    ltb-true _ _ (subst (λ (u : ℕ). ltb (member ts u 2) (length c) ≡ true) (getD-tab T (λ t. t) t 0 (omega arith))
+    (every-at (λ t. ltb (member ts t 2) (length c)) (tab T (λ t. t)) t 0 (sym e ∙ k) (omega (arith, length-tab T (λ t. t)))))

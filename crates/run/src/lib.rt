@@ -11,11 +11,12 @@ ghost use Rattle.model.specs.Run as Run;
 ghost use Rattle.model.specs.Bounds.{RowsWithin, systemIn, Lent};
 ghost use Rattle.layout.specs.Transposed.{straight};
 ghost use Rattle.values.specs.Divisors.{Tables};
+ghost use Rattle.renewal.specs.InPlace.{Known};
 ghost use Rattle.run.specs.States.{stateIn};
 use model::Ending;
 use model::Settings;
 
-// One iteration: S and c of each variable, then the four rows of each triple. It answers how it stops the run.
+// One iteration: S and c of each variable, then the four rows of each triple. It answers how it stops the run. It may be known that no triple has the blank.
 fn iterate(
     settings: Settings,
     triples: &[u16],
@@ -24,12 +25,13 @@ fn iterate(
     count: usize,
     limits: &[i64],
     inverses: &[i64],
+    known: bool,
     sums: &mut [i64],
     values: &mut [i16],
     rows: &mut [i32],
 ) -> u32
     requires { ⌜ Lent settings (now triples) (now counts) (now costs) count (now sums) (now values) (now rows) ⌝ }
-    requires { ⌜ (RowsWithin mostDone (straight count (now rows))) × (Tables (settings .ratio) (now limits) (now inverses)) ⌝ }
+    requires { ⌜ (RowsWithin mostDone (straight count (now rows))) × (Tables (settings .ratio) (now limits) (now inverses)) × (Known known (now triples) (now values)) ⌝ }
     ensures { λ stop. ⌜ ((k : Code) → let g = systemIn k (now (triples .entry)) count (now (values .entry)) in
         let a = stateIn count (now (sums .entry)) (now (values .entry)) (now (rows .entry)) in
         let b = stateIn count (now (sums .exit)) (now (values .exit)) (now (rows .exit)) in
@@ -47,7 +49,14 @@ fn iterate(
         inverses,
         values,
     );
-    renewal::renew_rows(triples, values, rows, count, settings.tolerance as u64)
+    renewal::renew_rows(
+        triples,
+        values,
+        known,
+        rows,
+        count,
+        settings.tolerance as u64,
+    )
 }
 
 // Iterations from the state in the lists, `done` being done, until one stops the run or K are done. The rows stay transposed.
@@ -59,13 +68,14 @@ fn iterations(
     count: usize,
     limits: &[i64],
     inverses: &[i64],
+    known: bool,
     done: u32,
     sums: &mut [i64],
     values: &mut [i16],
     rows: &mut [i32],
 ) -> Ending
     requires { ⌜ Lent settings (now triples) (now counts) (now costs) count (now sums) (now values) (now rows) ⌝ }
-    requires { ⌜ (RowsWithin done (straight count (now rows))) × (Tables (settings .ratio) (now limits) (now inverses)) ⌝ }
+    requires { ⌜ (RowsWithin done (straight count (now rows))) × (Tables (settings .ratio) (now limits) (now inverses)) × (Known known (now triples) (now values)) ⌝ }
     requires { ⌜ (done ≤ settings .limit) × (settings .limit ≤ mostIterations) ⌝ }
     ensures { λ e. ⌜ ((k : Code) → let g = systemIn k (now (triples .entry)) count (now (values .entry)) in
         let first = stateIn count (now (sums .entry)) (now (values .entry)) (now (rows .entry)) in
@@ -84,6 +94,7 @@ fn iterations(
             count,
             limits,
             inverses,
+            known,
             sums,
             values,
             rows,
@@ -94,7 +105,7 @@ fn iterations(
 }
 
 // The run from the state in the lists, whose rows are transposed and are told in the order of document 01. The divisors of variables in up to 31
-// triples are prepared.
+// triples are prepared, and whether some triple has the blank is found.
 fn run_from(
     settings: Settings,
     triples: &[u16],
@@ -117,6 +128,7 @@ fn run_from(
     let mut limits = [0i64; 31];
     let mut inverses = [0i64; 31];
     values::prepare(settings.ratio, &mut limits, &mut inverses);
+    let known = renewal::without_blank(triples, count, values.len());
     let ending = iterations(
         settings,
         triples,
@@ -125,6 +137,7 @@ fn run_from(
         count,
         &limits,
         &inverses,
+        known,
         done,
         sums,
         values,

@@ -10,10 +10,10 @@ use Rattle.model.specs.Run.{Ended, run}
 use Rattle.model.specs.Records.{codeOf}
 use Rattle.model.specs.Bounds.{Ready}
 use Rattle.model.specs.Code.{Code, triples, variables}
-use Rattle.model.specs.Splitting.{System, systemOf, Named}
+use Rattle.model.specs.Splitting.{System, systemOf, Members}
 use Rattle.model.proofs.Causes.{in-range}
 use Rattle.model.proofs.Bounds.{ready}
-use Rattle.model.proofs.TripleRule.{members-long, members-named}
+use Rattle.model.proofs.TripleRule.{members-long, members}
 use Rattle.decoder.proofs.run_system.Statement.{statement}
 use Rattle.decoder.proofs.run_system.Tie as tie
 
@@ -73,9 +73,9 @@ module _ (w : tie.After-write-system) where
   rows-long : length (take (4 * s .args .total) (s .args .rows .now)) ≡ 4 * s .args .total
   rows-long = length-take-le (4 * s .args .total) (s .args .rows .now) (s .pre .1 .1 .1 .2)
 
-  members-below : Named ts n
+  members-below : Members ts n
   members-below =
-      subst (Named ts) (sym (n-is ∙ s .pre .0 .2)) (subst (λ (l : List ℕ). Named l (variables k)) (sym ts-is) (members-named k sound))
+      subst (Members ts) (sym (n-is ∙ s .pre .0 .2)) (subst (λ (l : List ℕ). Members l (variables k)) (sym ts-is) (members k sound))
 
   is-ready : Ready n ts (s .args .total) (s .args .settings) (s .args .costs .now)
   unfolding systemOf

@@ -18,12 +18,12 @@ unmet : (k n settled : ℕ) → (ltb k n && eqb settled 0) ≡ false → settled
 unmet k n settled h e = ltb-false k n (and-false (ltb k n) (eqb settled 0) h (eq-eqb settled 0 e))
 
 abbrev Inv-loop : tie.InvT-loop
-Inv-loop settings triples counts costs count limits inverses done sums₀ values₀ rows₀ k₀ settled₀ sums values rows k settled =
+Inv-loop settings triples counts costs count limits inverses known done sums₀ values₀ rows₀ k₀ settled₀ sums values rows k settled =
     Remains (length values₀) triples count settings costs done (stateIn count sums₀ values₀ rows₀) (stateIn count sums values rows) k settled
     × (length rows ≡ 4 * count)
 
 abbrev μ-loop : tie.MeasureT-loop
-μ-loop settings triples counts costs count limits inverses done sums₀ values₀ rows₀ k₀ settled₀ sums values rows k settled = settings .limit - k
+μ-loop settings triples counts costs count limits inverses known done sums₀ values₀ rows₀ k₀ settled₀ sums values rows k settled = settings .limit - k
 
 loop-holds : tie.Need-loop-holds Inv-loop μ-loop
 loop-holds c =
@@ -54,7 +54,7 @@ iterate-requires c κs =
     let s = start l in
     let r = l .loop .inv in (
       lent-again _ _ _ (r .0 .sums) (r .0 .values) (r .1) (s .pre .0),
-      (weaker (l .loop .k) mostDone (omega (arith, on t .0, s .pre .1 .1 .1)) (r .0 .within), s .pre .1 .0 .1),
+      (weaker (l .loop .k) mostDone (omega (arith, on t .0, s .pre .1 .1 .1)) (r .0 .within), s .pre .1 .0 .1, λ e t h. omega (arith, long l, s .pre .1 .0 .2 e t h)),
     )
 
 abbrev turn : tie.After-iterate Inv-loop μ-loop → tie.Then1 Inv-loop μ-loop
