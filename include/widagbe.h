@@ -8,7 +8,8 @@
  *   their length is exact (else 12; for a code 1 or 9, for a text 18). Lists that a call fills may be longer than needed: the
  *   entries past those needed stay as they were. One that is too short is refused with 10.
  *
- *   The sizes of a code are n (bits), m (checks), T (triples: the sum over all checks of degree - 2) and V (variables):
+ *   The sizes of a code are n (bits), m (checks), T (triples: degree - 2 for each check, but 1 for a check of two bits) and V
+ *   (variables):
  *
  *       V = n + T - m
  *
@@ -45,6 +46,9 @@ extern "C" {
 #define WIDAGBE_MAX_TRIPLES 8192    /* T */
 #define WIDAGBE_MAX_VARIABLES 12288 /* V */
 
+/* In third place of a triple: the blank of a check of two bits, which is no variable. */
+#define WIDAGBE_BLANK 0xFFFF
+
 /* The most iterations that a run may be asked for. */
 #define WIDAGBE_MAX_ITERATIONS 4000
 
@@ -56,7 +60,7 @@ enum widagbe_number {
     WIDAGBE_CUT = 1,              /* the bytes end inside a record */
     WIDAGBE_MARK = 2,             /* another mark than the due one */
     WIDAGBE_SIZE = 3,             /* n outside 3..4096, or m outside 1..2048 */
-    WIDAGBE_DEGREE = 4,           /* a degree outside 3..32 */
+    WIDAGBE_DEGREE = 4,           /* a degree outside 2..32 */
     WIDAGBE_INDEX = 5,            /* an index of n or above */
     WIDAGBE_NOT_RISING = 6,       /* an index not above the one before */
     WIDAGBE_TRIPLES = 7,          /* more than 8192 triples */
@@ -80,7 +84,7 @@ enum widagbe_number {
  *
  * A code is a list of bytes; two-byte numbers have the high byte first:
  *   header: 0x4C 0x48, n (two bytes), m (two bytes);
- *   then m checks: 0x4C 0x43, degree d (one byte, 3 to 32), d bit indices from 0, strictly rising (two bytes each).
+ *   then m checks: 0x4C 0x43, degree d (one byte, 2 to 32), d bit indices from 0, strictly rising (two bytes each).
  * Each bit lies in some check.
  */
 
@@ -99,8 +103,10 @@ typedef struct {
 widagbe_code_answer widagbe_read(const uint8_t *code, size_t code_len);
 
 /*
- * Splits the checks of a code into triples of variables: the bits are 0 to n - 1, the auxiliaries n to V - 1.
- *   triples  3T entries: the three variables of each triple
+ * Splits the checks of a code into triples of variables: the bits are 0 to n - 1, the auxiliaries n to V - 1. A check of two bits
+ * is one triple and makes no auxiliary: its two bits and, in third place, WIDAGBE_BLANK. The blank is no variable: it has no entry
+ * in the lists of counts, sums and values nor in a point, however long they are. Its value is -16384 in every run.
+ *   triples  3T entries: the three variables of each triple, or two and WIDAGBE_BLANK
  *   counts   V entries: in how many triples each variable is
  * Numbers: 0 to 10.
  */
