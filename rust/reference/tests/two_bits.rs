@@ -27,13 +27,13 @@ fn decode_path(limit: u32, costs: [i16; 3]) -> (DecodeAnswer, OwnLists) {
 fn two_iterations_by_hand() {
     let (answer, lent) = decode_path(1, COSTS);
     // Bit 1 says 1 and the others say 0, so both checks are odd.
-    let odd = |k| DecodeAnswer {
+    let odd = DecodeAnswer {
         number: 17,
         place: 0,
-        k,
+        k: 1,
         settled: 0,
     };
-    assert_eq!(answer, odd(1));
+    assert_eq!(answer, odd);
     assert_eq!(lent.triples, [0, 1, 0xFFFF, 1, 2, 0xFFFF]);
     assert_eq!(lent.counts, [1, 2, 1]);
     assert_eq!(lent.sums, [0, 0, 0]);
@@ -75,9 +75,9 @@ fn costs_of_zero_settle() {
 
 #[test]
 fn degrees_at_the_edges() {
-    let last: Vec<usize> = (0..33).collect();
+    let all: Vec<usize> = (0..33).collect();
     for (degree, number) in [(0, 4), (1, 4), (2, 0), (32, 0), (33, 4)] {
-        let bytes = code(33, &[&last[..degree], &last[..32], &last[1..]]);
+        let bytes = code(33, &[&all[..degree], &all[..32], &all[1..]]);
         // The last two checks have 32 bits each and name every bit.
         assert_eq!(SOUND.read(&bytes).number, number, "degree {degree}");
         let stream = SOUND.frames(&bytes);
