@@ -15,7 +15,11 @@ pub record Summed (ts : List ℕ) (N t : ℕ) (s l : List ℤ) : Type 0 where
   pub within : RowsWithin mostDone s
   pub are : l ≡ tab N (sumOf ts t s)
 
--- a list of shares: that of the i-th triple from t on at position p is entry 64p + i, for n triples
+-- a list of shares: that of the i-th triple from t on at position p is entry 64p + i
+abbrev pub SharedAt : List ℤ → ℕ → ℕ → List ℤ → Type 0
+SharedAt s t i q = (p : ℕ) → p < 3 → at q (64 * p + i) ≡ share s (t + i) p
+
+-- for n triples
 abbrev pub Shared : List ℤ → ℕ → ℕ → List ℤ → Type 0
 Shared s t n q = (p i : ℕ) → p < 3 → i < n → at q (64 * p + i) ≡ share s (t + i) p
 

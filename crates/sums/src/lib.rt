@@ -12,7 +12,7 @@ ghost use Rattle.model.specs.Splitting.{Members};
 ghost use Rattle.model.specs.Iteration.{at, share, _when_, sumOf};
 ghost use Rattle.model.specs.Bounds.{RowsWithin};
 ghost use Rattle.layout.specs.Transposed.{straight};
-ghost use Rattle.sums.specs.Shares.{Summed, Shared, InFours};
+ghost use Rattle.sums.specs.Shares.{Summed, SharedAt, Shared, InFours};
 
 // The variable v is given x.
 fn add(sums: &mut [i64], v: usize, x: i32)
@@ -87,20 +87,43 @@ fn share_group(rows: &[i32], t: usize, n: usize, shares: &mut [i32])
     }
 }
 
-// The n triples from t on, with the shares of this list.
-fn give_group(triples: &[u16], t: usize, n: usize, shares: &[i32], sums: &mut [i64])
-    requires { ⌜ (n ≤ 64) × (t + n ≤ mostTriples) × (3 * (t + n) ≤ length (now triples)) × (length (now shares) ≡ 192) ⌝ }
-    requires { ⌜ ((N : ℕ) × (s : List ℤ) × (Summed (now triples) N t s (now sums)) × (Shared s t n (now shares))) ⌝ }
-    ensures { λ _. ⌜ ((N : ℕ) (s : List ℤ) → Summed (now (triples .entry)) N t s (now (sums .entry)) → Shared s t n (now (shares .entry))
-        → Summed (now (triples .entry)) N (t + n) s (now (sums .exit))) ⌝ }
+// Triple t + i, with its shares of this list.
+fn give_one(triples: &[u16], t: usize, i: usize, shares: &[i32], sums: &mut [i64])
+    requires { ⌜ (i < 64) × (t + i < mostTriples) × (3 * (t + i) + 2 < length (now triples)) × (length (now shares) ≡ 192) ⌝ }
+    requires { ⌜ ((N : ℕ) × (s : List ℤ) × (Summed (now triples) N (t + i) s (now sums)) × (SharedAt s t i (now shares))) ⌝ }
+    ensures { λ _. ⌜ ((N : ℕ) (s : List ℤ) → Summed (now (triples .entry)) N (t + i) s (now (sums .entry)) → SharedAt s t i (now (shares .entry))
+        → Summed (now (triples .entry)) N (suc (t + i)) s (now (sums .exit))) ⌝ }
 {
-    for i in 0..n {
-        give(
-            triples,
-            t + i,
-            [shares[i], shares[64 + i], shares[128 + i]],
-            sums,
-        );
+    give(
+        triples,
+        t + i,
+        [shares[i], shares[64 + i], shares[128 + i]],
+        sums,
+    );
+}
+
+// Four b of the triples from t on. Given four at a time, the third place's test costs less than the loop's own.
+fn give_four(triples: &[u16], t: usize, b: usize, shares: &[i32], sums: &mut [i64])
+    requires { ⌜ (b < 16) × (t + 4 * b + 4 ≤ mostTriples) × (3 * (t + 4 * b + 4) ≤ length (now triples)) × (length (now shares) ≡ 192) ⌝ }
+    requires { ⌜ ((N : ℕ) × (s : List ℤ) × (Summed (now triples) N (t + 4 * b) s (now sums)) × (Shared s t (4 * (b + 1)) (now shares))) ⌝ }
+    ensures { λ _. ⌜ ((N : ℕ) (s : List ℤ) → Summed (now (triples .entry)) N (t + 4 * b) s (now (sums .entry)) → Shared s t (4 * (b + 1)) (now (shares .entry))
+        → Summed (now (triples .entry)) N (t + 4 * (b + 1)) s (now (sums .exit))) ⌝ }
+{
+    give_one(triples, t, 4 * b, shares, sums);
+    give_one(triples, t, 4 * b + 1, shares, sums);
+    give_one(triples, t, 4 * b + 2, shares, sums);
+    give_one(triples, t, 4 * b + 3, shares, sums);
+}
+
+// The 4n triples from t on.
+fn give_group(triples: &[u16], t: usize, n: usize, shares: &[i32], sums: &mut [i64])
+    requires { ⌜ (n ≤ 16) × (t + 4 * n ≤ mostTriples) × (3 * (t + 4 * n) ≤ length (now triples)) × (length (now shares) ≡ 192) ⌝ }
+    requires { ⌜ ((N : ℕ) × (s : List ℤ) × (Summed (now triples) N t s (now sums)) × (Shared s t (4 * n) (now shares))) ⌝ }
+    ensures { λ _. ⌜ ((N : ℕ) (s : List ℤ) → Summed (now (triples .entry)) N t s (now (sums .entry)) → Shared s t (4 * n) (now (shares .entry))
+        → Summed (now (triples .entry)) N (t + 4 * n) s (now (sums .exit))) ⌝ }
+{
+    for b in 0..n {
+        give_four(triples, t, b, shares, sums);
     }
 }
 
@@ -116,7 +139,7 @@ pub fn gather(triples: &[u16], rows: &[i32], count: usize, sums: &mut [i64])
     while t < count {
         let n = if count - t < 64 { count - t } else { 64 };
         share_group(rows, t, n / 4, &mut shares);
-        give_group(triples, t, n, &shares, sums);
+        give_group(triples, t, n / 4, &shares, sums);
         t += n;
     }
 }

@@ -55,14 +55,15 @@ give-group-requires c κs =
     let d = c .before .before .before in
     let s = start (turn d) in
     let m = taken (joined d) in
-    ((m .1, omega (arith, m, s .pre .0 .0), omega (arith, m, s .pre .0 .1), long d), (_, _, turn d .loop .inv .4, shared d))
+    ((omega (arith, m), omega (arith, m, s .pre .0 .0), omega (arith, m, s .pre .0 .1), long d), (_, _, turn d .loop .inv .4, λ p i h k. shared d p i h (omega (arith, m))))
 
 loop-again : tie.Need-loop-again Inv-loop μ-loop
 loop-again c =
     let d = c .before .before .before .before .before in
     let v = turn d .loop .inv in
     let m = taken (joined d) in
-    (omega arith, omega (arith, v .1, m), omega (arith, m), long d, c .before .give-group .ensures _ _ (v .4) (shared d))
+    let given = c .before .give-group .ensures _ _ (v .4) (λ p i h k. shared d p i h (omega (arith, m))) in
+    (omega arith, omega (arith, v .1, m), omega (arith, m), long d, summed-also given refl (omega (arith, m)))
 
 -- ---- as long as before
 same : (l : tie.At-loop Inv-loop μ-loop) → length (l .before .before .give-first .last .1 .1 .1 .0) ≡ length (start l .args .sums .now)
