@@ -1,6 +1,8 @@
 // Examples of calls with code records: the reader, the splitting, the codeword test and the extension.
 use crate::codes;
 use crate::show::Which;
+use crate::show::ends;
+use crate::show::index;
 use crate::show::lent;
 use crate::show::list;
 use crate::show::nines;
@@ -53,8 +55,14 @@ pub fn most_triples(s: &[u8]) {
     let mut x = [0usize; 8];
     numbers(s, 10, &mut x);
     let mut code = io::large_buffer();
-    let n = codes::most(&mut code, x[0]);
+    let n = codes::most(&mut code, x[0], x[1]);
     reading(&code[0..n]);
+}
+
+pub fn held(check: &[u8], sizes: &[u8]) {
+    let mut x = [0usize; 8];
+    numbers(sizes, 10, &mut x);
+    number(stream::judge_check(check, x[0], x[1] % 1025) as usize);
 }
 
 pub fn splitting(code: &[u8], rooms: &[u8]) {
@@ -77,6 +85,25 @@ pub fn splitting_many(last: &[u8], rooms: &[u8]) {
     let mut code = io::large_buffer();
     let n = codes::many(&mut code, 32, last);
     splitting(&code[0..n], rooms);
+}
+
+// The last of the counts stands at the blank's index.
+pub fn splitting_long(code: &[u8]) {
+    let mut triples = [9u16; 16];
+    let mut counts = [9u16; 65536];
+    let cause = triples::split(code, &mut triples, &mut counts);
+    let mut lists = nines();
+    lists.triples = triples;
+    number(cause as usize);
+    list(b", triples", lists, Which::Triples, 8);
+    ends(
+        b", counts",
+        index(counts[0]),
+        index(counts[1]),
+        index(counts[2]),
+        index(counts[3]),
+        index(counts[65535]),
+    );
 }
 
 // ---- codeword test and extension

@@ -62,14 +62,16 @@ pub fn regular(code: &mut [u8], bits: usize, count: usize, degree: usize, step: 
     checks(code, first, count, degree % 65, step % 65)
 }
 
-// 273 checks of degree 32, which have 8,190 triples, and one of degree `last`, at most 64.
-pub fn most(code: &mut [u8], last: usize) -> usize
+// 273 checks of degree 32, which have 8,190 triples, one of degree `last`, at most 64, and `pairs` checks of two bits, at most 64.
+pub fn most(code: &mut [u8], last: usize, pairs: usize) -> usize
     requires { ⌜ 6 ≤ length (now code) ⌝ }
     ensures { λ r. ⌜ r ≤ length (now (code .entry)) ⌝ }
 {
-    let first = header(code, 32, 274);
-    let end = checks(code, first, 273, 32, 0);
-    checks(code, end, 1, last % 65, 0)
+    let behind = pairs % 65;
+    let first = header(code, 32, 274 + behind);
+    let most = checks(code, first, 273, 32, 0);
+    let end = checks(code, most, 1, last % 65, 0);
+    checks(code, end, behind, 2, 0)
 }
 
 // 8,193 triples on the first 32 bits, in 274 of 275 checks, and behind them the bytes of one more record.

@@ -2,11 +2,15 @@
 use crate::cost_calls::costs;
 use crate::show::Lists;
 use crate::show::Which;
+use crate::show::ends;
+use crate::show::index;
 use crate::show::lent;
 use crate::show::list;
+use crate::show::nines;
 use crate::show::number;
 use crate::show::placed;
 use crate::show::text;
+use crate::show::wide;
 use crate::table::numbers;
 use model::Decoding;
 use model::Ending;
@@ -56,12 +60,65 @@ fn answer(decoding: Decoding) {
 pub fn decoding(given: &[u8], frame: &[u8], rooms: &[u8], mark: u8) {
     let mut code = *b"LH\0\x03\0\x01LC\x03\0\0\0\x01\0\x02";
     code[7] = mark;
+    decoding_code(&code, given, frame, rooms);
+}
+
+pub fn decoding_code(code: &[u8], given: &[u8], frame: &[u8], rooms: &[u8]) {
     let mut x = [0usize; 8];
     let n = numbers(frame, 10, &mut x);
     let all = costs(x);
     let mut room = [0usize; 8];
     numbers(rooms, 10, &mut room);
-    decode(&code, settings(given), &all[0..n], room);
+    decode(code, settings(given), &all[0..n], room);
+}
+
+// The last of the counts, of S and of c stands at the blank's index.
+pub fn decoding_long(code: &[u8], given: &[u8], frame: &[u8]) {
+    let mut x = [0usize; 8];
+    let n = numbers(frame, 10, &mut x);
+    let all = costs(x);
+    let mut triples = [9u16; 16];
+    let mut counts = [9u16; 65536];
+    let mut sums = [9i64; 65536];
+    let mut values = [9i16; 65536];
+    let mut rows = [9i32; 16];
+    let mut word = [9u8; 16];
+    let decoding = decoder::decode(
+        code,
+        settings(given),
+        &all[0..n],
+        &mut triples,
+        &mut counts,
+        &mut sums,
+        &mut values,
+        &mut rows,
+        &mut word,
+    );
+    answer(decoding);
+    let mut lists = nines();
+    lists.triples = triples;
+    lists.rows = rows;
+    lists.word = word;
+    list(b", triples", lists, Which::Triples, 8);
+    ends(
+        b", counts",
+        index(counts[0]),
+        index(counts[1]),
+        index(counts[2]),
+        index(counts[3]),
+        index(counts[65535]),
+    );
+    ends(b", S", sums[0], sums[1], sums[2], sums[3], sums[65535]);
+    ends(
+        b", c",
+        wide(values[0]),
+        wide(values[1]),
+        wide(values[2]),
+        wide(values[3]),
+        wide(values[65535]),
+    );
+    list(b", s", lists, Which::Rows, 10);
+    list(b", word", lists, Which::Word, 4);
 }
 
 fn decode(code: &[u8], settings: Settings, costs: &[i16], room: [usize; 8]) {

@@ -15,11 +15,15 @@ pub enum Example {
     ReadingMany(usize),
     // bits, checks, degree, step: checks of one degree, each from the bit `step` behind the one before it
     Edge,
-    // degree of one check behind 273 of degree 32, which have 8,190 triples
+    // degree of one check behind 273 of degree 32, which have 8,190 triples, and how many checks of two bits are behind it
     MostTriples,
+    // check record, bits and how many triples the frame program holds
+    Held,
     // code, room of both lists
     Splitting,
     SplittingMany,
+    // code, of three bits: counts in a list of 65,536 entries
+    SplittingLong,
     // code, word, room
     Extending,
     ExtendingMany,
@@ -44,9 +48,13 @@ pub enum Example {
     ReadingMessage,
     // settings, costs, room of all six lists
     Decoding(u8),
+    // code, settings, costs, room of all six lists
+    DecodingCode,
+    // code, of three bits, settings, costs: counts, S and c in lists of 65,536 entries
+    DecodingLong,
 }
 
-pub fn run(label: &[u8], x: &[u8], y: &[u8], z: &[u8], example: Example) {
+pub fn run(label: &[u8], x: &[u8], y: &[u8], z: &[u8], u: &[u8], example: Example) {
     text(label);
     text(b":");
     match example {
@@ -54,8 +62,10 @@ pub fn run(label: &[u8], x: &[u8], y: &[u8], z: &[u8], example: Example) {
         Example::ReadingMany(bits) => code_calls::reading_many(bits, x),
         Example::Edge => code_calls::edge(x),
         Example::MostTriples => code_calls::most_triples(x),
+        Example::Held => code_calls::held(x, y),
         Example::Splitting => code_calls::splitting(x, y),
         Example::SplittingMany => code_calls::splitting_many(x, y),
+        Example::SplittingLong => code_calls::splitting_long(x),
         Example::Extending => code_calls::extending(x, y, z),
         Example::ExtendingMany => code_calls::extending_many(x, y, z),
         Example::Gaussian => cost_calls::front(Channel::Gaussian(cost_calls::first_real(x)), y, z),
@@ -70,6 +80,8 @@ pub fn run(label: &[u8], x: &[u8], y: &[u8], z: &[u8], example: Example) {
         Example::Frames => encoder_calls::frames(x, y, z),
         Example::ReadingMessage => encoder_calls::reading(x, y, z),
         Example::Decoding(mark) => decoder_calls::decoding(x, y, z, mark),
+        Example::DecodingCode => decoder_calls::decoding_code(x, y, z, u),
+        Example::DecodingLong => decoder_calls::decoding_long(x, y, z),
     }
     text(b"\n");
 }

@@ -80,7 +80,7 @@ pub enum Which {
     Word,
 }
 
-fn wide(x: i16) -> i64 {
+pub fn wide(x: i16) -> i64 {
     x as i64
 }
 
@@ -88,7 +88,7 @@ fn wide_row(x: i32) -> i64 {
     x as i64
 }
 
-fn index(x: u16) -> i64 {
+pub fn index(x: u16) -> i64 {
     x as i64
 }
 
@@ -123,4 +123,15 @@ pub fn list(name: &[u8], lists: Lists, which: Which, n: usize) {
     for i in 0..end {
         signed(entry(lists, which, i));
     }
+}
+
+// Of a list of 65,536 entries, the first four and the last.
+pub fn ends(name: &[u8], a: i64, b: i64, c: i64, d: i64, last: i64) {
+    text(name);
+    signed(a);
+    signed(b);
+    signed(c);
+    signed(d);
+    text(b", at 65535");
+    signed(last);
 }

@@ -29,7 +29,7 @@ fn after(s: &[u8], end: usize) -> usize
     if end < s.len() { end + 1 } else { end }
 }
 
-// The example of one line: its label and three more fields, of which the last may be missing.
+// The example of one line: its label and four more fields, of which the last may be missing.
 fn one(line: &[u8], example: Example) {
     let label = find(line, 0, b'|');
     let x = after(line, label);
@@ -37,11 +37,14 @@ fn one(line: &[u8], example: Example) {
     let y = after(line, x_end);
     let y_end = find(line, y, b'|');
     let z = after(line, y_end);
+    let z_end = find(line, z, b'|');
+    let u = after(line, z_end);
     example::run(
         &line[0..label],
         &line[x..x_end],
         &line[y..y_end],
-        &line[z..line.len()],
+        &line[z..z_end],
+        &line[u..line.len()],
         example,
     );
 }

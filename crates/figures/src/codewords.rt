@@ -53,7 +53,7 @@ fn refused() {
         1 before 12, 15 and 10|LH\0\x03\0\x01|\x02|1\n\
         2 before 12, 15 and 10|LH\0\x03\0\x01LX\x03\0\0\0\x01\0\x02|\x02|1\n\
         3 before 12, 15 and 10|LH\0\x02\0\x01LC\x03\0\0\0\x01\0\x02|\x02|1\n\
-        4 before 12, 15 and 10|LH\0\x03\0\x01LC\x02\0\0\0\x01|\x02|1\n\
+        4 before 12, 15 and 10|LH\0\x03\0\x01LC\x01\0\0|\x02|1\n\
         5 before 12, 15 and 10|LH\0\x03\0\x01LC\x03\0\0\0\x01\0\x03|\x02|1\n\
         6 before 12, 15 and 10|LH\0\x03\0\x01LC\x03\0\0\0\x01\0\x01|\x02|1\n\
         8 before 12, 15 and 10|LH\0\x04\0\x01LC\x03\0\0\0\x01\0\x02|\x02|1\n\

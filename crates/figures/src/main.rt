@@ -1,9 +1,10 @@
-// The figures of document 01 that are not marked for proof, and an example of every cause and edge: each run by the library and printed, a
-// line each. The stored output is what they should be. A section is a module of tables with a function `run`.
+// The figures of document 01 that are not marked for proof, those of document 02, and an example of every cause and edge: each run by the library and
+// printed, a line each. The stored output is what they should be. A section is a module of tables with a function `run`.
 mod codewords;
 mod decoding;
 mod encoding;
 mod front;
+mod pairs;
 mod reader;
 mod reflection;
 mod splitting;
@@ -16,4 +17,5 @@ fn main() {
     codewords::run();
     encoding::run();
     decoding::run();
+    pairs::run();
 }

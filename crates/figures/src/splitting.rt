@@ -18,7 +18,7 @@ pub fn run() {
         1 before 10|LH\0\x03\0\x01|1 1\n\
         2 before 10|LH\0\x03\0\x01LX\x03\0\0\0\x01\0\x02|1 1\n\
         3 before 10|LH\0\x02\0\x01LC\x03\0\0\0\x01\0\x02|1 1\n\
-        4 before 10|LH\0\x03\0\x01LC\x02\0\0\0\x01|1 1\n\
+        4 before 10|LH\0\x03\0\x01LC\x01\0\0|1 1\n\
         5 before 10|LH\0\x03\0\x01LC\x03\0\0\0\x01\0\x03|1 1\n\
         6 before 10|LH\0\x03\0\x01LC\x03\0\0\0\x01\0\x01|1 1\n\
         8 before 10|LH\0\x04\0\x01LC\x03\0\0\0\x01\0\x02|1 1\n\
