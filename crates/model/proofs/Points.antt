@@ -10,6 +10,7 @@ use lib.Signed.{leZ}
 use Rattle.lists.specs.Entries.{total}
 use Rattle.lists.proofs.Entries.{total-append}
 use Rattle.quotient.specs.Quotient.{unit}
+use Rattle.model.specs.Limits.{leastDegree}
 use Rattle.model.specs.Code.{Code, turns, tripleCount, variables}
 use Rattle.model.specs.Sound.{Rising, SoundCheck, SoundChecks, Sound}
 use Rattle.model.specs.Splitting.{queue, blank, waiting, triplesOf, triplesFrom, systemOf, member}
@@ -93,14 +94,14 @@ item-bit p r a x h l f (inr e) = rw e (List·getD-eq-default p 0 h ∙ sym (List
 items-turn : (a x y : ℕ) (q : List ℕ) → All (Item a) (x ∷ y ∷ q) → All (Item (suc a)) (q ++ (a ∷ []))
 items-turn a x y q b = all-snoc (Item (suc a)) a q (inl (omega arith)) (λ i. item-more a (getD q i 0) (b (suc (suc i))))
 
-items-waiting : (n a : ℕ) → 0 < n → n ≤ a → (c : List ℕ) → 2 ≤ length c → Rising n 0 c → All (Item a) (waiting c)
+items-waiting : (n a : ℕ) → 0 < n → n ≤ a → (c : List ℕ) → leastDegree ≤ length c → Rising n 0 c → All (Item a) (waiting c)
 items-waiting n a l h =
     by-degree (λ c q. Rising n 0 c → All (Item a) q)
     (λ x y r. all-snoc (Item a) blank (x ∷ y ∷ []) (inr refl) (λ i. inl (omega (arith, below-rising n 0 (x ∷ y ∷ []) l r i))))
     (λ c d r i. inl (omega (arith, below-rising n 0 c l r i)))
 
 -- the blank adds nothing to a check's sum
-total-waiting : (x : ℕ → ℕ) → x blank ≡ 0 → (c : List ℕ) → 2 ≤ length c → total x (waiting c) ≡ total x c
+total-waiting : (x : ℕ → ℕ) → x blank ≡ 0 → (c : List ℕ) → leastDegree ≤ length c → total x (waiting c) ≡ total x c
 total-waiting x h = by-degree (λ c q. total x q ≡ total x c) (λ u v. omega arith) (λ c d. refl)
 
 -- where the triples of a check are even, so is the check

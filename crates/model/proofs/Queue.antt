@@ -5,6 +5,7 @@ use Rattle.integers.specs.Sum.{sumℕ}
 use Rattle.integers.proofs.Sums.{sumℕ-same, sumℕ-first, sumℕ-split}
 use Rattle.lists.specs.Entries.{total}
 use Rattle.lists.proofs.Entries.{total-append}
+use Rattle.model.specs.Limits.{leastDegree}
 use Rattle.model.specs.Code.{turns}
 use Rattle.model.specs.Splitting.{queue, blank, waiting, triplesOf, triplesFrom, member}
 
@@ -33,13 +34,13 @@ pub waiting-three : (c : List ℕ) → 3 ≤ length c → waiting c ≡ c
 waiting-three c h = let e : 3 - length c ≡ 0 = omega arith in rw e (append-nil c)
 
 pub by-degree : (P : List ℕ → List ℕ → Type 0) → ((x y : ℕ) → P (x ∷ y ∷ []) (x ∷ y ∷ blank ∷ [])) → ((c : List ℕ) → 3 ≤ length c → P c c)
-    → (c : List ℕ) → 2 ≤ length c → P c (waiting c)
+    → (c : List ℕ) → leastDegree ≤ length c → P c (waiting c)
 by-degree P two more [] h = absurd (omega arith)
 by-degree P two more (x ∷ []) h = absurd (omega arith)
 by-degree P two more (x ∷ y ∷ []) h = two x y
 by-degree P two more (x ∷ y ∷ z ∷ c) h = rw (waiting-three (x ∷ y ∷ z ∷ c) (omega arith)) (more (x ∷ y ∷ z ∷ c) (omega arith))
 
-pub waiting-long : (c : List ℕ) → 2 ≤ length c → length (waiting c) ≡ 3 + turns c
+pub waiting-long : (c : List ℕ) → leastDegree ≤ length c → length (waiting c) ≡ 3 + turns c
 waiting-long = by-degree (λ c q. length q ≡ 3 + turns c) (λ x y. refl) (λ c h. omega arith)
 
 -- ---- one check more, at the end

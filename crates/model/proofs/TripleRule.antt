@@ -12,7 +12,7 @@ use Rattle.lists.specs.Entries.{some, total}
 use Rattle.lists.proofs.Tabulated.{length-tab, tab-same, getD-tab}
 use Rattle.lists.proofs.Entries.{total-append, total-one, total-same}
 use Rattle.model.specs.Causes.{_if_}
-use Rattle.model.specs.Limits.{mostChecks}
+use Rattle.model.specs.Limits.{mostChecks, leastDegree}
 use Rattle.model.specs.Code.{Code, turns, tripleCount, triples, variables}
 use Rattle.model.specs.Sound.{Rising, SoundCheck, SoundChecks, Sound}
 use Rattle.model.specs.Splitting.{queue, blank, waiting, triplesOf, triplesFrom, systemOf, member, Members}
@@ -142,7 +142,7 @@ items-rising : (n low m a : ℕ) (c : List ℕ) → n ≤ a → low ≤ a → Ri
 items-rising n low m a [] h l r = rising-range m a low l
 items-rising n low m a (x ∷ c) h l r = (r .0, omega (arith, r .1), items-rising n (suc x) m a c h (omega (arith, r .1)) (r .2))
 
-pub triples-of-long : (c : List ℕ) (a : ℕ) → 2 ≤ length c → length (triplesOf c a) ≡ 3 * tripleCount c
+pub triples-of-long : (c : List ℕ) (a : ℕ) → leastDegree ≤ length c → length (triplesOf c a) ≡ 3 * tripleCount c
 triples-of-long c a h = queue-long (turns c) (waiting c) a ∙ omega (arith, waiting-long c h)
 
 module _ (n a : ℕ) (c : List ℕ) (sound : SoundCheck n c) (above : n ≤ a) (few : a + turns c ≤ blank) where
