@@ -24,17 +24,17 @@ ghost use Rattle.renewal.specs.InPlace.{Sized, Valued, withoutBlank, Kno
 // The blank's c, -U.
 const BLANK_VALUE: i32 = -16384;
 
-// Whether every triple of n variables has a variable in third place. Known beforehand, it leaves the loops below without a test.
+// Whether every triple of n variables has a variable in third place. Known beforehand, it leaves the loops below without a test. All are looked at: with a
+// return at the first blank the compiler makes those loops worse.
 pub fn without_blank(triples: &[u16], count: usize, n: usize) -> bool
     requires { ⌜ (count ≤ mostTriples) × (3 * count ≡ length (now triples)) ⌝ }
     ensures { λ r. ⌜ r ≡ withoutBlank (now (triples .entry)) count n ⌝ }
 {
+    let mut without = true;
     for t in 0..count {
-        if n <= layout::variable(triples, t, 2) {
-            return false;
-        }
+        without = without & (layout::variable(triples, t, 2) < n);
     }
-    true
+    without
 }
 
 // c at position p of triple t, where a variable stands if that is known: that variable's, or the blank's.

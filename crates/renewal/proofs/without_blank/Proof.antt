@@ -1,9 +1,10 @@
--- `renewal::without_blank` meets its contract: what is left to test decides. Assumes nothing.
-use Rattle.integers.proofs.Prelude.{_≡_, refl, sym, _∙_, Bool, true, false, List, ℕ, _-_, _<_, arith, add-one, needs, lt-ltb, le-ltb, ltb, getD, drop}
+-- `renewal::without_blank` meets its contract: what was tested and what is left to test is the whole. Assumes nothing.
+use Rattle.integers.proofs.Prelude.{_≡_, refl, sym, ap, _∙_, Bool, true, false, _&&_, List, ℕ, suc, _-_, _<_, arith, add-one, needs, ltb, length, getD, drop, drop-cons}
+use mathlib.Core.Bool.{and-assoc}
 use Rattle.lists.specs.Tabulated.{tab}
 use Rattle.lists.specs.Entries.{every}
 use Rattle.lists.proofs.Tabulated.{length-tab, getD-tab}
-use Rattle.lists.proofs.Entries.{every-next, every-stop, every-end}
+use Rattle.lists.proofs.Entries.{every-end}
 use Rattle.model.specs.Splitting.{member}
 use Rattle.renewal.proofs.without_blank.Statement.{statement}
 use Rattle.renewal.proofs.without_blank.Tie as tie
@@ -16,37 +17,35 @@ abbrev test : List ℕ → ℕ → ℕ → Bool
 test ts n t = ltb (member ts t 2) n
 
 abbrev Inv-loop : tie.InvT-loop
-Inv-loop triples count n t₀ t = every (test triples n) (drop t (all count)) ≡ every (test triples n) (all count)
+Inv-loop triples count n without₀ t₀ without t = (without && every (test triples n) (drop t (all count))) ≡ every (test triples n) (all count)
 
 abbrev μ-loop : tie.MeasureT-loop
-μ-loop triples count n t₀ t = count - t
+μ-loop triples count n without₀ t₀ without t = count - t
 
-test-at : (ts : List ℕ) (T n t : ℕ) (b : Bool) → t < T → test ts n t ≡ b → test ts n (getD (all T) t 0) ≡ b
-test-at ts T n t b h e = rw (getD-tab T (λ t. t) t 0 h) e
+-- the test of triple t, and those after it
+next : (ts : List ℕ) (T n t : ℕ) → t < T → every (test ts n) (drop t (all T)) ≡ (test ts n t && every (test ts n) (drop (suc t) (all T)))
+next ts T n t h = rw (drop-cons (all T) t 0 (omega (arith, length-tab T (λ t. t))), getD-tab T (λ t. t) t 0 h)
 
-returns : tie.Need-returns Inv-loop μ-loop
-returns c =
-    let v = c .before in
-    let l = v .before .before .loop in
-    let a = v .before .before .before .before .args in
-    sym (sym (l .inv) ∙ every-stop (test (a .triples .now) (a .n)) (all (a .count)) (l .t) 0 (omega (arith, length-tab (a .count) (λ t. t)))
-    (test-at (a .triples .now) (a .count) (a .n) (l .t) false (omega arith) (le-ltb _ (a .n) (omega (arith, v .variable .ensures)))))
+and-true : (b : Bool) → (b && true) ≡ b
+and-true true = refl
+and-true false = refl
 
 loop-again : tie.Need-loop-again Inv-loop μ-loop
 loop-again c =
-    let v = c .before in
-    let l = v .before .before .loop in
-    let a = v .before .before .before .before .args in
-    rw (add-one (l .t))
-    (sym (every-next (test (a .triples .now) (a .n)) (all (a .count)) (l .t) 0 (omega (arith, length-tab (a .count) (λ t. t)))
-    (test-at (a .triples .now) (a .count) (a .n) (l .t) true (omega arith) (lt-ltb _ (a .n) (omega (arith, v .variable .ensures))))) ∙ l .inv)
+    let l = c .before .before in
+    let a = l .before .before .args in
+    let f = test (a .triples .now) (a .n) in
+    let rest = every f (drop (suc (l .loop .t)) (all (a .count))) in
+    rw (add-one (l .loop .t), c .variable .ensures)
+    (and-assoc (l .loop .without) (f (l .loop .t)) rest ∙ ap (λ (b : Bool). l .loop .without && b) (sym (next (a .triples .now) (a .count) (a .n) (l .loop .t) (omega arith))) ∙ l .loop .inv)
 
-returns-2 : tie.Need-returns-2 Inv-loop μ-loop
-returns-2 c =
+returns : tie.Need-returns Inv-loop μ-loop
+returns c =
     let l = c .before in
     let a = l .before .before .args in
-    sym (sym (l .loop .inv) ∙ every-end (test (a .triples .now) (a .n)) (all (a .count)) (l .loop .t) (omega (arith, length-tab (a .count) (λ t. t))))
+    let end = every-end (test (a .triples .now) (a .n)) (all (a .count)) (l .loop .t) (omega (arith, length-tab (a .count) (λ t. t))) in
+    sym (and-true (l .loop .without)) ∙ ap (λ (b : Bool). l .loop .without && b) (sym end) ∙ l .loop .inv
 
 pub without-blank-spec : {M : Type 1} → statement M
 without-blank-spec =
-    tie.close (tie.spec Inv-loop μ-loop (λ c. refl) (λ c κs. omega (arith, c .before .before .before .pre)) returns (λ c. search needs) (λ c. search needs) loop-again returns-2)
+    tie.close (tie.spec Inv-loop μ-loop (λ c. refl) (λ c κs. omega (arith, c .before .before .before .pre)) (λ c. search needs) (λ c. search needs) loop-again returns)
