@@ -1,6 +1,7 @@
 -- S, as the shares of one triple after another are added. Assumes nothing.
 use Rattle.integers.proofs.Prelude.{_≡_, refl, sym, ap, _∙_, Bool, true, false, List, [], _∷_, ℕ, suc, _+_, _*_, _^_, _≤_, _<_, arith, eq-eqb, ne-eqb, eqb, ℤ}
 use Rattle.integers.proofs.Prelude.{pos, natAbs, _+ℤ_, length, set, w32, toZ, ofZ}
+use mathlib.Core.Logic.{_⊎_, inl, inr}
 use native.Mathlib.Nat.{le-trans}
 use lib.IntN.{+ℤ-idr, +ℤ-assoc}
 use Rattle.integers.specs.Sum.{sumℤ}
@@ -10,7 +11,7 @@ use Rattle.integers.proofs.Machine.{param}
 use Rattle.lists.specs.Tabulated.{tab}
 use Rattle.lists.proofs.Tabulated.{length-tab, getD-tab, tab-same, tab-set}
 use Rattle.model.specs.Limits.{mostTriples, mostDone, mostRow}
-use Rattle.model.specs.Splitting.{member, Members}
+use Rattle.model.specs.Splitting.{blank, member, Members}
 use Rattle.model.specs.Iteration.{at, share, _when_, sumOf}
 use Rattle.model.specs.Bounds.{RowsWithin}
 use Rattle.model.proofs.Bounds.{row-small, share-small}
@@ -93,13 +94,15 @@ module _ {ts : List ℕ} {N t : ℕ} {s l : List ℤ} where
     long : length k ≡ N
     long = ap length e ∙ length-tab N (partly ts t s p)
 
-    pub may-add-third : p < 3 → v < length k → natAbs (at k v) ≤ 2 ^ 60
-    may-add-third m l =
-        let below : v < N = omega (arith, long) in
-        rw (e, getD-tab N (partly ts t s p) v (pos 0) below) (partly-small ts s (g .within) t p v (omega arith) (omega arith))
-
     pub may-add : p < 3 → member ts t p < N → (v < length k) × (natAbs (at k v) ≤ 2 ^ 60)
-    may-add m j = let below : v < length k = omega (arith, long) in (below, may-add-third m below)
+    may-add m j =
+        let below : v < N = omega arith in
+        (omega (arith, long), rw (e, getD-tab N (partly ts t s p) v (pos 0) below) (partly-small ts s (g .within) t p v (omega arith) (omega arith)))
+
+    pub may-add-third : p < 3 → (member ts t p < N) ⊎ (member ts t p ≡ blank)
+        → (length k ≤ blank) × ((v ≡ blank → ⊥) → (v < length k) × (natAbs (at k v) ≤ 2 ^ 60))
+    may-add-third m (inl j) = (omega (arith, long, g .named .few), λ _. may-add m j)
+    may-add-third m (inr j) = (omega (arith, long, g .named .few), λ other. absurd (other (is ∙ j)))
 
     pub partly-next : (x : ℤ) (r : List ℤ) → x ≡ share s t p → r ≡ tab N (λ u. partly ts t s p u +ℤ (x when eqb v u)) → r ≡ tab N (partly ts t s (suc p))
     partly-next x r f c =

@@ -8,11 +8,12 @@ ghost use lib.IntN.{ℤ, natAbs, _+ℤ_};
 ghost use lib.ListN.{length};
 ghost use Rattle.lists.specs.Tabulated.{tab};
 ghost use Rattle.model.specs.Limits.{mostTriples, mostDone};
-ghost use Rattle.model.specs.Splitting.{Members};
+ghost use Rattle.model.specs.Splitting.{blank, Members};
 ghost use Rattle.model.specs.Iteration.{at, share, _when_, sumOf};
 ghost use Rattle.model.specs.Bounds.{RowsWithin};
 ghost use Rattle.layout.specs.Transposed.{straight};
 ghost use Rattle.sums.specs.Shares.{Summed, SharedAt, Shared, InFours};
+use model::BLANK;
 
 // The variable v is given x.
 fn add(sums: &mut [i64], v: usize, x: i32)
@@ -22,12 +23,12 @@ fn add(sums: &mut [i64], v: usize, x: i32)
     sums[v] += x as i64;
 }
 
-// The same where v is a variable: the blank lies past the list and is given nothing.
+// The same where v is a variable: the blank is given nothing.
 fn add_third(sums: &mut [i64], v: usize, x: i32)
-    requires { ⌜ (v < length (now sums) → natAbs (at (now sums) v) ≤ 2 ^ 60) ⌝ }
+    requires { ⌜ (length (now sums) ≤ blank) × ((v ≡ blank → ⊥) → (v < length (now sums)) × (natAbs (at (now sums) v) ≤ 2 ^ 60)) ⌝ }
     ensures { λ _. ⌜ ((n : ℕ) (f : ℕ → ℤ) → now (sums .entry) ≡ tab n f → now (sums .exit) ≡ tab n (λ u. f u +ℤ (x when eqb v u))) ⌝ }
 {
-    if v < sums.len() {
+    if v != BLANK {
         add(sums, v, x);
     }
 }

@@ -67,7 +67,7 @@ add-third-requires c κs =
     let a = c .before .before .before in
     let r = first (second a) in
     let k = known (start r) in
-    may-add-third (k .summed) (start r .pre .0 .0) _ 2 (two a k) _ (r .variable3 .ensures) (omega arith)
+    may-add-third (k .summed) (start r .pre .0 .0) _ 2 (two a k) _ (r .variable3 .ensures) (omega arith) (k .summed .named .third _ (start r .pre .0 .1))
 
 returns : tie.Need-returns
 returns c N s g e =
