@@ -2,13 +2,12 @@
 // Rows that a run reaches are taken.
 ghost use mathlib.Core.Path.{_≡_};
 ghost use Prim.Native.Nat.{ℕ, _+_, _*_, _^_, _≤_, _<_};
-ghost use lib.IntN.{pos, natAbs, _+ℤ_, _*ℤ_};
+ghost use lib.IntN.{pos, natAbs, _+ℤ_, _-ℤ_, _*ℤ_};
 ghost use Rattle.integers.specs.Sum.{sumℕ, sumℤ};
 ghost use Rattle.lists.specs.Tabulated.{tab};
 ghost use Rattle.quotient.specs.Quotient.{unit};
 ghost use Rattle.model.specs.Limits.{mostRow};
 ghost use Rattle.model.specs.Iteration.{at, sign, rowSum, slack, multiplier, renewed};
-ghost use Rattle.model.specs.Run.{squareOfChange};
 ghost use Rattle.rows.specs.Sides.{Rows, changeOf, mostChanges};
 
 // "The four sums of a triple": the signs of c1 - c2 - c3, -c1 + c2 - c3, -c1 - c2 + c3, c1 + c2 + c3.
@@ -136,20 +135,32 @@ fn square(x: i32) -> u64
     magnitude * magnitude
 }
 
-// The square of the change from the part of a above 0 to that of b.
-fn change(a: i32, b: i32) -> u64
+// The change of the multiplier, from row a to row b.
+fn multiplier_change(a: i32, b: i32) -> i32
     requires { ⌜ (natAbs a ≤ mostRow) × (natAbs b ≤ mostRow) ⌝ }
-    ensures { λ n. ⌜ n ≡ squareOfChange (multiplier a) (multiplier b) ⌝ }
+    ensures { λ z. ⌜ (z ≡ pos (multiplier b) -ℤ pos (multiplier a)) × (natAbs z ≤ mostRow) ⌝ }
 {
-    square(positive(b) - positive(a))
+    positive(b) - positive(a)
 }
 
-// Of one side of row r: with 1 the change of its multiplier, with -1 that of its slack, which is the multiplier of the row's negative.
+// The change of the slack. A row is its multiplier less its slack, so this is the multiplier's change less the row's own.
+fn slack_change(a: i32, b: i32) -> i32
+    requires { ⌜ (natAbs a ≤ mostRow) × (natAbs b ≤ mostRow) ⌝ }
+    ensures { λ z. ⌜ (z ≡ pos (slack b) -ℤ pos (slack a)) × (natAbs z ≤ mostRow) ⌝ }
+{
+    multiplier_change(a, b) - (b - a)
+}
+
+// The square of the change of one side of row r: with 1 of its multiplier, with -1 of its slack.
 fn change_at(old: [i32; 4], new: [i32; 4], r: usize, side: i32) -> u64
-    requires { ⌜ (r < 4) × (natAbs side ≤ 1) × (natAbs (at old r) ≤ mostRow) × (natAbs (at new r) ≤ mostRow) ⌝ }
+    requires { ⌜ (r < 4) × (natAbs side ≡ 1) × (natAbs (at old r) ≤ mostRow) × (natAbs (at new r) ≤ mostRow) ⌝ }
     ensures { λ n. ⌜ n ≡ changeOf side (at old r) (at new r) ⌝ }
 {
-    change(side * old[r], side * new[r])
+    if side < 0 {
+        square(slack_change(old[r], new[r]))
+    } else {
+        square(multiplier_change(old[r], new[r]))
+    }
 }
 
 fn added(a: u64, b: u64, c: u64, d: u64) -> u64
@@ -160,7 +171,7 @@ fn added(a: u64, b: u64, c: u64, d: u64) -> u64
 }
 
 pub fn changes(old: [i32; 4], new: [i32; 4], side: i32) -> u64
-    requires { ⌜ (natAbs side ≤ 1) × Rows old × Rows new ⌝ }
+    requires { ⌜ (natAbs side ≡ 1) × Rows old × Rows new ⌝ }
     ensures { λ n. ⌜ (n ≡ sumℕ 4 (λ r. changeOf side (at old r) (at new r))) × (n ≤ mostChanges) ⌝ }
 {
     added(

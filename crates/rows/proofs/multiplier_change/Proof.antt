@@ -1,23 +1,18 @@
--- `rows::change` meets its contract. Assumes nothing.
-use Rattle.integers.proofs.Prelude.{ap, ap₂, _∙_, _*_, arith, needs, ℤ, pos, natAbs, _-ℤ_, w32, toZ, ofZ, toZ-ofZ}
+-- `rows::multiplier_change` meets its contract. Assumes nothing.
+use Rattle.integers.proofs.Prelude.{ap, ap₂, _∙_, arith, needs, ℤ, pos, _-ℤ_, w32, toZ, ofZ, toZ-ofZ}
 use Rattle.integers.proofs.Machine.{Worth, within-raw, fits, stored, read-back}
 use Rattle.integers.proofs.Linear.{about, abs-difference}
 use Rattle.model.specs.Limits.{mostRow}
 use Rattle.model.specs.Iteration.{multiplier}
-use Rattle.rows.proofs.change.Statement.{statement}
-use Rattle.rows.proofs.change.Tie as tie
+use Rattle.rows.proofs.multiplier_change.Statement.{statement}
+use Rattle.rows.proofs.multiplier_change.Tie as tie
 
 module _ (c : tie.After-positive2) where
   abbrev start : tie.Start
   start = c .before .before
 
-  abbrev old : ℤ
-  old = pos (multiplier (start .args .a))
-
-  abbrev new : ℤ
-  new = pos (multiplier (start .args .b))
-
-  difference : Worth (toZ w32 (ofZ w32 (c .before .positive .result)) -ℤ toZ w32 (ofZ w32 (c .positive2 .result))) (new -ℤ old) mostRow
+  difference : Worth (toZ w32 (ofZ w32 (c .before .positive .result)) -ℤ toZ w32 (ofZ w32 (c .positive2 .result)))
+      (pos (multiplier (start .args .b)) -ℤ pos (multiplier (start .args .a))) mostRow
   difference =
       let read : ℤ → ℤ = λ z. pos (multiplier z) in
       let b = read-back w32 (c .before .positive .ok) (c .before .positive .ensures ∙ ap read (toZ-ofZ (start .fits .b))) in
@@ -29,8 +24,7 @@ module _ (c : tie.After-positive2) where
       }
 
 returns : tie.Need-returns
-returns c = c .square .ensures ∙ ap (λ (z : ℤ). natAbs z * natAbs z) (stored (difference (c .before)) w32 tt .is)
+returns c = let d = stored (difference c) w32 tt in (d .is, within-raw d)
 
-pub change-spec : {M : Type 1} → statement M
-change-spec =
-    tie.close (tie.spec (λ c κs. search needs) (λ c κs. search needs) (λ c. fits (difference c) w32 tt) (λ c κs. within-raw (stored (difference c) w32 tt)) returns)
+pub multiplier-change-spec : {M : Type 1} → statement M
+multiplier-change-spec = tie.close (tie.spec (λ c κs. search needs) (λ c κs. search needs) (λ c. fits (difference c) w32 tt) returns)
