@@ -135,32 +135,22 @@ fn square(x: i32) -> u64
     magnitude * magnitude
 }
 
-// The change of the multiplier, from row a to row b.
-fn multiplier_change(a: i32, b: i32) -> i32
-    requires { ⌜ (natAbs a ≤ mostRow) × (natAbs b ≤ mostRow) ⌝ }
-    ensures { λ z. ⌜ (z ≡ pos (multiplier b) -ℤ pos (multiplier a)) × (natAbs z ≤ mostRow) ⌝ }
+// The change of one side from row a to row b: with 1 of its multiplier; with -1 of its slack, which changes by as much less the row's own change, since a
+// row is its multiplier less its slack.
+fn side_change(a: i32, b: i32, side: i32) -> i32
+    requires { ⌜ (natAbs side ≡ 1) × (natAbs a ≤ mostRow) × (natAbs b ≤ mostRow) ⌝ }
+    ensures { λ z. ⌜ (z ≡ pos (multiplier (side *ℤ b)) -ℤ pos (multiplier (side *ℤ a))) × (natAbs z ≤ mostRow) ⌝ }
 {
-    positive(b) - positive(a)
+    let change = positive(b) - positive(a);
+    if side < 0 { change - (b - a) } else { change }
 }
 
-// The change of the slack. A row is its multiplier less its slack, so this is the multiplier's change less the row's own.
-fn slack_change(a: i32, b: i32) -> i32
-    requires { ⌜ (natAbs a ≤ mostRow) × (natAbs b ≤ mostRow) ⌝ }
-    ensures { λ z. ⌜ (z ≡ pos (slack b) -ℤ pos (slack a)) × (natAbs z ≤ mostRow) ⌝ }
-{
-    multiplier_change(a, b) - (b - a)
-}
-
-// The square of the change of one side of row r: with 1 of its multiplier, with -1 of its slack.
+// Its square, of row r.
 fn change_at(old: [i32; 4], new: [i32; 4], r: usize, side: i32) -> u64
     requires { ⌜ (r < 4) × (natAbs side ≡ 1) × (natAbs (at old r) ≤ mostRow) × (natAbs (at new r) ≤ mostRow) ⌝ }
     ensures { λ n. ⌜ n ≡ changeOf side (at old r) (at new r) ⌝ }
 {
-    if side < 0 {
-        square(slack_change(old[r], new[r]))
-    } else {
-        square(multiplier_change(old[r], new[r]))
-    }
+    square(side_change(old[r], new[r], side))
 }
 
 fn added(a: u64, b: u64, c: u64, d: u64) -> u64
