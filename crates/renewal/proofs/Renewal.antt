@@ -1,6 +1,6 @@
 -- The rows of T triples, as one triple or four triples after the other are renewed with the values c. Assumes nothing.
-use Rattle.integers.proofs.Prelude.{_≡_, refl, sym, ap, ap₂, subst, _∙_, Bool, true, false, cond, _&&_, List, [], _∷_, ℕ, _+_, _-_, _*_, _/_, _%_, _^_, _≤_, _<_}
-use Rattle.integers.proofs.Prelude.{arith, decLt, ltb-true, ltb-false, lt-ltb, le-ltb, leb-true, leb-false, lt-leb, le-leb, ltb, leb, ℤ, pos, negsuc, natAbs}
+use Rattle.integers.proofs.Prelude.{_≡_, refl, sym, ap, ap₂, subst, _∙_, Bool, true, false, cond, not, _&&_, List, [], _∷_, ℕ, _+_, _-_, _*_, _/_, _%_, _^_, _≤_, _<_}
+use Rattle.integers.proofs.Prelude.{arith, eqb, eqb-false, not-true, decLt, ltb-true, ltb-false, lt-ltb, le-ltb, leb-true, leb-false, lt-leb, le-leb, ltb, leb, ℤ, pos, negsuc, natAbs}
 use Rattle.integers.proofs.Prelude.{_*ℤ_, length, getD, sets}
 use mathlib.Core.Bool as bools
 use native.Mathlib.Nat.{mul-le-mul}
@@ -14,7 +14,7 @@ use Rattle.lists.proofs.Tabulated.{length-tab, getD-tab, tab-same, tab-getD, le
 use Rattle.quotient.specs.Quotient.{unit}
 use Rattle.model.specs.Limits.{mostTriples, mostDone, mostSlack, mostRow}
 use Rattle.model.specs.Causes.{_if_}
-use Rattle.model.specs.Splitting.{member}
+use Rattle.model.specs.Splitting.{blank, member}
 use Rattle.model.specs.Iteration.{at, valueAt, sumAt, row, slack, multiplier, renewed, renewedAt}
 use Rattle.model.specs.Run.{squareOfChange, changes, settledBy}
 use Rattle.model.specs.Bounds.{RowsWithin}
@@ -254,7 +254,9 @@ pub unmet : (t n a b x : ℕ) → ((ltb t n && leb a x) && leb b x) ≡ false �
 unmet t n a b x h p q = ltb-false t n (and-false (ltb t n) (leb a x) (and-false (ltb t n && leb a x) (leb b x) h (le-leb b x q)) (le-leb a x p))
 
 -- ---- the test for a blank, once for all iterations
-pub none-known : (ts : List ℕ) (T : ℕ) (c : List ℤ) (known : Bool) → 3 * T ≡ length ts → known ≡ withoutBlank ts T (length c) → Known known ts c
-none-known ts T c known long e k t h =
-    ltb-true _ _ (subst (λ (u : ℕ). ltb (member ts u 2) (length c) ≡ true) (getD-tab T (λ t. t) t 0 (omega arith))
-    (every-at (λ t. ltb (member ts t 2) (length c)) (tab T (λ t. t)) t 0 (sym e ∙ k) (omega (arith, length-tab T (λ t. t)))))
+pub none-known : (ts : List ℕ) (T : ℕ) (known : Bool) → 3 * T ≡ length ts → known ≡ withoutBlank ts T → Known known ts
+none-known ts T known long e k t h b =
+    let other : not (eqb (member ts t 2) blank) ≡ true
+    = subst (λ (u : ℕ). not (eqb (member ts u 2) blank) ≡ true) (getD-tab T (λ t. t) t 0 (omega arith))
+    (every-at (λ t. not (eqb (member ts t 2) blank)) (tab T (λ t. t)) t 0 (sym e ∙ k) (omega (arith, length-tab T (λ t. t)))) in
+    eqb-false (member ts t 2) blank (not-true _ other) b

@@ -1,9 +1,9 @@
 -- Rows that are renewed as they stand while a run goes. Definitions only.
-use mathlib.Core.Bool.{Bool, true, cond}
+use mathlib.Core.Bool.{Bool, true, cond, not}
 use mathlib.Core.List.{List}
 use mathlib.Core.Path.{_≡_}
 use Prim.Native.Nat.{ℕ, _+_, _-_, _*_, _/_, _%_, _≤_, _<_}
-use lib.Dec.{ltb}
+use lib.Dec.{ltb, eqb}
 use lib.IntN.{ℤ, pos, negsuc, natAbs}
 use lib.ListN.{length}
 use Rattle.integers.specs.Sum.{sumℕ}
@@ -11,7 +11,7 @@ use Rattle.lists.specs.Entries.{every}
 use Rattle.lists.specs.Tabulated.{tab}
 use Rattle.quotient.specs.Quotient.{unit}
 use Rattle.model.specs.Limits.{mostTriples, mostDone, mostSlack, mostMultiplier}
-use Rattle.model.specs.Splitting.{member, Members}
+use Rattle.model.specs.Splitting.{blank, member, Members}
 use Rattle.model.specs.Iteration.{at, row, valueAt, sumAt, multiplier, slack, renewed, renewedAt}
 use Rattle.rows.specs.Sides.{changeOf}
 use Rattle.layout.specs.Transposed.{cell, place, straight}
@@ -24,13 +24,13 @@ Sized T ts s = (T ≤ mostTriples) × (3 * T ≡ length ts) × (4 * T ≡ length
 abbrev pub Valued : List ℕ → List ℤ → Type 0
 Valued ts c = Members ts (length c) × ((v : ℕ) → natAbs (at c v) ≤ unit)
 
--- the first T triples have a variable of n in third place, and no blank
-abbrev pub withoutBlank : List ℕ → ℕ → ℕ → Bool
-withoutBlank ts T n = every (λ t. ltb (member ts t 2) n) (tab T (λ t. t))
+-- none of the first T triples has the blank
+abbrev pub withoutBlank : List ℕ → ℕ → Bool
+withoutBlank ts T = every (λ t. not (eqb (member ts t 2) blank)) (tab T (λ t. t))
 
 -- where it is known that there is no blank, there is none
-abbrev pub Known : Bool → List ℕ → List ℤ → Type 0
-Known known ts c = known ≡ true → (t : ℕ) → 3 * t + 2 < length ts → member ts t 2 < length c
+abbrev pub Known : Bool → List ℕ → Type 0
+Known known ts = known ≡ true → (t : ℕ) → 3 * t + 2 < length ts → member ts t 2 ≡ blank → ⊥
 
 -- l has c in third place of the four triples from t on, none above U
 abbrev pub Thirds : List ℕ → List ℤ → ℕ → List ℤ → Type 0

@@ -11,40 +11,41 @@ ghost use Rattle.lists.specs.Tabulated.{tab};
 ghost use Rattle.quotient.specs.Quotient.{unit};
 ghost use Rattle.model.specs.Limits.{mostTriples, mostDone};
 ghost use Rattle.model.specs.Causes.{_if_};
-ghost use Rattle.model.specs.Splitting.{member};
+ghost use Rattle.model.specs.Splitting.{blank, member};
 ghost use Rattle.model.specs.Iteration.{at, valueAt, sumAt, renewed};
 ghost use Rattle.model.specs.Run.{settledBy};
 ghost use Rattle.model.specs.Bounds.{RowsWithin};
 ghost use Rattle.rows.specs.Sides.{Rows, mostChanges};
 ghost use Rattle.layout.specs.Transposed.{cell, Fours, lane, stored, straight, Aligned};
 ghost use Rattle.renewal.specs.InPlace.{Sized, Valued, withoutBlank, Known, Thirds, SmallRow, tripleChanges, fourChanges, renewedFour, renewedAll, Left, renewedFrom, Renewed};
+use model::BLANK;
 
 // ---- values
 
 // The blank's c, -U.
 const BLANK_VALUE: i32 = -16384;
 
-// Whether every triple of n variables has a variable in third place. Known beforehand, it leaves the loops below without a test. All are looked at: with a
-// return at the first blank the compiler makes those loops worse.
-pub fn without_blank(triples: &[u16], count: usize, n: usize) -> bool
+// Whether no triple has the blank. Known beforehand, it leaves the loops below without a test. All triples are looked at: with a return at the first blank
+// the compiler makes those loops worse.
+pub fn without_blank(triples: &[u16], count: usize) -> bool
     requires { ⌜ (count ≤ mostTriples) × (3 * count ≡ length (now triples)) ⌝ }
-    ensures { λ r. ⌜ r ≡ withoutBlank (now (triples .entry)) count n ⌝ }
+    ensures { λ r. ⌜ r ≡ withoutBlank (now (triples .entry)) count ⌝ }
 {
     let mut without = true;
     for t in 0..count {
-        without = without & (layout::variable(triples, t, 2) < n);
+        without = without & (layout::variable(triples, t, 2) != BLANK);
     }
     without
 }
 
-// c at position p of triple t, where a variable stands if that is known: that variable's, or the blank's.
+// c at position p of triple t: a variable's, as may be known, or the blank's.
 fn value_at(triples: &[u16], values: &[i16], t: usize, p: usize, known: bool) -> i32
     requires { ⌜ (t < mostTriples) × (p < 3) × (3 * t + 2 < length (now triples)) × Valued (now triples) (now values) ⌝ }
-    requires { ⌜ (known ≡ true → member (now triples) t p < length (now values)) ⌝ }
+    requires { ⌜ (known ≡ true → member (now triples) t p ≡ blank → ⊥) ⌝ }
     ensures { λ c. ⌜ (c ≡ valueAt (now (values .entry)) (member (now (triples .entry)) t p)) × (natAbs c ≤ unit) ⌝ }
 {
     let v = layout::variable(triples, t, p);
-    if known | (v < values.len()) {
+    if known | (v != BLANK) {
         values[v] as i32
     } else {
         BLANK_VALUE
@@ -55,7 +56,7 @@ fn value_at(triples: &[u16], values: &[i16], t: usize, p: usize, known: bool) ->
 fn thirds(triples: &[u16], values: &[i16], t: usize, known: bool) -> [i32; 4]
     requires { ⌜ (t + 4 ≤ mostTriples) × (3 * t + 11 < length (now triples)) ⌝ }
     requires { ⌜ Valued (now triples) (now values) ⌝ }
-    requires { ⌜ Known known (now triples) (now values) ⌝ }
+    requires { ⌜ Known known (now triples) ⌝ }
     ensures { λ l. ⌜ Thirds (now (triples .entry)) (now (values .entry)) t l ⌝ }
 {
     [
@@ -216,7 +217,7 @@ fn renew_counted(
     requires { ⌜ Sized count (now triples) (now rows) ⌝ }
     requires { ⌜ Valued (now triples) (now values) ⌝ }
     requires { ⌜ RowsWithin mostDone (now rows) ⌝ }
-    requires { ⌜ Known known (now triples) (now values) ⌝ }
+    requires { ⌜ Known known (now triples) ⌝ }
     ensures { λ r. ⌜ Aligned count (r .done) ⌝ }
     ensures { λ r. ⌜ ((r .totals) .multipliers ≤ tolerance → (r .totals) .slacks ≤ tolerance → r .done ≡ count) ⌝ }
     ensures { λ r. ⌜ Renewed count (now (triples .entry)) (now (values .entry)) 0 (r .done) (now (rows .entry)) (now (rows .exit))
@@ -245,7 +246,7 @@ fn renew_rest(
     requires { ⌜ Sized count (now triples) (now rows) ⌝ }
     requires { ⌜ Valued (now triples) (now values) ⌝ }
     requires { ⌜ Aligned count from × Left count from (now rows) ⌝ }
-    requires { ⌜ Known known (now triples) (now values) ⌝ }
+    requires { ⌜ Known known (now triples) ⌝ }
     ensures { λ _. ⌜ now (rows .exit) ≡ renewedFrom count (now (triples .entry)) (now (values .entry)) from (now (rows .entry)) ⌝ }
 {
     let mut t = from;
@@ -278,7 +279,7 @@ pub fn renew_rows(
     requires { ⌜ Sized count (now triples) (now rows) ⌝ }
     requires { ⌜ Valued (now triples) (now values) ⌝ }
     requires { ⌜ RowsWithin mostDone (now rows) ⌝ }
-    requires { ⌜ Known known (now triples) (now values) ⌝ }
+    requires { ⌜ Known known (now triples) ⌝ }
     ensures { λ _. ⌜ (straight count (now (rows .exit)) ≡ renewedAll count (now (triples .entry)) (now (rows .entry)) (now (values .entry)))
         × (length (now (rows .exit)) ≡ 4 * count) ⌝ }
     ensures { λ settled. ⌜ settled

@@ -31,7 +31,7 @@ fn iterate(
     rows: &mut [i32],
 ) -> u32
     requires { ⌜ Lent settings (now triples) (now counts) (now costs) count (now sums) (now values) (now rows) ⌝ }
-    requires { ⌜ (RowsWithin mostDone (straight count (now rows))) × (Tables (settings .ratio) (now limits) (now inverses)) × (Known known (now triples) (now values)) ⌝ }
+    requires { ⌜ (RowsWithin mostDone (straight count (now rows))) × (Tables (settings .ratio) (now limits) (now inverses)) × (Known known (now triples)) ⌝ }
     ensures { λ stop. ⌜ ((k : Code) → let g = systemIn k (now (triples .entry)) count (now (values .entry)) in
         let a = stateIn count (now (sums .entry)) (now (values .entry)) (now (rows .entry)) in
         let b = stateIn count (now (sums .exit)) (now (values .exit)) (now (rows .exit)) in
@@ -75,7 +75,7 @@ fn iterations(
     rows: &mut [i32],
 ) -> Ending
     requires { ⌜ Lent settings (now triples) (now counts) (now costs) count (now sums) (now values) (now rows) ⌝ }
-    requires { ⌜ (RowsWithin done (straight count (now rows))) × (Tables (settings .ratio) (now limits) (now inverses)) × (Known known (now triples) (now values)) ⌝ }
+    requires { ⌜ (RowsWithin done (straight count (now rows))) × (Tables (settings .ratio) (now limits) (now inverses)) × (Known known (now triples)) ⌝ }
     requires { ⌜ (done ≤ settings .limit) × (settings .limit ≤ mostIterations) ⌝ }
     ensures { λ e. ⌜ ((k : Code) → let g = systemIn k (now (triples .entry)) count (now (values .entry)) in
         let first = stateIn count (now (sums .entry)) (now (values .entry)) (now (rows .entry)) in
@@ -128,7 +128,7 @@ fn run_from(
     let mut limits = [0i64; 31];
     let mut inverses = [0i64; 31];
     values::prepare(settings.ratio, &mut limits, &mut inverses);
-    let known = renewal::without_blank(triples, count, values.len());
+    let known = renewal::without_blank(triples, count);
     let ending = iterations(
         settings,
         triples,

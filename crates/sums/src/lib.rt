@@ -40,12 +40,9 @@ fn give(triples: &[u16], t: usize, shares: [i32; 3], sums: &mut [i64])
     ensures { λ _. ⌜ ((N : ℕ) (s : List ℤ) → Summed (now (triples .entry)) N t s (now (sums .entry)) → shares ≡ tab 3 (share s t)
         → Summed (now (triples .entry)) N (suc t) s (now (sums .exit))) ⌝ }
 {
-    let v0 = layout::variable(triples, t, 0);
-    let v1 = layout::variable(triples, t, 1);
-    let v2 = layout::variable(triples, t, 2);
-    add(sums, v0, shares[0]);
-    add(sums, v1, shares[1]);
-    add_third(sums, v2, shares[2]);
+    add(sums, layout::variable(triples, t, 0), shares[0]);
+    add(sums, layout::variable(triples, t, 1), shares[1]);
+    add_third(sums, layout::variable(triples, t, 2), shares[2]);
 }
 
 // The first triples, whose rows are not transposed.

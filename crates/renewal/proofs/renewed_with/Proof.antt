@@ -21,6 +21,6 @@ returns c =
 pub renewed-with-spec : {M : Type 1} → statement M
 renewed-with-spec =
     tie.close (tie.spec
-    (λ c κs. let s = c .before in ((s .pre .0 .0, omega arith, s .pre .0 .1, s .pre .1 .0), λ _. s .pre .1 .0 .0 .first (s .args .t) (s .pre .0 .1)))
-    (λ c κs. let s = c .before .before in ((s .pre .0 .0, omega arith, s .pre .0 .1, s .pre .1 .0), λ _. s .pre .1 .0 .0 .second (s .args .t) (s .pre .0 .1)))
+    (λ c κs. let s = c .before in ((s .pre .0 .0, omega arith, s .pre .0 .1, s .pre .1 .0), λ _ e. omega (arith, s .pre .1 .0 .0 .first (s .args .t) (s .pre .0 .1), s .pre .1 .0 .0 .few)))
+    (λ c κs. let s = c .before .before in ((s .pre .0 .0, omega arith, s .pre .0 .1, s .pre .1 .0), λ _ e. omega (arith, s .pre .1 .0 .0 .second (s .args .t) (s .pre .0 .1), s .pre .1 .0 .0 .few)))
     (λ c κs. search needs) (λ c κs. search needs) returns)

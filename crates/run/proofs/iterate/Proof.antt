@@ -88,7 +88,7 @@ renew-rows-requires c κs =
     let m = c .before .before .before .before in
     let s = start m in
     let small = value-small (given m .gather .last .1 .1 .1 .0) (s .args .counts .now) (costs s) (s .args .settings .weight) (s .args .settings .ratio) (n s) in
-    ((is-ready s .triples, s .pre .0 .members, s .pre .0 .rows), ((rw (m .write-values .kept .1 .1 .1 .1 .1 .1 .1 .0) (s .pre .0 .below), λ v. rw (m .write-values .ensures) (small v)), (within s, λ e t h. omega (arith, m .write-values .kept .1 .1 .1 .1 .1 .1 .1 .0, s .pre .1 .2 e t h))))
+    ((is-ready s .triples, s .pre .0 .members, s .pre .0 .rows), ((rw (m .write-values .kept .1 .1 .1 .1 .1 .1 .1 .0) (s .pre .0 .below), λ v. rw (m .write-values .ensures) (small v)), (within s, s .pre .1 .2)))
 
 -- ---- s
 returns : tie.Need-returns

@@ -54,7 +54,7 @@ iterate-requires c κs =
     let s = start l in
     let r = l .loop .inv in (
       lent-again _ _ _ (r .0 .sums) (r .0 .values) (r .1) (s .pre .0),
-      (weaker (l .loop .k) mostDone (omega (arith, on t .0, s .pre .1 .1 .1)) (r .0 .within), s .pre .1 .0 .1, λ e t h. omega (arith, long l, s .pre .1 .0 .2 e t h)),
+      (weaker (l .loop .k) mostDone (omega (arith, on t .0, s .pre .1 .1 .1)) (r .0 .within), s .pre .1 .0 .1, s .pre .1 .0 .2),
     )
 
 abbrev turn : tie.After-iterate Inv-loop μ-loop → tie.Then1 Inv-loop μ-loop

@@ -20,7 +20,7 @@ iterations-requires c κs =
     let f = found c in
     let p = prepared f in
     let s = start p in
-    let known = none-known (s .args .triples .now) (s .args .count) (s .args .values .now) (f .without-blank .result) (s .pre .0 .members) (f .without-blank .ensures) in
+    let known = none-known (s .args .triples .now) (s .args .count) (f .without-blank .result) (s .pre .0 .members) (f .without-blank .ensures) in
     (s .pre .0, ((s .pre .1 .0, p .prepare .ensures, known), s .pre .1 .1))
 
 straighten-requires : tie.Need-straighten-requires

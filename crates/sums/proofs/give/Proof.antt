@@ -28,55 +28,61 @@ module _ {a : tie.Start} (k : Known a) where
       (ap (λ (l : List ℤ). at l p) (k .shares) ∙ getD-tab 3 (share (k .s) (a .args .t)) p (pos 0) h)
 
 -- ---- the three calls
-abbrev start : tie.After-variable3 → tie.Start
-start r = r .before .before .before .before
+abbrev first : tie.After-variable → tie.Start
+first r = r .before .before .before
 
-abbrev first : tie.After-add → tie.After-variable3
-first c = c .before .before .before
+abbrev second : tie.After-variable2 → tie.After-add
+second r = r .before .before .before
 
-abbrev second : tie.After-add2 → tie.After-add
-second c = c .before .before .before .before
+abbrev third : tie.After-variable3 → tie.After-add2
+third r = r .before .before .before
 
-one : (c : tie.After-add) (k : Known (start (first c))) → c .add .last .0 ≡ given k 1
+one : (c : tie.After-add) (k : Known (first (c .before .before))) → c .add .last .0 ≡ given k 1
 one c k =
-    let r = first c in
+    let r = c .before .before in
     let g = k .summed in
-    partly-next g (start r .pre .0 .0) _ 0 (partly-none g) _ (r .before .before .variable .ensures) _ _ (x-is k 0 (omega arith)) (c .add .ensures (k .N) _ (partly-none g))
+    partly-next g (first r .pre .0 .0) _ 0 (partly-none g) _ (r .variable .ensures) _ _ (x-is k 0 (omega arith)) (c .add .ensures (k .N) _ (partly-none g))
 
-two : (c : tie.After-add2) (k : Known (start (first (second c)))) → c .add2 .last .0 ≡ given k 2
+abbrev start : tie.After-add2 → tie.Start
+start c = first (second (c .before .before) .before .before)
+
+two : (c : tie.After-add2) (k : Known (start c)) → c .add2 .last .0 ≡ given k 2
 two c k =
-    let r = first (second c) in
-    let e = one (second c) k in
-    partly-next (k .summed) (start r .pre .0 .0) _ 1 e _ (r .before .variable2 .ensures) _ _ (x-is k 1 (omega arith)) (c .add2 .ensures (k .N) _ e)
+    let r = c .before .before in
+    let e = one (second r) k in
+    partly-next (k .summed) (start c .pre .0 .0) _ 1 e _ (r .variable2 .ensures) _ _ (x-is k 1 (omega arith)) (c .add2 .ensures (k .N) _ e)
 
 add-requires : tie.Need-add-requires
 add-requires c κs =
-    let r = c .before .before in
-    let k = known (start r) in
-    may-add (k .summed) (start r .pre .0 .0) _ 0 (partly-none (k .summed)) _ (r .before .before .variable .ensures) (omega arith) (k .summed .named .first _ (start r .pre .0 .1))
+    let r = c .before in
+    let s = first r in
+    let k = known s in
+    may-add (k .summed) (s .pre .0 .0) _ 0 (partly-none (k .summed)) _ (r .variable .ensures) (omega arith) (k .summed .named .first _ (s .pre .0 .1))
 
 add-requires-2 : tie.Need-add-requires-2
 add-requires-2 c κs =
-    let a = c .before .before .before in
-    let r = first a in
-    let k = known (start r) in
-    may-add (k .summed) (start r .pre .0 .0) _ 1 (one a k) _ (r .before .variable2 .ensures) (omega arith) (k .summed .named .second _ (start r .pre .0 .1))
+    let r = c .before in
+    let a = second r in
+    let s = first (a .before .before) in
+    let k = known s in
+    may-add (k .summed) (s .pre .0 .0) _ 1 (one a k) _ (r .variable2 .ensures) (omega arith) (k .summed .named .second _ (s .pre .0 .1))
 
 add-third-requires : tie.Need-add-third-requires
 add-third-requires c κs =
-    let a = c .before .before .before in
-    let r = first (second a) in
-    let k = known (start r) in
-    may-add-third (k .summed) (start r .pre .0 .0) _ 2 (two a k) _ (r .variable3 .ensures) (omega arith) (k .summed .named .third _ (start r .pre .0 .1))
+    let r = c .before in
+    let a = third r in
+    let s = start a in
+    let k = known s in
+    may-add-third (k .summed) (s .pre .0 .0) _ 2 (two a k) _ (r .variable3 .ensures) (omega arith) (k .summed .named .third _ (s .pre .0 .1))
 
 returns : tie.Need-returns
 returns c N s g e =
-    let a = c .before .before .before .before .before in
-    let r = first (second a) in
-    let k : Known (start r) = record { N = N; s = s; summed = g; shares = e } in
-    partly-all g _ (partly-next g (start r .pre .0 .0) _ 2 (two a k) _ (r .variable3 .ensures) _ _ (x-is k 2 (omega arith)) (c .before .add-third .ensures N _ (two a k)))
+    let r = c .before .before .before in
+    let a = third r in
+    let k : Known (start a) = record { N = N; s = s; summed = g; shares = e } in
+    partly-all g _ (partly-next g (start a .pre .0 .0) _ 2 (two a k) _ (r .variable3 .ensures) _ _ (x-is k 2 (omega arith)) (c .before .add-third .ensures N _ (two a k)))
 
 pub give-spec : {M : Type 1} → statement M
 give-spec =
-    tie.close (tie.spec (λ c κs. search needs) (λ c κs. search needs) (λ c κs. search needs) (λ c. search needs) add-requires (λ c. search needs)
-    add-requires-2 (λ c. search needs) add-third-requires (λ c. search needs) returns)
+    tie.close (tie.spec (λ c κs. search needs) (λ c. search needs) add-requires (λ c κs. search needs) (λ c. search needs) add-requires-2
+    (λ c κs. search needs) (λ c. search needs) add-third-requires (λ c. search needs) returns)
