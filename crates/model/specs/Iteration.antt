@@ -66,7 +66,7 @@ abbrev pub _when_ : ℤ → Bool → ℤ
 z when true = z
 z when false = pos 0
 
--- "S is the sum over its rows of z + p, with the sign that the variable has in that row"
+-- "S is the sum over its rows of z + p, with the sign that the variable has in that row"; the blank is no variable, so its share is in no S
 unfoldable pub sumOf : List ℕ → ℕ → List ℤ → ℕ → ℤ
 sumOf ts T s v = sumℤ T (λ t. sumℤ 3 (λ p. share s t p when eqb (member ts t p) v))
 

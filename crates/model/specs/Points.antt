@@ -29,7 +29,7 @@ abbrev pub centred : ℕ → ℤ
 centred zero = negℤ (pos unit)
 centred (suc b) = pos unit
 
--- of the variable at position i of triple t
+-- of the variable at position i of triple t; the blank lies past every point's end, where an entry reads as 0, so that its c is −U
 abbrev pub centredAt : System → List ℕ → ℕ → ℕ → ℤ
 centredAt g p t i = centred (bitAt p (member (g .members) t i))
 

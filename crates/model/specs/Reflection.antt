@@ -22,7 +22,8 @@ reflect w costs = tab (length costs) (λ i. negatedIf (bitAt w i) (at costs i))
 unfoldable pub sumOfWords : List ℕ → List ℕ → List ℕ
 sumOfWords w u = tab (length w) (λ i. (bitAt w i + bitAt u i) % 2)
 
--- of the same triple, row q's "signs differ from [row r's] own exactly at the variables where the point has a 1"
+-- of the same triple, row q's "signs differ from [row r's] own exactly at the variables where the point has a 1"; document 02, L6: "the blank keeping its
+-- sign", since it lies past the point's end
 abbrev pub Opposite : List ℕ → List ℕ → ℕ → ℕ → ℕ → Type 0
 Opposite x ts t r q = (p : ℕ) → p < 3 → sign q p ≡ negatedIf (bitAt x (member ts t p)) (sign r p)
 
