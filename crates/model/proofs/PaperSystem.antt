@@ -19,7 +19,7 @@ use Rattle.model.specs.Run.{changes, settledBy, start}
 use Rattle.model.specs.Words.{bitAt}
 use Rattle.model.specs.Points.{Bits, centred}
 use Rattle.model.specs.Paper.{right, residual17}
-use Rattle.model.specs.PaperSystem.{matrix, times, PaperSystem, Projection, residual12, normSquare, StartStop}
+use Rattle.model.specs.PaperSystem.{matrix, times, atMember, PaperSystem, Projection, residual12, normSquare, StartStop}
 use Rattle.model.specs.DecoderClaims.{iterateOf, Published}
 use Rattle.model.proofs.Accepted.{accepted}
 use Rattle.model.proofs.TripleRule.{members, members-long, member-is, occurs-some}
@@ -143,7 +143,7 @@ doubled-rows g h c t r l =
 
 paper-system : (g : System) → Within g → PaperSystem g
 paper-system g h = record {
-  rows = times-rows g h;
+  rows = λ x t r l. times-same g x (atMember x) (λ v k. rw (ne-eqb v blank (λ e. omega (arith, h .few)))) t r ∙ times-rows g h (atMember x) refl t r l;
   points = λ p b. (
     λ q t r l k. rw (bits p b t r l) (entries _ _ _ r (b .binary _) (b .binary _) (b .binary _) k .0 (q .meets t r l k)),
     λ q. record { point = b; meets = λ t r l k. entries _ _ _ r (b .binary _) (b .binary _) (b .binary _) k .1 (rw (bits p b t r l) at (q t r l k)) },

@@ -1,5 +1,6 @@
 -- The system, its projection, start and stop are the papers' (source documents 000 and 003). Statements only; the proofs are in
 -- proofs/PaperSystem.antt. As in Paper, the paper's v is 1/2 + c/(2U), so 2U × v is U + c.
+use mathlib.Core.Bool.{cond}
 use mathlib.Core.Path.{_≡_}
 use mathlib.Core.Logic.{_↔_}
 use mathlib.Core.List.{List}
@@ -25,9 +26,13 @@ matrix g t r v = sumℤ 3 (λ p. sign r p when eqb (member (g .members) t p) v)
 unfoldable pub times : System → (ℕ → ℤ) → ℕ → ℕ → ℤ
 times g x t r = sumℤ (g .variables) (λ v. matrix g t r v *ℤ x v)
 
+-- x at a member of a triple; document 02, L6: the blank has no column in A, since its v is 0
+abbrev pub atMember : (ℕ → ℤ) → ℕ → ℤ
+atMember x v = cond (eqb v blank) (pos 0) (x v)
+
 pub record PaperSystem (g : System) : Type 0 where
-  -- a row of A has its three signs, at the three members of its triple; the blank has no column, since its v is 0
-  pub rows : (x : ℕ → ℤ) → x blank ≡ pos 0 → (t r : ℕ) → t < g .triples → times g x t r ≡ sumℤ 3 (λ p. sign r p *ℤ x (member (g .members) t p))
+  -- a row of A has its three signs, at the three members of its triple
+  pub rows : (x : ℕ → ℤ) (t r : ℕ) → t < g .triples → times g x t r ≡ sumℤ 3 (λ p. sign r p *ℤ atMember x (member (g .members) t p))
   -- A v ≤ b with b = 0, 0, 0, 2 (equations 8b and 8c): a 0/1 point meets the system exactly when it holds of its entries
   pub points : (p : List ℕ) → Bits (g .variables) p
       → Point g p ↔ ((t r : ℕ) → t < g .triples → r < 4 → times g (λ v. pos (bitAt p v)) t r ≤ℤ right r)

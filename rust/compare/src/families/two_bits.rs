@@ -9,7 +9,7 @@ use super::programs::{
 use super::records::{about, calls as calls_of, damage_pairs_of, damaged};
 use super::words::{every_word_of, word_of};
 use super::{encoder, imports, programs, Family};
-use crate::case::{exact_case, Case};
+use crate::case::{exact_case, Case, DecodeCase};
 use crate::codes::{check_starts, code_of, crowded_code, one_check, records as bytes, Code};
 use crate::draft::{wild_costs, Draft, Entry};
 use crate::random::Random;
@@ -38,6 +38,7 @@ pub fn records() -> Vec<Family> {
 pub fn calls() -> Vec<Family> {
     vec![
         Family::listed("checks of two bits by hand", by_hand),
+        Family::listed("an entry at the blank's index", long_lists),
         Family::random("runs on tiny codes, two bits", 1_500, |random| {
             run_of(random, tiny_two_bit_code)
         }),
@@ -224,6 +225,31 @@ fn by_hand() -> Vec<Case> {
         }
     }
     cases
+}
+
+/// Lists so long that they have an entry at the blank's index, which is left as it was.
+fn long_lists() -> Vec<Case> {
+    const LONG: usize = 0xFFFF + 3;
+    let codes = small_codes().into_iter().chain([path(3), ring(5)]);
+    let cases = codes.flat_map(|code| {
+        let run = DecodeCase {
+            code: bytes(&code),
+            settings: Settings::new(256, 0, 3, 0),
+            costs: vec![-900; code.bits],
+            room: [LONG; 6],
+        };
+        let split = Case::Split {
+            code: bytes(&code),
+            room: [LONG; 2],
+        };
+        let extend = Case::Extend {
+            code: bytes(&code),
+            word: vec![0; code.bits],
+            room: LONG,
+        };
+        [Case::Decode(run), split, extend]
+    });
+    cases.collect()
 }
 
 /// To the most iterations, with weak costs or the strongest.
