@@ -182,7 +182,7 @@ precedence =
     ∷ "2 1  1 2  1 1  2  1 1  1 2  0" gets 18
     ∷ "2 1  1 2  1 1  2  1 1  1 3" gets 19
     ∷ "2 1  1 2  1 1  2  1 1  1 2" gets 3
-    -- a row of two: with an index above n, which is 19 and not 5; alone
+    -- a row of one: with an index above n, which is 19 and not 5; alone
     ∷ "3 1  1 1  1 0 0  1  1 0 0  4" gets 19
     ∷ "3 1  1 1  1 0 0  1  1 0 0  1" gets 4
     -- a bit in no check: with a falling row; alone
