@@ -9,12 +9,13 @@ use Rattle.integers.proofs.Machine.{param}
 use Rattle.lists.specs.Tabulated.{tab}
 use Rattle.lists.proofs.Tabulated.{getD-tab, tab-same}
 use Rattle.model.specs.Limits.{mostDone, mostRow}
+use Rattle.model.specs.Splitting.{member}
 use Rattle.model.specs.Iteration.{at, row, sign, slack, multiplier, share}
 use Rattle.model.specs.Bounds.{RowsWithin}
 use Rattle.model.proofs.Rows.{at-tab}
 use Rattle.layout.specs.Transposed.{lane, straight}
 use Rattle.layout.proofs.Places.{straight-first, straight-four}
-use Rattle.sums.specs.Shares.{Shared, InFours}
+use Rattle.sums.specs.Shares.{Copied, Shared, Group, InFours}
 use Rattle.model.proofs.Bounds.{share-small}
 use Rattle.sums.proofs.Sums.{reached}
 
@@ -73,13 +74,13 @@ module _ {A : Type 0} (P : A → Type 0) (d : A) (j : ℕ) where
 
 -- those of the first r positions are stored
 abbrev Stored : List ℤ → ℕ → ℕ → ℕ → List ℤ → Type 0
-Stored s t b r q = (p i : ℕ) → p < 3 → i < 4 * (b + 1) → (p < r) ⊎ (i < 4 * b) → at q (64 * p + i) ≡ share s (t + i) p
+Stored s t b r q = (p i : ℕ) → p < 3 → i < 4 * (b + 1) → (p < r) ⊎ (i < 4 * b) → at q (32 * p + i) ≡ share s (t + i) p
 
-module _ (s : List ℤ) (t b : ℕ) (few : b < 16) (r : ℕ) (one : r < 3) (n : ℕ) (place : n ≡ 64 * r + 4 * b) (f : ℕ → ℤ)
+module _ (s : List ℤ) (t b : ℕ) (few : b < 8) (r : ℕ) (one : r < 3) (n : ℕ) (place : n ≡ 32 * r + 4 * b) (f : ℕ → ℤ)
     (are : (k : ℕ) → k < 4 → f k ≡ share s (t + (4 * b + k)) r) where
-  stored-next : (q : List ℤ) → length q ≡ 192 → Stored s t b r q → Stored s t b (suc r) (sets q n (tab 4 f))
+  stored-next : (q : List ℤ) → length q ≡ 96 → Stored s t b r q → Stored s t b (suc r) (sets q n (tab 4 f))
   stored-next q long g p i hp hi due =
-      sets-at (λ z. z ≡ share s (t + i) p) (pos 0) (64 * p + i) 4 n f q (omega (arith, place, long))
+      sets-at (λ z. z ≡ share s (t + i) p) (pos 0) (32 * p + i) 4 n f q (omega (arith, place, long))
       (λ k m e.
       let x : p ≡ r = omega (arith, place, e) in
       let y : i ≡ 4 * b + k = omega (arith, place, e) in
@@ -95,18 +96,40 @@ module _ (s : List ℤ) (t b : ℕ) (few : b < 16) (r : ℕ) (one : r < 3) (n : 
       still (inr h) old = inr h
 
 -- all three
-pub shared-next : (s : List ℤ) (t b : ℕ) (f : ℕ → ℕ → ℤ) → b < 16 → ((p k : ℕ) → p < 3 → k < 4 → f p k ≡ share s (t + (4 * b + k)) p)
-    → (q x y z : List ℤ) → length q ≡ 192 → Shared s t (4 * b) q
-    → x ≡ sets q (4 * b) (tab 4 (f 0)) → y ≡ sets x (4 * (16 + b)) (tab 4 (f 1)) → z ≡ sets y (4 * (32 + b)) (tab 4 (f 2)) → Shared s t (4 * (b + 1)) z
+pub shared-next : (s : List ℤ) (t b : ℕ) (f : ℕ → ℕ → ℤ) → b < 8 → ((p k : ℕ) → p < 3 → k < 4 → f p k ≡ share s (t + (4 * b + k)) p)
+    → (q x y z : List ℤ) → length q ≡ 96 → Shared s t (4 * b) q
+    → x ≡ sets q (4 * b) (tab 4 (f 0)) → y ≡ sets x (4 * (8 + b)) (tab 4 (f 1)) → z ≡ sets y (4 * (16 + b)) (tab 4 (f 2)) → Shared s t (4 * (b + 1)) z
 shared-next s t b f few are q x y z long g ex ey ez p i hp hi =
     let one = put 0 (omega arith) (4 * b) (omega arith) q x long ex none in
-    let two = put 1 (omega arith) (4 * (16 + b)) (omega arith) x y (one .0) ey (one .1) in
-    put 2 (omega arith) (4 * (32 + b)) (omega arith) y z (two .0) ez (two .1) .1 p i hp hi (inl hp)
+    let two = put 1 (omega arith) (4 * (8 + b)) (omega arith) x y (one .0) ey (one .1) in
+    put 2 (omega arith) (4 * (16 + b)) (omega arith) y z (two .0) ez (two .1) .1 p i hp hi (inl hp)
   where
-    put : (r : ℕ) → r < 3 → (n : ℕ) → n ≡ 64 * r + 4 * b → (k l : List ℤ) → length k ≡ 192 → l ≡ sets k n (tab 4 (f r)) → Stored s t b r k
-        → (length l ≡ 192) × Stored s t b (suc r) l
+    put : (r : ℕ) → r < 3 → (n : ℕ) → n ≡ 32 * r + 4 * b → (k l : List ℤ) → length k ≡ 96 → l ≡ sets k n (tab 4 (f r)) → Stored s t b r k
+        → (length l ≡ 96) × Stored s t b (suc r) l
     put r h n e k l long is old = rw is (length-sets k n (tab 4 (f r)) ∙ long, stored-next s t b few r h n e (f r) (λ i m. are r i h m) k long old)
 
     none : Stored s t b 0 q
     none p i hp hi (inl h) = absurd (omega arith)
     none p i hp hi (inr h) = g p i hp h
+
+-- ---- triple t + i is copied
+pub copied-next : (ts : List ℕ) (t i : ℕ) (us : List ℕ) → 3 * i + 3 ≤ length us → Copied ts t i us → Copied ts t (suc i) (sets us (3 * i) (tab 3 (member ts (t + i))))
+copied-next ts t i us room g j hj p hp =
+    sets-at (λ z. z ≡ member ts (t + j) p) 0 (3 * j + p) 3 (3 * i) (member ts (t + i)) us (omega arith)
+    (λ q m e.
+    let x : j ≡ i = omega arith in
+    let y : p ≡ q = omega arith in
+    rw (x, y))
+    (λ out. g j (below (omega (arith, out p hp))) p hp)
+  where
+    below : j ≢ i → j < i
+    below h = omega (arith, h)
+
+-- fewer of a group
+pub group-fewer : {ts : List ℕ} {s : List ℤ} {t n : ℕ} {us : List ℕ} {q : List ℤ} → Group ts s t n us q → (m : ℕ) → m ≤ n → Group ts s t m us q
+group-fewer g m h = record {
+  few = omega (arith, g .few);
+  room = omega (arith, g .room);
+  copied = λ i k. g .copied i (omega arith);
+  shared = λ p i l k. g .shared p i l (omega arith);
+}

@@ -15,7 +15,7 @@ use Rattle.model.specs.Splitting.{blank, member, Members}
 use Rattle.model.specs.Iteration.{at, share, _when_, sumOf}
 use Rattle.model.specs.Bounds.{RowsWithin}
 use Rattle.model.proofs.Bounds.{row-small, share-small}
-use Rattle.sums.specs.Shares.{Summed, SharedAt}
+use Rattle.sums.specs.Shares.{Summed, Shared}
 
 -- one entry is increased
 pub increased : (n : ℕ) (f : ℕ → ℤ) (v : ℕ) (x : ℤ) → v < n → set (tab n f) v (f v +ℤ x) ≡ tab n (λ u. f u +ℤ (x when eqb v u))
@@ -32,13 +32,13 @@ reached s w i = row-small mostDone s (omega arith) w i
 pub read-share : (s : List ℤ) (t p : ℕ) (x : ℤ) → RowsWithin mostDone s → p < 3 → x ≡ share s t p → toZ w32 (ofZ w32 x) ≡ share s t p
 read-share s t p x w l e = param w32 x (4 * mostRow) tt (rw e (share-small s t p l (λ r. reached s w (4 * t + r)))) .is ∙ e
 
--- the three of triple t + i, read from a list of shares
-pub read-three : (s q : List ℤ) (t i : ℕ) → RowsWithin mostDone s → SharedAt s t i q
-    → toZ w32 (ofZ w32 (at q i)) ∷ toZ w32 (ofZ w32 (at q (64 + i))) ∷ toZ w32 (ofZ w32 (at q (128 + i))) ∷ [] ≡ tab 3 (share s (t + i))
+-- the three of the last triple of a group, read from the list of shares
+pub read-three : (s q : List ℤ) (t i : ℕ) → RowsWithin mostDone s → Shared s t (suc i) q
+    → toZ w32 (ofZ w32 (at q i)) ∷ toZ w32 (ofZ w32 (at q (32 + i))) ∷ toZ w32 (ofZ w32 (at q (64 + i))) ∷ [] ≡ tab 3 (share s (t + i))
 read-three s q t i w g =
-    let one : (p j : ℕ) → p < 3 → j ≡ 64 * p + i → toZ w32 (ofZ w32 (at q j)) ≡ share s (t + i) p
-    = λ p j l e. read-share s (t + i) p (at q j) w l (rw e (g p l)) in
-    rw (one 0 i (omega arith) (omega arith), one 1 (64 + i) (omega arith) (omega arith), one 2 (128 + i) (omega arith) (omega arith))
+    let one : (p j : ℕ) → p < 3 → j ≡ 32 * p + i → toZ w32 (ofZ w32 (at q j)) ≡ share s (t + i) p
+    = λ p j l e. read-share s (t + i) p (at q j) w l (rw e (g p i l (omega arith))) in
+    rw (one 0 i (omega arith) (omega arith), one 1 (32 + i) (omega arith) (omega arith), one 2 (64 + i) (omega arith) (omega arith))
 
 -- ---- the sums of the first t triples, and of triple t at its first p positions
 module _ (ts : List ℕ) (t : ℕ) (s : List ℤ) where

@@ -1,11 +1,11 @@
 -- `sums::give_first` meets its contract: after t triples the sums are those of t triples. Assumes nothing.
-use Rattle.integers.proofs.Prelude.{_≡_, _∙_, _+_, _-_, _*_, _%_, _≤_, arith, add-one, needs, length}
+use Rattle.integers.proofs.Prelude.{_≡_, refl, _∙_, _+_, _-_, _*_, _%_, _≤_, arith, add-one, needs, length}
 use Rattle.lists.specs.Tabulated.{tab}
 use Rattle.model.specs.Limits.{mostDone}
 use Rattle.model.specs.Iteration.{share}
 use Rattle.layout.specs.Transposed.{straight}
 use Rattle.layout.proofs.Places.{straight-within}
-use Rattle.sums.specs.Shares.{Summed}
+use Rattle.sums.specs.Shares.{Summed, Due}
 use Rattle.sums.proofs.Sums.{summed-none, summed-long, summed-also}
 use Rattle.sums.proofs.Groups.{first-formed, four-small}
 use Rattle.sums.proofs.give_first.Statement.{statement}
@@ -45,16 +45,23 @@ formed c =
     let l = c .before .before .before in
     c .shares .ensures ∙ first-formed (start l .args .count) (start l .args .rows .now) (l .loop .t) _ (c .before .before .loop-test .taken) (c .before .load .ensures)
 
+due : (c : tie.After-shares Inv-loop μ-loop) → let l = c .before .before .before in let a = start l .args in
+    Due (a .triples .now) (length (cleared l .clear-i64 .last .0)) (l .loop .t) (straight (a .count) (a .rows .now)) (l .loop .sums) (a .triples .now) (l .loop .t) (c .shares .result)
+due c =
+    let l = c .before .before .before in
+    let s = start l in
+    record { summed = l .loop .inv .1; few = omega (arith, s .pre .0); room = omega (arith, s .pre .0); same = λ p _. refl; shares = formed c }
+
 give-requires : tie.Need-give-requires Inv-loop μ-loop
 give-requires c κs =
     let l = c .before .before .before .before in
     let s = start l in
-    ((omega (arith, s .pre .0), omega (arith, s .pre .0)), (_, _, l .loop .inv .1, formed (c .before)))
+    ((omega (arith, s .pre .0), omega (arith, s .pre .0)), (_, _, _, _, due (c .before)))
 
 loop-again : tie.Need-loop-again Inv-loop μ-loop
 loop-again c =
     let l = c .before .before .before .before .before .before in
-    (omega arith, rw (add-one (l .loop .t)) (c .before .give .ensures _ _ (l .loop .inv .1) (formed (c .before .before .before))))
+    (omega arith, rw (add-one (l .loop .t)) (c .before .give .ensures _ _ _ _ (due (c .before .before .before))))
 
 returns : tie.Need-returns Inv-loop μ-loop
 returns c = let l = c .before in summed-also (l .loop .inv .1) (long l) (omega arith)

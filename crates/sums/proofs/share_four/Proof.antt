@@ -112,8 +112,8 @@ returns c T f g =
     let s = start e in
     shared-next (straight T (rs s)) (s .args .t) (s .args .b) (goal e) (s .pre .1 .0) (λ p k _ h. shared s T f p k h) (s .args .shares .now) _ _ _ (s .pre .1 .1) g
     (x .store .ensures ∙ ap (sets (s .args .shares .now) (4 * s .args .b)) (four-is e 0 (omega arith)))
-    (y .store2 .ensures ∙ ap (sets (x .store .last .0) (4 * (16 + s .args .b))) (four-is e 1 (omega arith)))
-    (z .store3 .ensures ∙ ap (sets (y .store2 .last .0) (4 * (32 + s .args .b))) (four-is e 2 (omega arith)))
+    (y .store2 .ensures ∙ ap (sets (x .store .last .0) (4 * (8 + s .args .b))) (four-is e 1 (omega arith)))
+    (z .store3 .ensures ∙ ap (sets (y .store2 .last .0) (4 * (16 + s .args .b))) (four-is e 2 (omega arith)))
 
 pub share-four-spec : {M : Type 1} → statement M
 share-four-spec =
