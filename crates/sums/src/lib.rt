@@ -160,8 +160,8 @@ fn give_group(members: &[u16], shares: &[i32], n: usize, sums: &mut [i64])
     }
 }
 
-// "S is the sum over its rows of z + p", for every variable. Up to 32 triples are copied and their shares formed before these are given. Read from the lent
-// list, between the stores to S, triples would wait wherever a processor takes S of an auxiliary, by the last bits of its address, for the triples to come.
+// "S is the sum over its rows of z + p", for every variable. Up to 32 triples are copied, and their shares formed, before these are given: a triple that is
+// read from the lent list between stores to S may have to wait for one of them, by where the two lists lie.
 pub fn gather(triples: &[u16], rows: &[i32], count: usize, sums: &mut [i64])
     requires { ⌜ (count ≤ mostTriples) × (3 * count ≡ length (now triples)) × (4 * count ≡ length (now rows)) ⌝ }
     requires { ⌜ (Members (now triples) (length (now sums))) × (RowsWithin mostDone (now rows)) ⌝ }

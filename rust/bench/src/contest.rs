@@ -1,7 +1,8 @@
 //! Rounds in which every decoder takes its turn on the same frames.
 
+use crate::placed::Placed;
 use crate::scenario::Scenario;
-use interface::{DecodeAnswer, Decoder, OwnLists};
+use interface::{DecodeAnswer, Decoder, Lists, OwnLists};
 use reference::iteration::UNIT;
 use rivals::{Plain, Tuned};
 use std::time::Instant;
@@ -36,7 +37,7 @@ impl Entrant {
 
     /// Whether it refuses a scenario's code for a degree.
     fn refuses(&self, scenario: &Scenario) -> bool {
-        let answer = |decoder| decode(decoder, scenario, 0, &mut lists(scenario));
+        let answer = |decoder| decode(decoder, scenario, 0, lists(scenario).lend());
         self.may_refuse && answer(self.decoder.as_ref()).number == 4
     }
 }
@@ -62,14 +63,9 @@ fn lists(scenario: &Scenario) -> OwnLists {
     OwnLists::exact(code.bits, code.variables(), code.triples(), 0)
 }
 
-fn decode(
-    decoder: &dyn Decoder,
-    scenario: &Scenario,
-    frame: usize,
-    lists: &mut OwnLists,
-) -> DecodeAnswer {
+fn decode(decoder: &dyn Decoder, scenario: &Scenario, frame: usize, lists: Lists) -> DecodeAnswer {
     let costs = &scenario.frames[frame];
-    decoder.decode(&scenario.records, scenario.settings, costs, lists.lend())
+    decoder.decode(&scenario.records, scenario.settings, costs, lists)
 }
 
 /// The part of these values that are -U or U.
@@ -106,9 +102,19 @@ impl Contest {
     }
 
     /// Checks that all decoders agree, then measures them in turn.
-    pub fn run(&mut self, scenario: &Scenario, rounds: usize) -> ContestResult {
+    pub fn run(&self, scenario: &Scenario, rounds: usize) -> ContestResult {
         let mut result = self.agreed(scenario);
-        let mut lent = lists(scenario);
+        result.seconds = self.times(scenario, rounds, &mut Placed::anywhere(scenario));
+        result
+    }
+
+    /// What every decoder takes for all frames, on the same lists.
+    pub fn times(
+        &self,
+        scenario: &Scenario,
+        rounds: usize,
+        lists: &mut Placed,
+    ) -> Vec<Option<(f64, f64)>> {
         let count = self.entrants.len();
         let mut times: Vec<Vec<Vec<f64>>> = self
             .entrants
@@ -124,13 +130,12 @@ impl Contest {
                 let decoder = self.entrants[place].decoder.as_ref();
                 for (frame, times) in times[place].iter_mut().enumerate() {
                     let start = Instant::now();
-                    decode(decoder, scenario, frame, &mut lent);
+                    decode(decoder, scenario, frame, lists.lend());
                     times.push(start.elapsed().as_secs_f64());
                 }
             }
         }
-        result.seconds = times.into_iter().map(summed).collect();
-        result
+        times.into_iter().map(summed).collect()
     }
 
     fn agreed(&self, scenario: &Scenario) -> ContestResult {
@@ -143,11 +148,11 @@ impl Contest {
         };
         for frame in 0..scenario.frames.len() {
             let mut first = lists(scenario);
-            let answer = decode(&Plain, scenario, frame, &mut first);
+            let answer = decode(&Plain, scenario, frame, first.lend());
             let taking = |entrant: &&Entrant| !entrant.refuses(scenario);
             for Entrant { name, decoder, .. } in self.entrants.iter().filter(taking) {
                 let mut other = lists(scenario);
-                let found = decode(decoder.as_ref(), scenario, frame, &mut other);
+                let found = decode(decoder.as_ref(), scenario, frame, other.lend());
                 assert!(found == answer && other == first, "{name} differs");
             }
             result.iterations += u64::from(answer.k);

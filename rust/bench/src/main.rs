@@ -7,6 +7,7 @@ mod before;
 mod contest;
 mod conversion;
 mod encoder;
+mod placed;
 mod places;
 mod refused;
 mod report;
@@ -17,12 +18,13 @@ mod words;
 use contest::{Contest, FEW_ROUNDS, ROUNDS};
 use conversion::{Conversions, Task};
 use encoder::Encoders;
+use placed::{Placed, AHEAD, PLACES};
 use std::env;
 use std::process::ExitCode;
 use words::Words;
 
 fn decoders() {
-    let mut contest = Contest::new();
+    let contest = Contest::new();
     report::settings();
     report::heading(contest.names());
     for scenario in scenario::all() {
@@ -42,11 +44,29 @@ fn decoders() {
 }
 
 fn longest() {
-    let mut contest = Contest::new();
+    let contest = Contest::new();
     report::longest_heading(contest.names());
     for scenario in scenario::longest() {
         let result = contest.run(&scenario, FEW_ROUNDS);
         report::longest_line(&scenario, &result);
+    }
+}
+
+fn lists() {
+    let contest = Contest::new();
+    let scenario = scenario::unsettled();
+    report::lists_heading(contest.names());
+    let mut places: Vec<Placed> = (0..PLACES).map(|_| Placed::spare(&scenario)).collect();
+    for ahead in AHEAD {
+        let times = |lists: &mut Placed| {
+            lists.put(ahead);
+            let times = contest.times(&scenario, ROUNDS, lists).into_iter();
+            times
+                .map(|times| times.expect("no degree is refused").0)
+                .collect()
+        };
+        let times: Vec<Vec<f64>> = places.iter_mut().map(times).collect();
+        report::lists_line(&scenario, ahead, &times);
     }
 }
 
@@ -89,17 +109,19 @@ fn main() -> ExitCode {
         None => {
             decoders();
             longest();
+            lists();
             conversions();
             encoders();
             words();
         }
         Some("decoders") => decoders(),
         Some("longest") => longest(),
+        Some("lists") => lists(),
         Some("alist") => conversions(),
         Some("encoder") => encoders(),
         Some("words") => words(),
         Some(_) => {
-            eprintln!("usage: bench [decoders|longest|alist|encoder|words]");
+            eprintln!("usage: bench [decoders|longest|lists|alist|encoder|words]");
             return ExitCode::FAILURE;
         }
     }

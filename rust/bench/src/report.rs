@@ -160,6 +160,44 @@ pub fn longest_line(scenario: &Scenario, result: &ContestResult) {
     );
 }
 
+pub fn lists_heading(names: Vec<&str>) {
+    let ratios = ratio_names(&names);
+    let ratios: Vec<&str> = ratios.iter().map(String::as_str).collect();
+    println!();
+    println!(
+        "Where the lists lie, ns per triple and iteration over all places:\n   n     T bytes ahead | least: {} | most: {} | most: {}",
+        columns(&names, 8),
+        columns(&names, 8),
+        columns(&ratios, RATIO_WIDTH),
+    );
+}
+
+/// The least or the most of each column.
+fn over(rows: &[Vec<f64>], choose: fn(f64, f64) -> f64) -> Vec<f64> {
+    let chosen = |a: Vec<f64>, b: Vec<f64>| a.into_iter().zip(b).map(|(a, b)| choose(a, b));
+    let rows = rows.iter().cloned();
+    rows.reduce(|a, b| chosen(a, b).collect()).expect("a row")
+}
+
+/// Seconds of every decoder, a row for each place.
+pub fn lists_line(scenario: &Scenario, ahead: usize, seconds: &[Vec<f64>]) {
+    let triples = f64::from(scenario.settings.limit) * scenario.code.triples() as f64;
+    let ratios = |place: &Vec<f64>| place[1..].iter().map(|other| place[0] / other).collect();
+    let ratios: Vec<Vec<f64>> = seconds.iter().map(ratios).collect();
+    let per = |seconds: Vec<f64>| numbers(seconds.iter().map(|time| 1e9 * time / triples), 8, 2);
+    println!(
+        "{:>4} {:>5} {ahead:>11} | {:6} {} | {:5} {} | {:5} {}",
+        scenario.code.bits,
+        scenario.code.triples(),
+        "",
+        per(over(seconds, f64::min)),
+        "",
+        per(over(seconds, f64::max)),
+        "",
+        numbers(over(&ratios, f64::max).into_iter(), RATIO_WIDTH, 3),
+    );
+}
+
 /// Milliseconds that a call may take, where there is a bar.
 fn bar(seconds: Option<f64>) -> String {
     seconds.map_or(String::new(), |bar| format!("{:>7.0}", 1e3 * bar))

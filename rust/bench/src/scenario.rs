@@ -176,6 +176,13 @@ pub fn longest() -> Vec<Scenario> {
     ]
 }
 
+/// The first of them, cut after 50 iterations.
+pub fn unsettled() -> Scenario {
+    let mut scenario = longest().swap_remove(0);
+    scenario.settings.limit = 50;
+    scenario
+}
+
 /// The three bits of one check, at this place, never settle, all others do at once: how
 /// long a total takes depends on the place.
 fn unsettled_check(name: &'static str, place: usize) -> Scenario {
