@@ -5,6 +5,7 @@ use crate::scenario::Scenario;
 use interface::{DecodeAnswer, Decoder, Lists, OwnLists};
 use reference::iteration::UNIT;
 use rivals::{Plain, Tuned};
+use std::hint::black_box;
 use std::time::Instant;
 
 /// Rounds, and those of scenarios that take long.
@@ -68,6 +69,19 @@ fn decode(decoder: &dyn Decoder, scenario: &Scenario, frame: usize, lists: Lists
     decoder.decode(&scenario.records, scenario.settings, costs, lists)
 }
 
+/// Calls from so many times some hundred bytes further down the stack: a decoder has lists
+/// there, and where they lie from the lent ones, modulo a page, can cost a small code a
+/// quarter of its time.
+#[inline(never)]
+fn deeper(times: usize, call: &mut dyn FnMut()) {
+    let room = black_box([0u8; 256]);
+    match times {
+        0 => call(),
+        _ => deeper(times - 1, call),
+    }
+    black_box(&room);
+}
+
 /// The part of these values that are -U or U.
 fn at_limit(values: &[i16]) -> f64 {
     let limited = values.iter().filter(|c| i64::from(c.abs()) == UNIT);
@@ -125,13 +139,16 @@ impl Contest {
             })
             .collect();
         for round in 0..rounds {
-            // Another decoder begins in each round.
+            // Another decoder begins in each round, and all go around a page of the stack.
             for place in (0..count).map(|turn| (round + turn) % count) {
                 let decoder = self.entrants[place].decoder.as_ref();
                 for (frame, times) in times[place].iter_mut().enumerate() {
-                    let start = Instant::now();
-                    decode(decoder, scenario, frame, lists.lend());
-                    times.push(start.elapsed().as_secs_f64());
+                    let mut call = || {
+                        let start = Instant::now();
+                        decode(decoder, scenario, frame, lists.lend());
+                        times.push(start.elapsed().as_secs_f64());
+                    };
+                    deeper(round * ROUNDS / rounds, &mut call);
                 }
             }
         }
