@@ -8,9 +8,7 @@ use rivals::{Plain, Tuned};
 use std::hint::black_box;
 use std::time::Instant;
 
-/// Rounds, and those of scenarios that take long.
-pub const ROUNDS: usize = 15;
-pub const FEW_ROUNDS: usize = 5;
+const ROUNDS: usize = 15;
 
 /// A decoder that takes part. An earlier library may refuse a degree that is allowed now.
 struct Entrant {
@@ -116,19 +114,14 @@ impl Contest {
     }
 
     /// Checks that all decoders agree, then measures them in turn.
-    pub fn run(&self, scenario: &Scenario, rounds: usize) -> ContestResult {
+    pub fn run(&self, scenario: &Scenario) -> ContestResult {
         let mut result = self.agreed(scenario);
-        result.seconds = self.times(scenario, rounds, &mut Placed::anywhere(scenario));
+        result.seconds = self.times(scenario, &mut Placed::anywhere(scenario));
         result
     }
 
     /// What every decoder takes for all frames, on the same lists.
-    pub fn times(
-        &self,
-        scenario: &Scenario,
-        rounds: usize,
-        lists: &mut Placed,
-    ) -> Vec<Option<(f64, f64)>> {
+    pub fn times(&self, scenario: &Scenario, lists: &mut Placed) -> Vec<Option<(f64, f64)>> {
         let count = self.entrants.len();
         let mut times: Vec<Vec<Vec<f64>>> = self
             .entrants
@@ -138,7 +131,7 @@ impl Contest {
                 false => vec![Vec::new(); scenario.frames.len()],
             })
             .collect();
-        for round in 0..rounds {
+        for round in 0..ROUNDS {
             // Another decoder begins in each round, and all go around a page of the stack.
             for place in (0..count).map(|turn| (round + turn) % count) {
                 let decoder = self.entrants[place].decoder.as_ref();
@@ -148,7 +141,7 @@ impl Contest {
                         decode(decoder, scenario, frame, lists.lend());
                         times.push(start.elapsed().as_secs_f64());
                     };
-                    deeper(round * ROUNDS / rounds, &mut call);
+                    deeper(round, &mut call);
                 }
             }
         }

@@ -15,7 +15,7 @@ mod scenario;
 mod texts;
 mod words;
 
-use contest::{Contest, FEW_ROUNDS, ROUNDS};
+use contest::Contest;
 use conversion::{Conversions, Task};
 use encoder::Encoders;
 use placed::{Placed, AHEAD, PLACES};
@@ -28,17 +28,17 @@ fn decoders() {
     report::settings();
     report::heading(contest.names());
     for scenario in scenario::all() {
-        let result = contest.run(&scenario, ROUNDS);
+        let result = contest.run(&scenario);
         report::line(&scenario, &result);
     }
     report::two_bits_heading(contest.names());
     for scenario in scenario::two_bits() {
-        let result = contest.run(&scenario, ROUNDS);
+        let result = contest.run(&scenario);
         report::line(&scenario, &result);
     }
     report::growth_heading(contest.names());
     for scenario in scenario::growing() {
-        let result = contest.run(&scenario, ROUNDS);
+        let result = contest.run(&scenario);
         report::growth_line(&scenario, &result);
     }
 }
@@ -47,7 +47,7 @@ fn longest() {
     let contest = Contest::new();
     report::longest_heading(contest.names());
     for scenario in scenario::longest() {
-        let result = contest.run(&scenario, FEW_ROUNDS);
+        let result = contest.run(&scenario);
         report::longest_line(&scenario, &result);
     }
 }
@@ -60,7 +60,7 @@ fn lists() {
     for ahead in AHEAD {
         let times = |lists: &mut Placed| {
             lists.put(ahead);
-            let times = contest.times(&scenario, ROUNDS, lists).into_iter();
+            let times = contest.times(&scenario, lists).into_iter();
             times
                 .map(|times| times.expect("no degree is refused").0)
                 .collect()
