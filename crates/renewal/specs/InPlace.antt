@@ -24,7 +24,7 @@ Sized T ts s = (T ≤ mostTriples) × (3 * T ≡ length ts) × (4 * T ≡ length
 abbrev pub Valued : List ℕ → List ℤ → Type 0
 Valued ts c = Members ts (length c) × ((v : ℕ) → natAbs (at c v) ≤ unit)
 
--- none of the first T triples has the blank
+-- none of the first T triples has the blank, which only a third place may have
 abbrev pub withoutBlank : List ℕ → ℕ → Bool
 withoutBlank ts T = every (λ t. not (eqb (member ts t 2) blank)) (tab T (λ t. t))
 

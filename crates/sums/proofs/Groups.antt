@@ -120,10 +120,7 @@ copied-next ts t i us room g j hj p hp =
     let x : j ≡ i = omega arith in
     let y : p ≡ q = omega arith in
     rw (x, y))
-    (λ out. g j (below (omega (arith, out p hp))) p hp)
-  where
-    below : j ≢ i → j < i
-    below h = omega (arith, h)
+    (λ out. g j (omega (arith, out p hp)) p hp)
 
 -- fewer of a group
 pub group-fewer : {ts : List ℕ} {s : List ℤ} {t n : ℕ} {us : List ℕ} {q : List ℤ} → Group ts s t n us q → (m : ℕ) → m ≤ n → Group ts s t m us q

@@ -36,7 +36,7 @@ Copied ts t n us = (i : ℕ) → i < n → SameTriple ts (t + i) us i
 abbrev pub Shared : List ℤ → ℕ → ℕ → List ℤ → Type 0
 Shared s t n q = (p i : ℕ) → p < 3 → i < n → at q (32 * p + i) ≡ share s (t + i) p
 
--- both
+-- a group: n triples of ts, those from t on, in us, and their shares in q
 pub record Group (ts : List ℕ) (s : List ℤ) (t n : ℕ) (us : List ℕ) (q : List ℤ) : Type 0 where
   pub few : t + n ≤ mostTriples
   pub room : 3 * (t + n) ≤ length ts

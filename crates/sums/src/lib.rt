@@ -57,7 +57,7 @@ fn give_first(triples: &[u16], rows: &[i32], count: usize, sums: &mut [i64])
     }
 }
 
-// Triple t + i, copied behind those before it.
+// Triple t + i is copied behind those from t on.
 fn copy_one(triples: &[u16], t: usize, i: usize, members: &mut [u16])
     requires { ⌜ (i < 32) × (t + i < mostTriples) × (3 * (t + i) + 2 < length (now triples)) × (length (now members) ≡ 96) ⌝ }
     ensures { λ _. ⌜ (Copied (now (triples .entry)) t i (now (members .entry)) → Copied (now (triples .entry)) t (suc i) (now (members .exit))) ⌝ }
@@ -69,7 +69,7 @@ fn copy_one(triples: &[u16], t: usize, i: usize, members: &mut [u16])
     members[to + 2] = triples[from + 2];
 }
 
-// Four b of the triples from t on.
+// Four b of the triples from t on is copied.
 fn copy_four(triples: &[u16], t: usize, b: usize, members: &mut [u16])
     requires { ⌜ (b < 8) × (t + 4 * b + 4 ≤ mostTriples) × (3 * (t + 4 * b + 4) ≤ length (now triples)) × (length (now members) ≡ 96) ⌝ }
     ensures { λ _. ⌜ (Copied (now (triples .entry)) t (4 * b) (now (members .entry)) → Copied (now (triples .entry)) t (4 * (b + 1)) (now (members .exit))) ⌝ }
@@ -97,7 +97,7 @@ fn share_four(rows: &[i32], t: usize, b: usize, shares: &mut [i32])
     layout::store(shares, 16 + b, [e[2], f[2], g[2], h[2]]);
 }
 
-// The 4n triples from t on, with their shares.
+// The 4n triples from t on become a group: they are copied, and their shares are formed.
 fn form_group(
     triples: &[u16],
     rows: &[i32],

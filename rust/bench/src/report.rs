@@ -15,7 +15,7 @@ pub fn settings() {
 
 const RATIO_WIDTH: usize = 14;
 
-/// The columns of each decoder, then the ratios of the first to the others.
+/// A column for each name.
 fn columns(names: &[&str], width: usize) -> String {
     let names = names.iter().map(|name| format!("{name:>width$}"));
     names.collect::<Vec<String>>().join(" ")
@@ -26,6 +26,13 @@ fn ratio_names(names: &[&str]) -> Vec<String> {
     others
         .map(|other| format!("{}/{other}", names[0]))
         .collect()
+}
+
+/// A column for each ratio of the first to another.
+fn ratio_columns(names: &[&str]) -> String {
+    let ratios = ratio_names(names);
+    let ratios: Vec<&str> = ratios.iter().map(String::as_str).collect();
+    columns(&ratios, RATIO_WIDTH)
 }
 
 pub fn heading(names: Vec<&str>) {
@@ -39,14 +46,12 @@ pub fn two_bits_heading(names: Vec<&str>) {
 }
 
 fn decoder_columns(names: Vec<&str>) {
-    let ratios = ratio_names(&names);
-    let ratios: Vec<&str> = ratios.iter().map(String::as_str).collect();
     println!(
         "   n     T level        dB frames  k/frame settled right at limit | ns per triple and iteration: {} | middle: {} | frames/s: {} | {}",
         columns(&names, 8),
         columns(&names, 8),
         columns(&names, 8),
-        columns(&ratios, RATIO_WIDTH),
+        ratio_columns(&names),
     );
 }
 
@@ -136,13 +141,11 @@ pub fn growth_line(scenario: &Scenario, result: &ContestResult) {
 }
 
 pub fn longest_heading(names: Vec<&str>) {
-    let ratios = ratio_names(&names);
-    let ratios: Vec<&str> = ratios.iter().map(String::as_str).collect();
     println!();
     println!(
         "The longest accepted calls:\n   n     T frame                     k | ms a call: {} | {}",
         columns(&names, 8),
-        columns(&ratios, RATIO_WIDTH),
+        ratio_columns(&names),
     );
 }
 
@@ -161,14 +164,12 @@ pub fn longest_line(scenario: &Scenario, result: &ContestResult) {
 }
 
 pub fn lists_heading(names: Vec<&str>) {
-    let ratios = ratio_names(&names);
-    let ratios: Vec<&str> = ratios.iter().map(String::as_str).collect();
     println!();
     println!(
         "Where the lists lie, ns per triple and iteration over all places:\n   n     T bytes ahead | least: {} | most: {} | most: {}",
         columns(&names, 8),
         columns(&names, 8),
-        columns(&ratios, RATIO_WIDTH),
+        ratio_columns(&names),
     );
 }
 
@@ -244,13 +245,11 @@ fn encoder_ratios(seconds: &[f64]) -> String {
 }
 
 pub fn encoder_heading(names: Vec<&str>) {
-    let ratios = ratio_names(&names);
-    let ratios: Vec<&str> = ratios.iter().map(String::as_str).collect();
     println!();
     println!(
         "The encoder, calls for one message; the least time of interleaved rounds:\ncode       bits checks length call          | microseconds a call: {} | {} |  bar ms",
         columns(&names, 9),
-        columns(&ratios, RATIO_WIDTH),
+        ratio_columns(&names),
     );
 }
 
@@ -270,14 +269,12 @@ pub fn encoder_line(task: &encoder::Task, seconds: &[f64]) {
 }
 
 pub fn frames_heading(names: Vec<&str>) {
-    let ratios = ratio_names(&names);
-    let ratios: Vec<&str> = ratios.iter().map(String::as_str).collect();
     println!();
     println!(
         "The encoder, many messages of a code:\ncode       bits length calls         | microseconds a frame: {} | frames/s: {} | {}",
         columns(&names, 9),
         columns(&names, 9),
-        columns(&ratios, RATIO_WIDTH),
+        ratio_columns(&names),
     );
 }
 

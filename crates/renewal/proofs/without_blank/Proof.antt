@@ -1,6 +1,6 @@
 -- `renewal::without_blank` meets its contract: what was tested and what is left to test is the whole. Assumes nothing.
-use Rattle.integers.proofs.Prelude.{_≡_, refl, sym, ap, _∙_, Bool, true, false, not, _&&_, List, ℕ, suc, _-_, _<_, arith, add-one, needs, eqb, length, getD, drop, drop-cons}
-use mathlib.Core.Bool.{and-assoc}
+use Rattle.integers.proofs.Prelude.{_≡_, refl, sym, ap, _∙_, Bool, not, _&&_, List, ℕ, suc, _-_, _<_, arith, add-one, needs, eqb, length, getD, drop, drop-cons}
+use mathlib.Core.Bool.{and-assoc, and-true}
 use Rattle.lists.specs.Tabulated.{tab}
 use Rattle.lists.specs.Entries.{every}
 use Rattle.lists.proofs.Tabulated.{length-tab, getD-tab}
@@ -25,10 +25,6 @@ abbrev μ-loop : tie.MeasureT-loop
 -- the test of triple t, and those after it
 next : (ts : List ℕ) (T t : ℕ) → t < T → every (test ts) (drop t (all T)) ≡ (test ts t && every (test ts) (drop (suc t) (all T)))
 next ts T t h = rw (drop-cons (all T) t 0 (omega (arith, length-tab T (λ t. t))), getD-tab T (λ t. t) t 0 h)
-
-and-true : (b : Bool) → (b && true) ≡ b
-and-true true = refl
-and-true false = refl
 
 loop-again : tie.Need-loop-again Inv-loop μ-loop
 loop-again c =
