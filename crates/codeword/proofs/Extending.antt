@@ -1,6 +1,6 @@
 -- The extension of a word, an auxiliary at a time and a check at a time. Assumes nothing.
 use Rattle.integers.proofs.Prelude.{_≡_, refl, sym, ap, _∙_, List, [], _∷_, _++_, ℕ, zero, suc, _+_, _-_, _*_, _%_, _≤_, _<_, arith, add-one, add-two, decLt}
-use Rattle.integers.proofs.Prelude.{lt-ltb, le-ltb, length, getD, take, drop, set, length-append, take-append-drop, length-take-le, take-all}
+use Rattle.integers.proofs.Prelude.{lt-ltb, length, getD, take, drop, set, length-append, take-append-drop, length-take-le, take-all}
 use Rattle.integers.proofs.Prelude.{take-add, drop-cons}
 use Rattle.lists.specs.Tabulated.{written}
 use Rattle.lists.specs.Entries.{total}

@@ -1,6 +1,6 @@
 -- Codes without checks of two bits give what they gave. Assumes nothing.
-use Rattle.integers.proofs.Prelude.{_≡_, refl, sym, ap, ap₂, subst, _∙_, Bool, List, [], _∷_, _++_, ℕ, zero, suc, _+_, _-_, _*_, _/_, _%_, _≤_, _<_, arith, decLt, lt-ltb, le-ltb}
-use Rattle.integers.proofs.Prelude.{ltb, ℤ, length, getD, drop, length-append, List·getD-append, getD-append-add}
+use Rattle.integers.proofs.Prelude.{_≡_, refl, ap, subst, _∙_, List, [], _∷_, _++_, ℕ, zero, suc, _+_, _-_, _*_, _/_, _%_, _≤_, _<_, arith, decLt, lt-ltb, le-ltb}
+use Rattle.integers.proofs.Prelude.{ℤ, length, getD, drop, length-append, List·getD-append, getD-append-add}
 use Rattle.lists.specs.Entries.{Each, total}
 use Rattle.lists.proofs.Tabulated.{tab-same}
 use Rattle.quotient.specs.Quotient.{quotient}
@@ -8,10 +8,10 @@ use Rattle.model.specs.declared.Settings.{Settings}
 use Rattle.model.specs.Limits.{baseDegree, leastDegree, mostDegree}
 use Rattle.model.specs.Causes.{outside}
 use Rattle.model.specs.Code.{Code, turns, triples, variables}
-use Rattle.model.specs.Records.{bitCount, checkCount, degree, indices, afterCheck, checksIn, codeOf, judge, degreeCausesFrom, checksCausesFrom, recordCausesFrom}
+use Rattle.model.specs.Records.{bitCount, checkCount, degree, afterCheck, checksIn, codeOf, judge, checksCausesFrom, recordCausesFrom}
 use Rattle.model.specs.Sound.{SoundCheck, SoundChecks, Sound}
 use Rattle.model.specs.Splitting.{triplesOf, triplesFrom, System, systemOf, blank, member, Named}
-use Rattle.model.specs.Iteration.{at, valueAt, rowSum, renewed, State, sumsOf, valuesOf, rowsOf, iterate}
+use Rattle.model.specs.Iteration.{at, valueAt, State, sumsOf, valuesOf, rowsOf, iterate}
 use Rattle.model.specs.BaseCodes.{NoPairs, baseTriples, baseSystem, baseRows, baseIterate, AsInBase}
 use Rattle.model.proofs.Accepted.{accepted, length-numbers}
 use Rattle.model.proofs.Queue.{waiting-three}

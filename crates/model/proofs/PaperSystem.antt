@@ -1,6 +1,6 @@
 -- The system, its projection, start and stop are the papers'. Assumes nothing.
 use Rattle.integers.proofs.Prelude.{_≡_, refl, sym, ap, ap₂, subst, _∙_, Bool, true, false, _&&_, List, ℕ, zero, suc, _+_, _*_, _/_, _≤_, _<_, min, arith}
-use Rattle.integers.proofs.Prelude.{decLt, leb-true, le-leb, eq-eqb, ne-eqb, eqb, leb, ℤ, pos, negsuc, natAbs, negℤ, _+ℤ_, _-ℤ_, _*ℤ_, _≤ℤ_, _<ℤ_, length, List·getD-eq-default}
+use Rattle.integers.proofs.Prelude.{decLt, leb-true, le-leb, eq-eqb, ne-eqb, eqb, leb, ℤ, pos, negsuc, natAbs, negℤ, _+ℤ_, _-ℤ_, _*ℤ_, _≤ℤ_, _<ℤ_, List·getD-eq-default}
 use mathlib.Core.Logic.{_↔_, _⊎_, inl, inr}
 use Rattle.integers.specs.Parts.{up, dn}
 use Rattle.integers.specs.Sum.{sumℤ}

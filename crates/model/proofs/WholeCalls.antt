@@ -14,7 +14,7 @@ use Rattle.model.specs.Run.{changes, settledBy, start, after, runFrom, r
 use Rattle.model.specs.Words.{wordOf, firstUndecided, firstOdd, tested, outcome}
 use Rattle.model.specs.Calls.{outOfRange, unequal, forbidden, Lists, HasRoom, Decoded, noRoom, decoderCauseUpTo, decoderUpTo, decodedBy, decoder, reader}
 use Rattle.model.specs.Table.{by-hand}
-use Rattle.model.specs.WholeCalls.{listed, Room, pairs, pairs-by-hand, single, listedSettings, WholeCalls, RunEdges, ChannelEdges}
+use Rattle.model.specs.WholeCalls.{listed, Room, pairs, pairs-by-hand, listedSettings, WholeCalls, RunEdges, ChannelEdges}
 use Rattle.model.specs.Channel.{scaleInRange, floorInRange, inRange}
 use Rattle.model.proofs.Floats.{above-zero, below-zero}
 use Rattle.model.proofs.Causes.{in-range}

@@ -10,7 +10,7 @@ use Rattle.lists.proofs.Entries.{first-before, first-passes, some-at, none-in, 
 use Rattle.model.specs.Causes.{_if_, firstOf}
 use Rattle.model.specs.Code.{Code, turns, tripleCount}
 use Rattle.model.specs.Sound.{SoundChecks, Sound}
-use Rattle.model.specs.Splitting.{blank, triplesOf, triplesFrom, systemOf, member}
+use Rattle.model.specs.Splitting.{triplesOf, triplesFrom, systemOf, member}
 use Rattle.model.specs.Iteration.{at}
 use Rattle.model.specs.Words.{bitAt, bitOf, wordOf, firstUndecided, odd, firstOdd, Outcome, tested, outcome}
 use Rattle.model.specs.Points.{Bits, Codeword, pointOf}

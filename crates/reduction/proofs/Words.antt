@@ -5,8 +5,8 @@ use lib.Seq.{slice, getD-set-same, drop-set-lt}
 use Rattle.lists.proofs.Entries.{total-part}
 use Rattle.model.specs.Causes.{_if_}
 use Rattle.model.specs.Words.{bitAt}
-use Rattle.model.specs.Encoding.{Column, pivot, isOther, others, innerProduct, encodedIn}
-use Rattle.reduction.specs.Table.{row, hasPivot, column, columnsIn}
+use Rattle.model.specs.Encoding.{Column, isOther, others, innerProduct, encodedIn}
+use Rattle.reduction.specs.Table.{row, hasPivot, columnsIn}
 use Rattle.reduction.proofs.Table.{columns-from, length-columns, others-next}
 
 -- the entries from column j on are the word of what is left of the message

@@ -2,7 +2,7 @@
 use Rattle.integers.proofs.Prelude.{_≡_, sym, ap, ap₂, _∙_, Bool, false, _||_, List, ℕ, _+_, _-_, _*_, arith, needs, ltb-false, eqb-true, not-false}
 use Rattle.integers.proofs.Prelude.{eqb, length}
 use Rattle.model.specs.Calls.{outOfRange, unequal, Lists, noRoom, inputCauses}
-use Rattle.model.specs.Causes.{_if_, firstOf, short}
+use Rattle.model.specs.Causes.{firstOf, short}
 use Rattle.model.specs.Records.{codeOf}
 use Rattle.model.specs.Code.{Code, triples}
 use Rattle.model.proofs.Causes.{Clear, clear, unless, or-false}

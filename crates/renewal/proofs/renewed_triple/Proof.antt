@@ -1,5 +1,5 @@
 -- `renewal::renewed_triple` meets its contract. Assumes nothing.
-use Rattle.integers.proofs.Prelude.{_≡_, sym, subst, true, false, T, arith, needs, w32}
+use Rattle.integers.proofs.Prelude.{sym, subst, T, arith, needs, w32}
 use Rattle.integers.proofs.Machine.{read-back}
 use Rattle.model.specs.Splitting.{member}
 use Rattle.model.proofs.Rows.{value-small}

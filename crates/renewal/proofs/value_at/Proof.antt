@@ -1,5 +1,5 @@
 -- `renewal::value_at` meets its contract: a variable's value, or the blank's. Assumes nothing.
-use Rattle.integers.proofs.Prelude.{_≡_, refl, sym, ap, _∙_, Bool, true, false, not, _||_, ℕ, _+_, _*_, _<_, arith, needs, eqb-true, eqb-false, eqb, not-false, not-true, length, w16, w32, toZ, ofZ}
+use Rattle.integers.proofs.Prelude.{_≡_, refl, sym, ap, _∙_, Bool, true, false, not, _||_, ℕ, _<_, arith, needs, eqb-true, eqb-false, eqb, not-false, not-true, length, w16, w32, toZ, ofZ}
 use mathlib.Core.Logic.{_⊎_, inl, inr}
 use Rattle.integers.proofs.Machine.{Worth, fits, stored, param, within-raw}
 use Rattle.quotient.specs.Quotient.{unit}

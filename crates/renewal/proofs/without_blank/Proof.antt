@@ -1,5 +1,5 @@
 -- `renewal::without_blank` meets its contract: what was tested and what is left to test is the whole. Assumes nothing.
-use Rattle.integers.proofs.Prelude.{_≡_, refl, sym, ap, _∙_, Bool, not, _&&_, List, ℕ, suc, _-_, _<_, arith, add-one, needs, eqb, length, getD, drop, drop-cons}
+use Rattle.integers.proofs.Prelude.{_≡_, refl, sym, ap, _∙_, Bool, not, _&&_, List, ℕ, suc, _-_, _<_, arith, add-one, needs, eqb, drop, drop-cons}
 use mathlib.Core.Bool.{and-assoc, and-true}
 use Rattle.lists.specs.Tabulated.{tab}
 use Rattle.lists.specs.Entries.{every}

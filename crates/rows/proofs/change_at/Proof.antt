@@ -1,8 +1,8 @@
 -- `rows::change_at` meets its contract. Assumes nothing.
-use Rattle.integers.proofs.Prelude.{_≡_, ap, ap₂, _∙_, _*_, arith, needs, ℤ, pos, natAbs, _-ℤ_, _*ℤ_, w32}
+use Rattle.integers.proofs.Prelude.{_≡_, ap, _∙_, _*_, arith, needs, ℤ, natAbs, w32}
 use Rattle.integers.proofs.Machine.{param, read-back}
 use Rattle.model.specs.Limits.{mostRow}
-use Rattle.model.specs.Iteration.{at, multiplier}
+use Rattle.model.specs.Iteration.{at}
 use Rattle.rows.proofs.Signs.{raw}
 use Rattle.rows.proofs.change_at.Statement.{statement}
 use Rattle.rows.proofs.change_at.Tie as tie

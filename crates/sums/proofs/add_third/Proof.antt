@@ -1,5 +1,5 @@
 -- `sums::add_third` meets its contract. Assumes nothing.
-use Rattle.integers.proofs.Prelude.{_≡_, sym, ap, _∙_, ℕ, _≤_, _<_, arith, needs, ne-eqb, eqb, ℤ, _+ℤ_, length, w32}
+use Rattle.integers.proofs.Prelude.{sym, ap, _∙_, _≤_, arith, needs, ne-eqb, eqb, ℤ, _+ℤ_, length, w32}
 use lib.IntN.{+ℤ-idr}
 use Rattle.integers.proofs.Machine.{read}
 use Rattle.lists.specs.Tabulated.{tab}

@@ -1,5 +1,5 @@
 -- `sums::copy_four` meets its contract: one triple after the other. Assumes nothing.
-use Rattle.integers.proofs.Prelude.{_≡_, ℕ, suc, _+_, _*_, arith, needs}
+use Rattle.integers.proofs.Prelude.{arith, needs}
 use Rattle.sums.proofs.copy_four.Statement.{statement}
 use Rattle.sums.proofs.copy_four.Tie as tie
 

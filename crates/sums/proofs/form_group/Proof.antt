@@ -1,7 +1,7 @@
 -- `sums::form_group` meets its contract: after b fours 4b triples and their shares are in the lists. Assumes nothing.
 use Rattle.integers.proofs.Prelude.{_≡_, sym, _∙_, ℕ, _-_, _*_, _≤_, arith, length}
 use Rattle.layout.specs.Transposed.{straight}
-use Rattle.sums.specs.Shares.{Copied, Shared, Group, InFours}
+use Rattle.sums.specs.Shares.{Copied, Shared, InFours}
 use Rattle.sums.proofs.form_group.Statement.{statement}
 use Rattle.sums.proofs.form_group.Tie as tie
 

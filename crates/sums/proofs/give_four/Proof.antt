@@ -1,5 +1,5 @@
 -- `sums::give_four` meets its contract: one triple after the other. Assumes nothing.
-use Rattle.integers.proofs.Prelude.{_≡_, refl, List, ℕ, suc, _+_, _*_, _≤_, arith, needs, ℤ}
+use Rattle.integers.proofs.Prelude.{refl, List, ℕ, _+_, _*_, _≤_, arith, needs, ℤ}
 use Rattle.sums.specs.Shares.{Summed, Group}
 use Rattle.sums.proofs.Sums.{summed-also}
 use Rattle.sums.proofs.Groups.{group-fewer}
