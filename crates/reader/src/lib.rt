@@ -2,7 +2,7 @@
 ghost use mathlib.Core.Path.{_≡_};
 ghost use Prim.Native.Nat.{_+_, _-_, _≤_, _<_};
 ghost use Rattle.model.specs.Limits.{mostBits, mostChecks};
-ghost use Rattle.model.specs.Records.{degree, indices, checksIn, covered, judgeCheck, judgeChecks};
+ghost use Rattle.model.specs.Records.{indices, checksIn, covered, judgeCheck, judgeChecks};
 ghost use Rattle.model.specs.Calls.{readingTold};
 ghost use Rattle.model.specs.Told.{readingKind};
 ghost use Rattle.model.specs.Promises.{ReaderCall};

@@ -9,7 +9,7 @@ ghost use lib.ListN.{length};
 ghost use Rattle.lists.specs.Tabulated.{tab};
 ghost use Rattle.model.specs.Limits.{mostTriples, mostDone};
 ghost use Rattle.model.specs.Splitting.{blank, Members};
-ghost use Rattle.model.specs.Iteration.{at, share, _when_, sumOf};
+ghost use Rattle.model.specs.Iteration.{at, _when_, sumOf};
 ghost use Rattle.model.specs.Bounds.{RowsWithin};
 ghost use Rattle.layout.specs.Transposed.{straight};
 ghost use Rattle.sums.specs.Shares.{Summed, Due, Copied, Shared, Group, InFours};
