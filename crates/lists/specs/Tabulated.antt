@@ -20,3 +20,8 @@ module _ {ℓ} {A : Type ℓ} where
   -- part f of a list in which parts of one size stand one behind the other
   abbrev pub part : ℕ → ℕ → List A → List A
   part size f l = take size (drop (f * size) l)
+
+  -- f 0, f 1, .., f (n − 1), one behind the other
+  abbrev pub blocks : ℕ → (ℕ → List A) → List A
+  blocks zero f = []
+  blocks (suc n) f = f zero ++ blocks n (λ k. f (suc k))

@@ -13,6 +13,7 @@ pub mod Points
 pub mod Reflection
 pub mod Channel
 pub mod Calls
+pub mod Group
 pub mod Text
 -- statements about them
 pub mod Sound
@@ -35,6 +36,8 @@ pub mod Order
 pub mod Composition
 pub mod Encoding
 pub mod DecoderClaims
+pub mod GroupClaims
 pub mod Promises
 pub mod AlistPromises
 pub mod EncodingPromises
+pub mod GroupPromises

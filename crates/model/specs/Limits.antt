@@ -41,6 +41,11 @@ mostNumber = 65535
 abbrev pub mostEncodedBits : ℕ
 mostEncodedBits = 256
 
+-- ---- document 02, L7
+-- "up to eight frames of one code"
+abbrev pub mostFrames : ℕ
+mostFrames = 8
+
 -- ---- 'One iteration'
 -- "cost weight W (1 to 65,535), ratio A (0 to 1,023 …)"
 abbrev pub mostWeight : ℕ

@@ -21,9 +21,9 @@ runCauses k c = 16 if ltb (firstUndecided k c) (k .bits) ∷ oddCauses k (wordOf
 
 -- ---- the order of the causes that are judged after all reading
 -- "Then 9, 7, 8, 11, 12, 13, 14, 15, 10, then the run or, in test and extension, 17.", the run with 16 before 17; of document 02, 18 and 19: "Both come in
--- front of the record causes, 18 first", and 20 comes "after 8"
+-- front of the record causes, 18 first", 20 comes "after 8", and 21 "between 11 and 12"
 abbrev pub documentOrder : List ℕ
-documentOrder = 18 ∷ 19 ∷ 9 ∷ 7 ∷ 8 ∷ 20 ∷ 11 ∷ 12 ∷ 13 ∷ 14 ∷ 15 ∷ 10 ∷ 16 ∷ 17 ∷ []
+documentOrder = 18 ∷ 19 ∷ 9 ∷ 7 ∷ 8 ∷ 20 ∷ 11 ∷ 21 ∷ 12 ∷ 13 ∷ 14 ∷ 15 ∷ 10 ∷ 16 ∷ 17 ∷ []
 
 -- the place of x in it
 abbrev pub rank : ℕ → ℕ

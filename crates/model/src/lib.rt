@@ -28,6 +28,8 @@ pub const MOST_NUMBER: usize = 65535;
 
 pub const MOST_ENCODED_BITS: usize = 256;
 
+pub const MOST_FRAMES: usize = 8;
+
 // ---- what is handed over and told
 
 // The settings of a run: cost weight W, ratio A, iterations K and tolerance X of document 01.
@@ -92,4 +94,18 @@ pub struct Written {
 pub struct Length {
     pub number: u32,
     pub length: usize,
+}
+
+// What is told of one frame of a group.
+pub struct FrameAnswer {
+    pub number: u32,
+    pub place: usize,
+    pub k: u32,
+    pub settled: u32,
+}
+
+// A group's answer: its number, and what is told of each frame. Past the group's frames, and of a refused group, all numbers are 0.
+pub struct GroupAnswer {
+    pub number: u32,
+    pub frames: [FrameAnswer; 8],
 }
