@@ -7,7 +7,13 @@
 --
 -- A loop that tests the entries keeps `every f (drop i l) ≡ every f l` (every-next, every-stop, every-end), or, where it goes on after one
 -- that passes, `Found f l found i` (start: refl; found-next, found-end). One that searches keeps `(j : ℕ) → j < i → f j ≡ false` (below-next,
--- first-at, first-none). What a loan of `&s[k..]` or `&mut s[..n]` is: `Parts`.
+-- first-at, first-none). What a loan of `&s[k..]` or `&mut s[..n]` is: `Parts`, and there too, of a list in which parts of one size stand one behind the
+-- other:
+--
+--   `written (blocks f new) old`, from the front, part f a turn    next-block (start: refl), the loan by part-back
+--   `written (blocks n new) old`, a part anywhere, new changing    replaced-blocks
+--   a list that is known by its parts                              replaced-here, replaced-other, replaced-behind; at the end written-blocks
+--   reading it again                                               part-written, behind-written; parts that are not yet written: later-part
 pub mod Tabulated
 pub mod Entries
 pub mod Parts
