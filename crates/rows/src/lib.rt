@@ -145,12 +145,20 @@ fn side_change(a: i32, b: i32, side: i32) -> i32
     if side < 0 { change - (b - a) } else { change }
 }
 
-// Its square, of row r.
+// Its square.
+pub fn change(a: i32, b: i32, side: i32) -> u64
+    requires { ⌜ (natAbs side ≡ 1) × (natAbs a ≤ mostRow) × (natAbs b ≤ mostRow) ⌝ }
+    ensures { λ n. ⌜ (n ≡ changeOf side a b) × (n ≤ mostRow * mostRow) ⌝ }
+{
+    square(side_change(a, b, side))
+}
+
+// Of row r.
 fn change_at(old: [i32; 4], new: [i32; 4], r: usize, side: i32) -> u64
     requires { ⌜ (r < 4) × (natAbs side ≡ 1) × (natAbs (at old r) ≤ mostRow) × (natAbs (at new r) ≤ mostRow) ⌝ }
     ensures { λ n. ⌜ n ≡ changeOf side (at old r) (at new r) ⌝ }
 {
-    square(side_change(old[r], new[r], side))
+    change(old[r], new[r], side)
 }
 
 fn added(a: u64, b: u64, c: u64, d: u64) -> u64

@@ -44,3 +44,11 @@ pub fn clear_i64(l: &mut [i64])
         l[i] = 0i64;
     }
 }
+
+pub fn clear_u64(l: &mut [u64])
+    ensures { λ _. ⌜ now (l .exit) ≡ tab (length (now (l .entry))) (λ _. 0) ⌝ }
+{
+    for i in 0..l.len() {
+        l[i] = 0u64;
+    }
+}

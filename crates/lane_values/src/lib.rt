@@ -1,0 +1,255 @@
+// c of all variables (document 01, 'One iteration') in all lanes of a group. Variables in 2 to 8 triples are divided by 32-bit factors; the others as in a single
+// run, one lane after the other.
+ghost use mathlib.Core.Path.{_≡_};
+ghost use Prim.Native.Nat.{ℕ, _+_, _-_, _*_, _^_, _≤_, _<_};
+ghost use lib.IntN.{ℤ, pos, negℤ, natAbs, _+ℤ_, _*ℤ_};
+ghost use lib.ListN.{length, getD};
+ghost use lib.Signed.{_≤ℤ_};
+ghost use Rattle.quotient.specs.Quotient.{unit, quotient};
+ghost use Rattle.quotient.specs.Prepared.{Narrowed};
+ghost use Rattle.model.specs.Limits.{mostRatio, mostChecks};
+ghost use Rattle.model.specs.Iteration.{at, divisor};
+ghost use Rattle.values.specs.Divisors.{Tables};
+ghost use Rattle.lanes.specs.Lanes.{Fits, SumsKept, mostNarrow};
+ghost use Rattle.lane_values.specs.Valued.{NarrowTables, Counted, WeighedWithin, LaneValued};
+use lanes::Plan;
+
+// Up to so many triples a sum and its divisor are narrow.
+const MOST_NARROW: usize = 8;
+
+// The divisors of 2 to 8 triples, made ready.
+pub fn prepare(ratio: u32, limits: &mut [i32], inverses: &mut [u32], raises: &mut [u64])
+    requires { ⌜ (ratio ≤ mostRatio) × (length (now limits) ≡ 9) × (length (now inverses) ≡ 9) × (length (now raises) ≡ 9) ⌝ }
+    ensures { λ _. ⌜ NarrowTables ratio (now (limits .exit)) (now (inverses .exit)) (now (raises .exit)) ⌝ }
+{
+    for count in 2..9 {
+        let narrow = quotient::prepare_narrow((1024 * count) as i64 - (ratio as i64));
+        let limit = narrow.limit;
+        limits[count] = limit;
+        let inverse = narrow.inverse;
+        inverses[count] = inverse;
+        let raise = narrow.raise;
+        raises[count] = raise;
+    }
+}
+
+// The entries from..to of all lanes, counted from where each part begins: c of bits in equally many triples, 2 to 8. What comes next is cleared.
+fn write_narrow(
+    work: &mut [i32],
+    weighed: usize,
+    sums: usize,
+    values: usize,
+    next: usize,
+    from: usize,
+    to: usize,
+    limit: i32,
+    inverse: u32,
+    raise: u64,
+) {
+    for i in from..to {
+        let s = work[sums + i];
+        let w = work[weighed + i];
+        work[values + i] = quotient::divide_narrow(s, w, limit, inverse, raise);
+        work[next + i] = 0;
+    }
+}
+
+// The same of auxiliaries, which have no cost.
+fn write_auxiliaries(
+    work: &mut [i32],
+    sums: usize,
+    values: usize,
+    next: usize,
+    from: usize,
+    to: usize,
+    limit: i32,
+    inverse: u32,
+    raise: u64,
+) {
+    for i in from..to {
+        let s = work[sums + i];
+        work[values + i] = quotient::divide_narrow(s, 0, limit, inverse, raise);
+        work[next + i] = 0;
+    }
+}
+
+// "256 × S + W × L", of the two parts of S.
+fn weighed_whole(low: i32, high: i32, weighed: i32) -> i64 {
+    256 * ((low as i64) + 16384 * (high as i64)) + (weighed as i64)
+}
+
+// A value, raised by U.
+fn raised(c: i16) -> i32 {
+    (c as i32) + 16384
+}
+
+// The same of bits in any number of triples, whose sums have two parts: the high ones stand `apart` behind the low ones.
+fn write_wide(
+    work: &mut [i32],
+    weighed: usize,
+    sums: usize,
+    values: usize,
+    next: usize,
+    apart: usize,
+    from: usize,
+    to: usize,
+    count: usize,
+    ratio: u32,
+    limits: &[i64],
+    inverses: &[i64],
+) {
+    for i in from..to {
+        let x = weighed_whole(work[sums + i], work[sums + apart + i], work[weighed + i]);
+        work[values + i] = raised(values::divide(x, count, ratio, limits, inverses));
+        work[next + i] = 0;
+        work[next + apart + i] = 0;
+    }
+}
+
+// Where the variables from v on, before `end`, that are in as many triples as v end.
+fn same_until(counts: &[u16], v: usize, end: usize) -> usize
+    requires { ⌜ (v < end) × (end ≤ length (now counts)) ⌝ }
+    ensures { λ e. ⌜ (v < e) × (e ≤ end) × ((u : ℕ) → v ≤ u → u < e → getD (now (counts .entry)) u 0 ≡ getD (now (counts .entry)) v 0) ⌝ }
+{
+    let mut u = v + 1;
+    while u < end {
+        if counts[u] != counts[v] {
+            return u;
+        }
+        u += 1;
+    }
+    end
+}
+
+// The variables from v to `end`, which are bits and in equally many triples.
+fn write_bits(
+    counts: &[u16],
+    ratio: u32,
+    narrow_limits: &[i32],
+    narrow_inverses: &[u32],
+    raises: &[u64],
+    limits: &[i64],
+    inverses: &[i64],
+    p: Plan,
+    i: usize,
+    v: usize,
+    end: usize,
+    work: &mut [i32],
+) {
+    let count = slices::index(counts[v]);
+    let weighed = lanes::weighed_at(p);
+    let sums = lanes::sums_at(p, i);
+    let values = lanes::values_at(p);
+    let next = lanes::sums_at(p, 1 - i);
+    let from = p.lanes * v;
+    let to = p.lanes * end;
+    if (1 < count) & (count <= MOST_NARROW) {
+        write_narrow(
+            work,
+            weighed,
+            sums,
+            values,
+            next,
+            from,
+            to,
+            narrow_limits[count],
+            narrow_inverses[count],
+            raises[count],
+        );
+    } else {
+        write_wide(
+            work,
+            weighed,
+            sums,
+            values,
+            next,
+            p.lanes * p.variables,
+            from,
+            to,
+            count,
+            ratio,
+            limits,
+            inverses,
+        );
+    }
+}
+
+// All bits, those in equally many triples that follow one another together.
+fn write_all_bits(
+    counts: &[u16],
+    ratio: u32,
+    narrow_limits: &[i32],
+    narrow_inverses: &[u32],
+    raises: &[u64],
+    limits: &[i64],
+    inverses: &[i64],
+    p: Plan,
+    i: usize,
+    work: &mut [i32],
+) {
+    let mut v = 0;
+    while v < p.bits {
+        let end = same_until(counts, v, p.bits);
+        write_bits(
+            counts,
+            ratio,
+            narrow_limits,
+            narrow_inverses,
+            raises,
+            limits,
+            inverses,
+            p,
+            i,
+            v,
+            end,
+            work,
+        );
+        v = end;
+    }
+}
+
+// "First every c is renewed": from list i of the sums, in all lanes; the other list is cleared. The bits, then the auxiliaries, which are in two triples.
+pub fn write_values(
+    counts: &[u16],
+    ratio: u32,
+    narrow_limits: &[i32],
+    narrow_inverses: &[u32],
+    raises: &[u64],
+    limits: &[i64],
+    inverses: &[i64],
+    p: Plan,
+    i: usize,
+    work: &mut [i32],
+)
+    requires { ⌜ Fits p (now work) × (i ≤ 1) × (ratio ≤ mostRatio) × Counted p (now counts) ⌝ }
+    requires { ⌜ (length (now narrow_limits) ≡ 9) × (length (now narrow_inverses) ≡ 9) × (length (now raises) ≡ 9) ⌝ }
+    requires { ⌜ NarrowTables ratio (now narrow_limits) (now narrow_inverses) (now raises) × Tables ratio (now limits) (now inverses) ⌝ }
+    requires { ⌜ ((l : ℕ) → l < p .lanes
+        → SumsKept p (now counts) 0 (now work) l × SumsKept p (now counts) 1 (now work) l × WeighedWithin p (now work) l) ⌝ }
+    ensures { λ _. ⌜ Fits p (now (work .exit)) ⌝ }
+    ensures { λ _. ⌜ ((l : ℕ) → l < p .lanes → LaneValued p (now (counts .entry)) ratio i (now (work .entry)) (now (work .exit)) l) ⌝ }
+{
+    write_all_bits(
+        counts,
+        ratio,
+        narrow_limits,
+        narrow_inverses,
+        raises,
+        limits,
+        inverses,
+        p,
+        i,
+        work,
+    );
+    write_auxiliaries(
+        work,
+        lanes::sums_at(p, i),
+        lanes::values_at(p),
+        lanes::sums_at(p, 1 - i),
+        p.lanes * p.bits,
+        p.lanes * p.variables,
+        narrow_limits[2],
+        narrow_inverses[2],
+        raises[2],
+    );
+}
