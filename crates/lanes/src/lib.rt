@@ -36,9 +36,10 @@ pub fn weighed_at(p: Plan) -> usize
     sums_at(p, 2)
 }
 
+// How many entries all lanes have.
 pub fn size(p: Plan) -> usize
     requires { ⌜ (p .lanes ≤ 8) × (p .triples ≤ mostTriples) × (p .variables ≤ mostVariables) × (p .bits ≤ p .variables) ⌝ }
     ensures { λ n. ⌜ n ≡ p .lanes * laneSize p ⌝ }
 {
-    weighed_at(p) + p.lanes * p.bits
+    p.lanes * (4 * p.triples + 3 * p.variables + 3 * p.bits)
 }

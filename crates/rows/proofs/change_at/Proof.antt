@@ -1,6 +1,6 @@
 -- `rows::change_at` meets its contract. Assumes nothing.
-use Rattle.integers.proofs.Prelude.{_≡_, ap, _∙_, _*_, arith, needs, ℤ, natAbs, w32}
-use Rattle.integers.proofs.Machine.{param, read-back}
+use Rattle.integers.proofs.Prelude.{_≡_, _∙_, arith, needs, w32}
+use Rattle.integers.proofs.Machine.{param}
 use Rattle.model.specs.Limits.{mostRow}
 use Rattle.model.specs.Iteration.{at}
 use Rattle.rows.proofs.Signs.{raw}
@@ -19,13 +19,9 @@ module _ (s : tie.Start) where
   new = param w32 (at (s .args .t2) (s .args .r)) mostRow tt (s .pre .3) .is
 
 returns : tie.Need-returns
-returns c =
-    let s = c .before .before .before .before in
-    let k = c .before .side-change in
-    let e = read-back w32 (k .ok) (rw (side s, new s, old s) at (k .ensures .0)) in
-    c .square .ensures ∙ ap (λ (z : ℤ). natAbs z * natAbs z) e
+returns c = let s = c .before .before .before in rw (side s, old s, new s) at (c .change .ensures .0)
 
 pub change-at-spec : {M : Type 1} → statement M
 change-at-spec =
     tie.close (tie.spec (λ c. search needs) (λ c. search needs) (λ c. search needs) (λ c. search needs)
-    (λ c κs. let s = c .before .before in rw (side s, old s, new s) (s .pre .1, s .pre .2, s .pre .3)) (λ c κs. search needs) returns)
+    (λ c κs. let s = c .before .before in rw (side s, old s, new s) (s .pre .1, s .pre .2, s .pre .3)) returns)
