@@ -36,9 +36,9 @@ frameLists k l f = record {
 abbrev pub lanes : ℕ → ℕ
 lanes F = cond (leb F 4) 4 8
 
--- its entries: for each such frame four for a triple, three for a variable and two for a bit
+-- its entries: for each such frame four for a triple, three for a variable and three for a bit
 abbrev pub workSize : Code → ℕ → ℕ
-workSize k F = lanes F * (4 * triples k + 3 * variables k + 2 * k .bits)
+workSize k F = lanes F * (4 * triples k + 3 * variables k + 3 * k .bits)
 
 -- lists with room for F frames of a code
 pub record HasGroupRoom (k : Code) (F : ℕ) (l : Lists) (lent : List ℤ) : Type 0 where
