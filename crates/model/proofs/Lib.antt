@@ -36,6 +36,7 @@ pub mod DecoderCalls
 pub mod Courses
 pub mod BoundedCalls
 pub mod ReflectedCalls
+pub mod Groups
 pub mod GroupSteps
 pub mod Reduction
 pub mod Encoding

@@ -51,7 +51,15 @@ pub record GroupIsSingles (b : List ℕ) (o : Settings) (F : ℕ) (costs : List 
   pub rows-behind : drop (F * (4 * triples (codeOf b))) (g .lists .rows) ≡ drop (F * (4 * triples (codeOf b))) (l .rows)
   pub word-behind : drop (F * codeOf b .bits) (g .lists .word) ≡ drop (F * codeOf b .bits) (l .word)
 
--- ---- a refused group
+-- ---- which groups are accepted
+-- the room is that of F frames, and no cost is asked for
+pub record GroupFits (b : List ℕ) (o : Settings) (F : ℕ) (costs : List ℤ) (l : Lists) (work : List ℤ) : Type 0 where
+  pub code : judge b ≡ 0
+  pub settings : InRange o
+  pub frames : (1 ≤ F) × (F ≤ mostFrames)
+  pub lengths : length costs ≡ F * codeOf b .bits
+  pub room : HasGroupRoom (codeOf b) F l work
+
 pub record GroupRefuses (b : List ℕ) (o : Settings) (F : ℕ) (costs : List ℤ) (l : Lists) (work : List ℤ) : Type 0 where
   -- "Refused: 21 where the given number of frames is 0 or above 8, between 11 and 12"
   pub settings : judge b ≡ 0 → outOfRange o ≡ true → group b o F costs l work .number ≡ 11
@@ -61,9 +69,8 @@ pub record GroupRefuses (b : List ℕ) (o : Settings) (F : ℕ) (costs : List �
   -- "10 included, also where a cost is false"
   pub room : judge b ≡ 0 → outOfRange o ≡ false → outside 1 mostFrames F ≡ false → unequal costs (F * codeOf b .bits) ≡ false
       → noGroupRoom (codeOf b) F l work ≡ true → group b o F costs l work .number ≡ 10
-  -- nothing else refuses a group: the room is that of F frames, and a false cost is not asked for
-  pub exactly : (group b o F costs l work .number ≡ 0)
-      ↔ ((judge b ≡ 0) × InRange o × ((1 ≤ F) × (F ≤ mostFrames)) × (length costs ≡ F * codeOf b .bits) × HasGroupRoom (codeOf b) F l work)
+  -- nothing else refuses a group
+  pub exactly : (group b o F costs l work .number ≡ 0) ↔ GroupFits b o F costs l work
   -- "Each new number … is returned alone and leaves all lists as they were."
   pub kept : (c : ℕ) → group b o F costs l work .number ≡ suc c
       → group b o F costs l work ≡ record { number = suc c; answers = replicate mostFrames (alone 0); lists = l }
