@@ -81,7 +81,7 @@ module _ (b : List ℕ) (o : Settings) (F : ℕ) (costs : List ℤ) (l : Lists) 
         ),
   )
 
-  number-is : group b o F costs l work .number ≡ groupCause b o F costs l work
+  pub number-is : group b o F costs l work .number ≡ groupCause b o F costs l work
   unfolding group groupDecoded
   number-is = by (groupCause b o F costs l work)
     where
@@ -164,7 +164,7 @@ module _ (b : List ℕ) (o : Settings) (F : ℕ) (costs : List ℤ) (l : Lists) 
   abbrev room : HasGroupRoom K F l work
   room = fits .room
 
-  own-long : (f : ℕ) → f < F → length (own f) ≡ K .bits
+  pub own-long : (f : ℕ) → f < F → length (own f) ≡ K .bits
   own-long f m = length-part (K .bits) f costs (omega (arith, part-end (K .bits) F f m, fits .lengths))
 
   lent : (f : ℕ) → f < F → FrameLong K (frameLists K l f)

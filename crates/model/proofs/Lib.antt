@@ -47,3 +47,4 @@ pub mod AlistCauses
 pub mod AlistText
 pub mod AlistPromises
 pub mod EncodingPromises
+pub mod GroupPromises
