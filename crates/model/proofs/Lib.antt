@@ -48,3 +48,4 @@ pub mod AlistText
 pub mod AlistPromises
 pub mod EncodingPromises
 pub mod GroupPromises
+pub mod WholeGroups

@@ -41,3 +41,4 @@ pub mod Promises
 pub mod AlistPromises
 pub mod EncodingPromises
 pub mod GroupPromises
+pub mod WholeGroups
