@@ -5,15 +5,15 @@ use Rattle.lists.specs.Entries.{some}
 use Rattle.lists.proofs.Parts.{length-blocks, part-blocks}
 use Rattle.model.specs.declared.Settings.{Settings}
 use Rattle.model.specs.Limits.{mostFrames}
-use Rattle.model.specs.Causes.{_if_, outside}
+use Rattle.model.specs.Causes.{outside}
 use Rattle.model.specs.Code.{Code}
 use Rattle.model.specs.Records.{codeOf}
+use Rattle.model.specs.Splitting.{systemOf}
 use Rattle.model.specs.Points.{Codeword}
 use Rattle.model.specs.Reflection.{reflect}
-use Rattle.model.specs.Calls.{outOfRange, unequal, forbidden, Lists, Decoded, decoderCause, decoder}
+use Rattle.model.specs.Calls.{outOfRange, unequal, forbidden, Lists, decoderCause, decoder}
 use Rattle.model.specs.Order.{oneToNine}
 use Rattle.model.specs.DecoderClaims.{Small, ReflectedCalls}
-use Rattle.model.specs.Promises.{DecoderCall}
 use Rattle.model.specs.Group.{frameLists, HasGroupRoom, noGroupRoom, groupCauses, groupCause, Grouped, group, frameIn}
 use Rattle.model.specs.GroupPromises.{FrameCall, GroupCall}
 use Rattle.model.proofs.Causes.{unless}
@@ -21,24 +21,25 @@ use Rattle.model.proofs.Order.{listed, whole, follow, after-records}
 use Rattle.model.proofs.Composition.{length-reflect}
 use Rattle.model.proofs.ComposedCalls.{reflect-allowed}
 use Rattle.model.proofs.Promises.{decoder-call}
+use Rattle.model.proofs.GroupSteps.{steps-are-runs}
 use Rattle.model.proofs.Groups.{number-is, passes, group-kept, group-refuses, own-long, frame-room, frame-cause, group-is-singles}
 
 module _ (b : List ℕ) (o : Settings) (F : ℕ) (costs : List ℤ) (l : Lists) (work : List ℤ) where
   abbrev k : Code
   k = codeOf b
 
-  -- frame f's costs, and what is asked of them
+  -- the costs of frame f; those without a false one are 16-bit numbers that have a negative
   abbrev own : ℕ → List ℤ
   own f = part (k .bits) f costs
 
-  abbrev Sixteen : Type 0
-  Sixteen = (f : ℕ) → f < F → some forbidden (own f) ≡ false → Small (own f)
+  abbrev AllSmall : Type 0
+  AllSmall = (f : ℕ) → f < F → some forbidden (own f) ≡ false → Small (own f)
 
   accepted : (g : Grouped) → g ≡ group b o F costs l work → g .number ≡ 0 → groupCause b o F costs l work ≡ 0
   accepted g meets h = sym (number-is b o F costs l work) ∙ ap (λ (x : Grouped). x .number) (sym meets) ∙ h
 
   -- ---- a frame of an accepted group
-  module _ (h : groupCause b o F costs l work ≡ 0) (small : Sixteen) (f : ℕ) (m : f < F) where
+  module _ (h : groupCause b o F costs l work ≡ 0) (small : AllSmall) (f : ℕ) (m : f < F) where
     ran-small : decoderCause b o (own f) (frameLists k l f) ≡ 0 → Small (own f)
     ran-small z = small f m (unless 12 (some forbidden (own f)) (sym (frame-cause b o F costs l work h f m) ∙ z))
 
@@ -53,7 +54,7 @@ module _ (b : List ℕ) (o : Settings) (F : ℕ) (costs : List ℤ) (l : Lists) 
           whole = singles .whole f m;
         }
 
-    -- and a frame of a second one, with the costs that w reflects
+    -- and frame e of a second one, with the costs that w reflects
     frame-reflected : some forbidden (own f) ≡ false → (w : List ℕ) → Codeword k w
         → (E : ℕ) (others : List ℤ) (lists : Lists) (lent : List ℤ) → groupCause b o E others lists lent ≡ 0
         → (e : ℕ) → e < E → part (k .bits) e others ≡ reflect w (own f)
@@ -91,7 +92,7 @@ module _ (b : List ℕ) (o : Settings) (F : ℕ) (costs : List ℤ) (l : Lists) 
         })
 
   -- ---- the call
-  pub group-call : (g : Grouped) (workAfter : List ℤ) → (groupCause b o F costs l work ≡ 0 → Sixteen) → g ≡ group b o F costs l work
+  pub group-call : (g : Grouped) (workAfter : List ℤ) → (groupCause b o F costs l work ≡ 0 → AllSmall) → g ≡ group b o F costs l work
       → length workAfter ≡ length work → ((c : ℕ) → g .number ≡ suc c → workAfter ≡ work) → GroupCall b o F costs l work g workAfter
   unfolding groupCause turned
   group-call g workAfter small meets long kept =
@@ -104,11 +105,12 @@ module _ (b : List ℕ) (o : Settings) (F : ℕ) (costs : List ℤ) (l : Lists) 
         order = after-records (10 ∷ 11 ∷ 12 ∷ 21 ∷ []) b (groupCauses k o F costs l work) _ (listed T causes refl)
             (ap (λ (x : Grouped). x .number) meets ∙ number-is b o F costs l work);
         follows = follow (whole b ++ causes) refl;
-        refuses = group-refuses b o F costs l work;
+        refuses = rw meets (group-refuses b o F costs l work);
         refused = λ c h. (meets ∙ group-kept b o F costs l work c (ap (λ (x : Grouped). x .number) (sym meets) ∙ h), kept c h);
         work-length = long;
         singles = λ h. rw meets (group-is-singles b o F costs l work (took h));
         single-calls = λ h f m. rw meets (frame-call (took h) (small (took h)) f m);
+        steps = λ f. steps-are-runs (systemOf k) o (own f);
         reflected = λ h E others lists lent second again z f e m n none w c is.
             let cause : groupCause b o E others lists lent ≡ 0
             = sym (number-is b o E others lists lent) ∙ ap (λ (x : Grouped). x .number) (sym again) ∙ z in

@@ -1,9 +1,9 @@
 -- Document 02, L7: which groups are accepted, and that each frame is a call of the decoder by itself. Assumes nothing.
-use Rattle.integers.proofs.Prelude.{_≡_, refl, sym, ap, ap₂, subst, _∙_, Bool, true, false, not, cond, _||_, List, [], _∷_, ℕ, zero, suc, _*_, _≤_, _<_, arith}
-use Rattle.integers.proofs.Prelude.{decLt, ltb-false, lt-ltb, le-ltb, eqb-true, eq-eqb, not-false, eqb, ltb, ℤ, length, getD, drop, List·getD-eq-default}
+use Rattle.integers.proofs.Prelude.{_≡_, refl, sym, ap, subst, _∙_, Bool, true, false, cond, List, [], _∷_, ℕ, zero, suc, _*_, _≤_, _<_, arith}
+use Rattle.integers.proofs.Prelude.{decLt, ltb-false, lt-ltb, le-ltb, eqb-true, eq-eqb, not-false, ltb, ℤ, length, getD, List·getD-eq-default}
 use mathlib.Core.Logic.{_↔_}
 use lib.ListN.{replicate}
-use Rattle.lists.specs.Tabulated.{tab, written, part, blocks}
+use Rattle.lists.specs.Tabulated.{tab, written, part}
 use Rattle.lists.specs.Entries.{some}
 use Rattle.lists.proofs.Tabulated.{length-tab, getD-tab, length-written}
 use Rattle.lists.proofs.Parts.{length-part, part-end, part-written, behind-written}
@@ -13,13 +13,13 @@ use Rattle.model.specs.Limits.{mostFrames}
 use Rattle.model.specs.Causes.{_if_, firstOf, outside, accepted}
 use Rattle.model.specs.Code.{Code, triples, variables}
 use Rattle.model.specs.Records.{codeOf, judge}
-use Rattle.model.specs.Splitting.{System, systemOf}
-use Rattle.model.specs.Run.{Ended, run}
+use Rattle.model.specs.Splitting.{systemOf}
+use Rattle.model.specs.Run.{run}
 use Rattle.model.specs.Words.{wordOf, outcome}
-use Rattle.model.specs.Calls.{InRange, outOfRange, unequal, forbidden, Lists, Answer, Decoded, noRoom, decodedBy, decoderCauseUpTo, decoderUpTo, decoderCause, decoder}
+use Rattle.model.specs.Calls.{outOfRange, unequal, forbidden, Lists, Answer, Decoded, noRoom, decodedBy, decoderCauseUpTo, decoderUpTo, decoderCause, decoder}
 use Rattle.model.specs.Group.{frameLists, workSize, HasGroupRoom, noGroupRoom, groupCauses, groupCause, alone, frameDecoded, frameOf, Grouped, groupDecoded, group, frameIn}
 use Rattle.model.specs.GroupClaims.{FrameIs, GroupIsSingles, GroupFits, GroupRefuses}
-use Rattle.model.proofs.Causes.{Clear, clear, unless, or-false, within, inside, in-range}
+use Rattle.model.proofs.Causes.{clear, unless, or-false, within, inside, in-range}
 use Rattle.model.proofs.WordClaims.{outcome-claims}
 use Rattle.model.proofs.Courses.{last-long}
 
@@ -53,6 +53,47 @@ has-room k F l work = (
         le-ltb (length work) (workSize k F) (r .work),
       ),
 )
+
+-- ---- one frame: its lists are as long as they were
+record FrameLong (k : Code) (l : Lists) : Type 0 where
+  sums : length (l .sums) ≡ variables k
+  values : length (l .values) ≡ variables k
+  rows : length (l .rows) ≡ 4 * triples k
+  word : length (l .word) ≡ k .bits
+
+fills : {A : Type 0} (n : ℕ) (new old : List A) → length new ≡ n → length old ≡ n → length (written new old) ≡ n
+fills n new old e f = length-written new old (omega arith) ∙ f
+
+ran-long : (k : Code) (o : Settings) (costs : List ℤ) (l : Lists) → FrameLong k l → FrameLong k (decodedBy k (run quotient (systemOf k) o costs) l .lists)
+unfolding decodedBy systemOf
+ran-long k o costs l s =
+    let long = last-long (systemOf k) o costs in
+    let e = run quotient (systemOf k) o costs .last in
+    record {
+      sums = fills (variables k) (e .sums) (l .sums) (long .sums) (s .sums);
+      values = fills (variables k) (e .values) (l .values) (long .values) (s .values);
+      rows = fills (4 * triples k) (e .rows) (l .rows) (long .rows) (s .rows);
+      word = by (outcome k (e .values) .number) (e .values);
+    }
+  where
+    by : (c : ℕ) (z : List ℤ) → length (accepted c (written (wordOf k z) (l .word)) (l .word)) ≡ k .bits
+    by zero z = fills (k .bits) (wordOf k z) (l .word) (outcome-claims k z .word .long) (s .word)
+    by (suc c) z = s .word
+
+frame-long : (k : Code) (o : Settings) (costs : List ℤ) (l : Lists) → FrameLong k l → FrameLong k (frameDecoded k o costs l .lists)
+unfolding frameDecoded
+frame-long k o costs l s = by (some forbidden costs)
+  where
+    by : (t : Bool) → FrameLong k (cond t (record { answer = alone 13; lists = l }) (decodedBy k (run quotient (systemOf k) o costs) l) .lists)
+    by true = s
+    by false = ran-long k o costs l s
+
+-- all that a call gave, from what a group has of the frame, with the triples and the counts
+all-of : (k : Code) (f : ℕ) (g : Grouped) (d : Decoded) → FrameIs k f g d → g .lists .triples ≡ d .lists .triples → g .lists .counts ≡ d .lists .counts → frameIn k g f ≡ d
+all-of k f g d x ts cs = λ i. record {
+  answer = x .answer i;
+  lists = record { triples = ts i; counts = cs i; sums = x .sums i; values = x .values i; rows = x .rows i; word = x .word i };
+}
 
 -- ---- the causes
 module _ (b : List ℕ) (o : Settings) (F : ℕ) (costs : List ℤ) (l : Lists) (work : List ℤ) where
@@ -98,177 +139,135 @@ module _ (b : List ℕ) (o : Settings) (F : ℕ) (costs : List ℤ) (l : Lists) 
   unfolding group
   group-kept c h = rw (sym number-is ∙ h)
 
-  pub group-refuses : GroupRefuses b o F costs l work
+  pub group-refuses : GroupRefuses b o F costs l work (group b o F costs l work)
   unfolding groupCause
-  group-refuses = record {
-    settings = λ j s. number-is ∙ rw (j, s);
-    frames = λ j s f. number-is ∙ rw (j, s, f);
-    lengths = λ j s f e. number-is ∙ rw (j, s, f, e);
-    room = λ j s f e r. number-is ∙ rw (j, s, f, e, r);
-    exactly = (λ h. passes .0 (sym number-is ∙ h), λ f. number-is ∙ passes .1 f);
-    kept = group-kept;
-  }
+  group-refuses =
+      let within-8 : (1 ≤ F) × (F ≤ mostFrames) → outside 1 mostFrames F ≡ false = λ f. inside 1 mostFrames F (f .0) (f .1) in
+      record {
+        exactly = (λ h. passes .0 (sym number-is ∙ h), λ f. number-is ∙ passes .1 f);
+        settings = λ j s. number-is ∙ rw (j, s);
+        frames = λ j s f. number-is ∙ rw (j, in-range o .1 s, f);
+        lengths = λ j s f e. number-is ∙ rw (j, in-range o .1 s, within-8 f, e);
+        room = λ j s f e r. number-is ∙ rw (j, in-range o .1 s, within-8 f, eq-eqb (length costs) (F * k .bits) e, r);
+      }
 
--- ---- one frame: its lists are as long as they were
-record FrameLong (k : Code) (l : Lists) : Type 0 where
-  sums : length (l .sums) ≡ variables k
-  values : length (l .values) ≡ variables k
-  rows : length (l .rows) ≡ 4 * triples k
-  word : length (l .word) ≡ k .bits
+  -- ---- an accepted group
+  module _ (h : groupCause b o F costs l work ≡ 0) where
+    abbrev own : ℕ → List ℤ
+    own f = part (k .bits) f costs
 
-fills : {A : Type 0} (n : ℕ) (new old : List A) → length new ≡ n → length old ≡ n → length (written new old) ≡ n
-fills n new old e f = length-written new old (omega arith) ∙ f
+    fits : GroupFits b o F costs l work
+    fits = passes .0 h
 
-ran-long : (k : Code) (o : Settings) (costs : List ℤ) (l : Lists) → FrameLong k l → FrameLong k (decodedBy k (run quotient (systemOf k) o costs) l .lists)
-unfolding decodedBy systemOf
-ran-long k o costs l s =
-    let long = last-long (systemOf k) o costs in
-    let e = run quotient (systemOf k) o costs .last in
-    record {
-      sums = fills (variables k) (e .sums) (l .sums) (long .sums) (s .sums);
-      values = fills (variables k) (e .values) (l .values) (long .values) (s .values);
-      rows = fills (4 * triples k) (e .rows) (l .rows) (long .rows) (s .rows);
-      word = by (outcome k (e .values) .number) (e .values);
+    abbrev room : HasGroupRoom k F l work
+    room = fits .room
+
+    pub own-long : (f : ℕ) → f < F → length (own f) ≡ k .bits
+    own-long f m = length-part (k .bits) f costs (omega (arith, part-end (k .bits) F f m, fits .lengths))
+
+    lent : (f : ℕ) → f < F → FrameLong k (frameLists k l f)
+    lent f m = record {
+      sums = length-part (variables k) f (l .sums) (omega (arith, part-end (variables k) F f m, room .sums));
+      values = length-part (variables k) f (l .values) (omega (arith, part-end (variables k) F f m, room .values));
+      rows = length-part (4 * triples k) f (l .rows) (omega (arith, part-end (4 * triples k) F f m, room .rows));
+      word = length-part (k .bits) f (l .word) (omega (arith, part-end (k .bits) F f m, room .word));
     }
-  where
-    by : (c : ℕ) (z : List ℤ) → length (accepted c (written (wordOf k z) (l .word)) (l .word)) ≡ k .bits
-    by zero z = fills (k .bits) (wordOf k z) (l .word) (outcome-claims k z .word .long) (s .word)
-    by (suc c) z = s .word
 
-frame-long : (k : Code) (o : Settings) (costs : List ℤ) (l : Lists) → FrameLong k l → FrameLong k (frameDecoded k o costs l .lists)
-unfolding frameDecoded
-frame-long k o costs l s = by (some forbidden costs)
-  where
-    by : (t : Bool) → FrameLong k (cond t (record { answer = alone 13; lists = l }) (decodedBy k (run quotient (systemOf k) o costs) l) .lists)
-    by true = s
-    by false = ran-long k o costs l s
+    -- in a call by itself a frame has room,
+    pub frame-room : (f : ℕ) → f < F → noRoom k (frameLists k l f) ≡ false
+    frame-room f m =
+        let s = lent f m in
+        let m = frameLists k l f in
+        rw (
+          le-ltb (length (l .triples)) (3 * triples k) (room .members),
+          le-ltb (length (l .counts)) (variables k) (room .counts),
+          le-ltb (length (m .sums)) (variables k) (omega (arith, s .sums)),
+          le-ltb (length (m .values)) (variables k) (omega (arith, s .values)),
+          le-ltb (length (m .rows)) (4 * triples k) (omega (arith, s .rows)),
+          le-ltb (length (m .word)) (k .bits) (omega (arith, s .word)),
+        )
 
--- what is told of it and its lists, with the triples and the counts, are all of a call
-all-of : (k : Code) (f : ℕ) (g : Grouped) (d : Decoded) → FrameIs k f g d → g .lists .triples ≡ d .lists .triples → g .lists .counts ≡ d .lists .counts → frameIn k g f ≡ d
-all-of k f g d x ts cs = λ i. record {
-  answer = x .answer i;
-  lists = record { triples = ts i; counts = cs i; sums = x .sums i; values = x .values i; rows = x .rows i; word = x .word i };
-}
+    -- so that it can be refused by 13 only
+    pub frame-cause : (f : ℕ) → f < F → decoderCause b o (own f) (frameLists k l f) ≡ 13 if some forbidden (own f)
+    unfolding decoderCauseUpTo
+    frame-cause f m =
+        rw (fits .code, in-range o .1 (fits .settings), eq-eqb (length (own f)) (k .bits) (own-long f m), frame-room f m) (by (some forbidden (own f)))
+      where
+        by : (t : Bool) → firstOf (13 if t ∷ 0 ∷ []) ≡ 13 if t
+        by true = refl
+        by false = refl
 
--- ---- an accepted group
-module _ (b : List ℕ) (o : Settings) (F : ℕ) (costs : List ℤ) (l : Lists) (work : List ℤ) (h : groupCause b o F costs l work ≡ 0) where
-  abbrev K : Code
-  K = codeOf b
+    pub frame-is : (f : ℕ) → f < F → decoder b o (own f) (frameLists k l f) ≡ frameOf k o costs l f
+    unfolding decoderUpTo frameDecoded
+    frame-is f m = rw (frame-cause f m) (by (some forbidden (own f)) (decodedBy k (run quotient (systemOf k) o (own f)) (frameLists k l f)) (frameLists k l f))
+      where
+        by : (t : Bool) (d : Decoded) (m : Lists)
+            → accepted (13 if t) d (record { answer = alone (13 if t); lists = m }) ≡ cond t (record { answer = alone 13; lists = m }) d
+        by true d m = refl
+        by false d m = refl
 
-  abbrev own : ℕ → List ℤ
-  own f = part (K .bits) f costs
+    own-lists : (f : ℕ) → f < F → FrameLong k (frameOf k o costs l f .lists)
+    own-lists f m = frame-long k o (own f) (frameLists k l f) (lent f m)
 
-  fits : GroupFits b o F costs l work
-  fits = passes b o F costs l work .0 h
+    -- what the group has of a frame
+    abbrev made : Grouped
+    made = groupDecoded k o F costs l
 
-  abbrev room : HasGroupRoom K F l work
-  room = fits .room
+    abbrev told : ℕ → Answer
+    told f = cond (ltb f F) (frameOf k o costs l f .answer) (alone 0)
 
-  pub own-long : (f : ℕ) → f < F → length (own f) ≡ K .bits
-  own-long f m = length-part (K .bits) f costs (omega (arith, part-end (K .bits) F f m, fits .lengths))
+    in-group : (f : ℕ) → f < F → FrameIs k f made (frameOf k o costs l f)
+    unfolding groupDecoded
+    in-group f m =
+        let each = frameOf k o costs l in
+        record {
+          answer = getD-tab mostFrames told f (alone 0) (omega (arith, fits .frames .1)) ∙ rw (lt-ltb f F m);
+          sums = part-written (variables k) F (λ f. each f .lists .sums) (l .sums) (λ f m. own-lists f m .sums) f m;
+          values = part-written (variables k) F (λ f. each f .lists .values) (l .values) (λ f m. own-lists f m .values) f m;
+          rows = part-written (4 * triples k) F (λ f. each f .lists .rows) (l .rows) (λ f m. own-lists f m .rows) f m;
+          word = part-written (k .bits) F (λ f. each f .lists .word) (l .word) (λ f m. own-lists f m .word) f m;
+        }
 
-  lent : (f : ℕ) → f < F → FrameLong K (frameLists K l f)
-  lent f m = record {
-    sums = length-part (variables K) f (l .sums) (omega (arith, part-end (variables K) F f m, room .sums));
-    values = length-part (variables K) f (l .values) (omega (arith, part-end (variables K) F f m, room .values));
-    rows = length-part (4 * triples K) f (l .rows) (omega (arith, part-end (4 * triples K) F f m, room .rows));
-    word = length-part (K .bits) f (l .word) (omega (arith, part-end (K .bits) F f m, room .word));
-  }
+    -- past the frames nothing is told
+    past : (f : ℕ) → F ≤ f → Dec (f < mostFrames) → getD (made .answers) f (alone 0) ≡ alone 0
+    unfolding groupDecoded
+    past f m (yes n) = getD-tab mostFrames told f (alone 0) n ∙ rw (le-ltb f F m)
+    past f m (no n) = List·getD-eq-default (tab mostFrames told) (alone 0) {n = f} (omega (arith, length-tab mostFrames told))
 
-  -- in a call by itself a frame has room,
-  pub frame-room : (f : ℕ) → f < F → noRoom K (frameLists K l f) ≡ false
-  frame-room f m =
-      let s = lent f m in
-      let own = frameLists K l f in
-      rw (
-        le-ltb (length (l .triples)) (3 * triples K) (room .members),
-        le-ltb (length (l .counts)) (variables K) (room .counts),
-        le-ltb (length (own .sums)) (variables K) (omega (arith, s .sums)),
-        le-ltb (length (own .values)) (variables K) (omega (arith, s .values)),
-        le-ltb (length (own .rows)) (4 * triples K) (omega (arith, s .rows)),
-        le-ltb (length (own .word)) (K .bits) (omega (arith, s .word)),
-      )
+    refused-is : (f : ℕ) → some forbidden (own f) ≡ true → frameOf k o costs l f ≡ record { answer = alone 13; lists = frameLists k l f }
+    unfolding frameDecoded
+    refused-is f e = rw e
 
-  -- so that it can be refused by 13 only
-  pub frame-cause : (f : ℕ) → f < F → decoderCause b o (own f) (frameLists K l f) ≡ 13 if some forbidden (own f)
-  unfolding decoderCauseUpTo
-  frame-cause f m =
-      rw (fits .code, in-range o .1 (fits .settings), eq-eqb (length (own f)) (K .bits) (own-long f m), frame-room f m) (by (some forbidden (own f)))
-    where
-      by : (t : Bool) → firstOf (13 if t ∷ 0 ∷ []) ≡ 13 if t
-      by true = refl
-      by false = refl
+    ran-is : (f : ℕ) → some forbidden (own f) ≡ false → frameOf k o costs l f ≡ decodedBy k (run quotient (systemOf k) o (own f)) (frameLists k l f)
+    unfolding frameDecoded
+    ran-is f e = rw e
 
-  pub frame-is : (f : ℕ) → f < F → decoder b o (own f) (frameLists K l f) ≡ frameOf K o costs l f
-  unfolding decoderUpTo frameDecoded
-  frame-is f m = rw (frame-cause f m) (by (some forbidden (own f)) (decodedBy K (run quotient (systemOf K) o (own f)) (frameLists K l f)) (frameLists K l f))
-    where
-      by : (t : Bool) (d : Decoded) (m : Lists)
-          → accepted (13 if t) d (record { answer = alone (13 if t); lists = m }) ≡ cond t (record { answer = alone 13; lists = m }) d
-      by true d m = refl
-      by false d m = refl
+    -- a frame that ran has the group's triples and counts
+    ran-members : (f : ℕ) → some forbidden (own f) ≡ false → made .lists .triples ≡ frameOf k o costs l f .lists .triples
+    unfolding groupDecoded decodedBy
+    ran-members f e = sym (ap (λ (d : Decoded). d .lists .triples) (ran-is f e))
 
-  own-lists : (f : ℕ) → f < F → FrameLong K (frameOf K o costs l f .lists)
-  own-lists f m = frame-long K o (own f) (frameLists K l f) (lent f m)
+    ran-counts : (f : ℕ) → some forbidden (own f) ≡ false → made .lists .counts ≡ frameOf k o costs l f .lists .counts
+    unfolding groupDecoded decodedBy
+    ran-counts f e = sym (ap (λ (d : Decoded). d .lists .counts) (ran-is f e))
 
-  -- the frame's part of each list, and what lies behind the frames
-  abbrev after : Grouped
-  after = groupDecoded K o F costs l
+    frames-are : GroupIsSingles b o F costs l made
+    unfolding groupDecoded
+    frames-are =
+        let each = frameOf k o costs l in
+        record {
+          single = λ f m. subst (FrameIs k f made) (sym (frame-is f m)) (in-group f m);
+          whole = λ f m e. all-of k f made (frameOf k o costs l f) (in-group f m) (ran-members f e) (ran-counts f e) ∙ sym (frame-is f m);
+          false-cost = λ f m e. subst (FrameIs k f made) (refused-is f e) (in-group f m);
+          members = refl;
+          counts = refl;
+          eight = length-tab mostFrames told;
+          none = λ f m. past f m (decLt f mostFrames);
+          sums-behind = behind-written (variables k) F (λ f. each f .lists .sums) (l .sums) (λ f m. own-lists f m .sums);
+          values-behind = behind-written (variables k) F (λ f. each f .lists .values) (l .values) (λ f m. own-lists f m .values);
+          rows-behind = behind-written (4 * triples k) F (λ f. each f .lists .rows) (l .rows) (λ f m. own-lists f m .rows);
+          word-behind = behind-written (k .bits) F (λ f. each f .lists .word) (l .word) (λ f m. own-lists f m .word);
+        }
 
-  in-group : (f : ℕ) → f < F → FrameIs K f after (frameOf K o costs l f)
-  unfolding groupDecoded
-  in-group f m =
-      let each = frameOf K o costs l in
-      record {
-        answer = getD-tab mostFrames (λ f. cond (ltb f F) (each f .answer) (alone 0)) f (alone 0) (omega (arith, fits .frames .1)) ∙ rw (lt-ltb f F m);
-        sums = part-written (variables K) F (λ f. each f .lists .sums) (l .sums) (λ f m. own-lists f m .sums) f m;
-        values = part-written (variables K) F (λ f. each f .lists .values) (l .values) (λ f m. own-lists f m .values) f m;
-        rows = part-written (4 * triples K) F (λ f. each f .lists .rows) (l .rows) (λ f m. own-lists f m .rows) f m;
-        word = part-written (K .bits) F (λ f. each f .lists .word) (l .word) (λ f m. own-lists f m .word) f m;
-      }
-
-  -- past the frames nothing is told
-  past : (f : ℕ) → F ≤ f → Dec (f < mostFrames) → getD (after .answers) f (alone 0) ≡ alone 0
-  unfolding groupDecoded
-  past f m (yes n) = getD-tab mostFrames (λ f. cond (ltb f F) (frameOf K o costs l f .answer) (alone 0)) f (alone 0) n ∙ rw (le-ltb f F m)
-  past f m (no n) =
-      let told : ℕ → Answer = λ f. cond (ltb f F) (frameOf K o costs l f .answer) (alone 0) in
-      List·getD-eq-default (tab mostFrames told) (alone 0) {n = f} (omega (arith, length-tab mostFrames told))
-
-  refused-is : (f : ℕ) → some forbidden (own f) ≡ true → frameOf K o costs l f ≡ record { answer = alone 13; lists = frameLists K l f }
-  unfolding frameDecoded
-  refused-is f e = rw e
-
-  ran-is : (f : ℕ) → some forbidden (own f) ≡ false → frameOf K o costs l f ≡ decodedBy K (run quotient (systemOf K) o (own f)) (frameLists K l f)
-  unfolding frameDecoded
-  ran-is f e = rw e
-
-  -- a frame that ran has the group's triples and counts
-  ran-members : (f : ℕ) → some forbidden (own f) ≡ false → after .lists .triples ≡ frameOf K o costs l f .lists .triples
-  unfolding groupDecoded decodedBy
-  ran-members f e = sym (ap (λ (d : Decoded). d .lists .triples) (ran-is f e))
-
-  ran-counts : (f : ℕ) → some forbidden (own f) ≡ false → after .lists .counts ≡ frameOf K o costs l f .lists .counts
-  unfolding groupDecoded decodedBy
-  ran-counts f e = sym (ap (λ (d : Decoded). d .lists .counts) (ran-is f e))
-
-  frames-are : GroupIsSingles b o F costs l after
-  unfolding groupDecoded
-  frames-are =
-      let each = frameOf K o costs l in
-      record {
-        single = λ f m. subst (FrameIs K f after) (sym (frame-is f m)) (in-group f m);
-        whole = λ f m e. all-of K f after (frameOf K o costs l f) (in-group f m) (ran-members f e) (ran-counts f e) ∙ sym (frame-is f m);
-        false-cost = λ f m e. subst (FrameIs K f after) (refused-is f e) (in-group f m);
-        members = refl;
-        counts = refl;
-        eight = length-tab mostFrames (λ f. cond (ltb f F) (each f .answer) (alone 0));
-        none = λ f m. past f m (decLt f mostFrames);
-        sums-behind = behind-written (variables K) F (λ f. each f .lists .sums) (l .sums) (λ f m. own-lists f m .sums);
-        values-behind = behind-written (variables K) F (λ f. each f .lists .values) (l .values) (λ f m. own-lists f m .values);
-        rows-behind = behind-written (4 * triples K) F (λ f. each f .lists .rows) (l .rows) (λ f m. own-lists f m .rows);
-        word-behind = behind-written (K .bits) F (λ f. each f .lists .word) (l .word) (λ f m. own-lists f m .word);
-      }
-
-  pub group-is-singles : GroupIsSingles b o F costs l (group b o F costs l work)
-  group-is-singles = subst (GroupIsSingles b o F costs l) (sym (group-is b o F costs l work h)) frames-are
+    pub group-is-singles : GroupIsSingles b o F costs l (group b o F costs l work)
+    group-is-singles = subst (GroupIsSingles b o F costs l) (sym (group-is h)) frames-are

@@ -4,7 +4,7 @@ use Rattle.quotient.specs.Quotient.{quotient}
 use Rattle.model.specs.Records.{twoBytes, numbers, checksIn, afterChecks, codeOf, judgeHeader, judgeIndices, judgeCheck, judgeChecks, covered, judge}
 use Rattle.model.specs.Splitting.{queue, triplesFrom, systemOf}
 use Rattle.model.specs.Iteration.{sign, rowSum, share, sumOf, occurrences, sumsOf, countsOf, valuesOf, rowsOf, iterate}
-use Rattle.model.specs.Run.{changes, settledBy, start, after, runFrom, run}
+use Rattle.model.specs.Run.{changes, settledBy, start, after, runFrom}
 use Rattle.model.specs.Words.{wordOf, firstUndecided, firstOdd, tested, outcome}
 use Rattle.model.specs.Calls.{decodedBy}
 use Rattle.model.specs.Group.{groupCause, frameDecoded, groupDecoded, group}

@@ -5,7 +5,6 @@ use mathlib.Core.List.{List, [], _∷_, _++_}
 use Prim.Native.Nat.{ℕ}
 use lib.IntN.{ℤ, pos}
 use lib.ListN.{replicate}
-use Rattle.model.specs.declared.Settings.{Settings}
 use Rattle.model.specs.Limits.{mostFrames}
 use Rattle.model.specs.Calls.{Lists, Answer}
 use Rattle.model.specs.Table.{−_, by-hand}
