@@ -21,6 +21,7 @@ use Rattle.model.specs.Group.{frameLists, workSize, HasGroupRoom, noGrou
 use Rattle.model.specs.GroupClaims.{FrameIs, GroupIsSingles, GroupFits, GroupRefuses}
 use Rattle.model.proofs.Causes.{clear, unless, or-false, within, inside, in-range}
 use Rattle.model.proofs.WordClaims.{outcome-claims}
+use Rattle.model.proofs.WholeCalls.{room}
 use Rattle.model.proofs.Courses.{last-long}
 
 -- ---- the room
@@ -159,33 +160,32 @@ module _ (b : List ℕ) (o : Settings) (F : ℕ) (costs : List ℤ) (l : Lists) 
     fits : GroupFits b o F costs l work
     fits = passes .0 h
 
-    abbrev room : HasGroupRoom k F l work
-    room = fits .room
+    abbrev space : HasGroupRoom k F l work
+    space = fits .room
 
     pub own-long : (f : ℕ) → f < F → length (own f) ≡ k .bits
     own-long f m = length-part (k .bits) f costs (omega (arith, part-end (k .bits) F f m, fits .lengths))
 
     lent : (f : ℕ) → f < F → FrameLong k (frameLists k l f)
     lent f m = record {
-      sums = length-part (variables k) f (l .sums) (omega (arith, part-end (variables k) F f m, room .sums));
-      values = length-part (variables k) f (l .values) (omega (arith, part-end (variables k) F f m, room .values));
-      rows = length-part (4 * triples k) f (l .rows) (omega (arith, part-end (4 * triples k) F f m, room .rows));
-      word = length-part (k .bits) f (l .word) (omega (arith, part-end (k .bits) F f m, room .word));
+      sums = length-part (variables k) f (l .sums) (omega (arith, part-end (variables k) F f m, space .sums));
+      values = length-part (variables k) f (l .values) (omega (arith, part-end (variables k) F f m, space .values));
+      rows = length-part (4 * triples k) f (l .rows) (omega (arith, part-end (4 * triples k) F f m, space .rows));
+      word = length-part (k .bits) f (l .word) (omega (arith, part-end (k .bits) F f m, space .word));
     }
 
     -- in a call by itself a frame has room,
     pub frame-room : (f : ℕ) → f < F → noRoom k (frameLists k l f) ≡ false
     frame-room f m =
-        let s = lent f m in
-        let m = frameLists k l f in
-        rw (
-          le-ltb (length (l .triples)) (3 * triples k) (room .members),
-          le-ltb (length (l .counts)) (variables k) (room .counts),
-          le-ltb (length (m .sums)) (variables k) (omega (arith, s .sums)),
-          le-ltb (length (m .values)) (variables k) (omega (arith, s .values)),
-          le-ltb (length (m .rows)) (4 * triples k) (omega (arith, s .rows)),
-          le-ltb (length (m .word)) (k .bits) (omega (arith, s .word)),
-        )
+        let long = lent f m in
+        room k (triples k) (variables k) (k .bits) (frameLists k l f) refl refl refl (record {
+          triples = space .members;
+          counts = space .counts;
+          sums = omega (arith, long .sums);
+          values = omega (arith, long .values);
+          rows = omega (arith, long .rows);
+          word = omega (arith, long .word);
+        })
 
     -- so that it can be refused by 13 only
     pub frame-cause : (f : ℕ) → f < F → decoderCause b o (own f) (frameLists k l f) ≡ 13 if some forbidden (own f)
