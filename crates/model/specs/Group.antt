@@ -121,7 +121,7 @@ frameIn k g f = record { answer = getD (g .answers) f (alone 0); lists = frameLi
 abbrev pub frameTold : FrameAnswer → Answer
 frameTold a = record { number = a .number; place = a .place; k = a .k; settled = a .settled }
 
--- what a group is told, with the lists as they are then
+-- what is told of a group, with the lists as they are then
 abbrev pub groupTold : GroupAnswer → Lists → Grouped
 groupTold r l = record { number = r .number; answers = map frameTold (r .frames); lists = l }
 

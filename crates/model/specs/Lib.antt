@@ -37,8 +37,8 @@ pub mod Composition
 pub mod Encoding
 pub mod DecoderClaims
 pub mod GroupClaims
+pub mod WholeGroups
 pub mod Promises
 pub mod AlistPromises
 pub mod EncodingPromises
 pub mod GroupPromises
-pub mod WholeGroups

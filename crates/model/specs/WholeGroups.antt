@@ -22,9 +22,11 @@ nines ts cs v s w = record {
   word = replicate w 9;
 }
 
+-- and a list of work
 abbrev pub works : ℕ → List ℤ
 works n = replicate n (pos 9)
 
+-- what is told of a frame, and a group that is refused
 abbrev pub told : ℕ → ℕ → ℕ → ℕ → Answer
 told number place k settled = record { number = number; place = place; k = k; settled = settled }
 
@@ -32,22 +34,22 @@ abbrev pub refused : ℕ → Lists → Grouped
 refused c l = record { number = c; answers = replicate mostFrames (alone 0); lists = l }
 
 -- the three frames of document 01's listing, and one with a false cost behind the first
-abbrev pub four : List ℤ
-four = (pos 0 ∷ pos 0 ∷ pos 0 ∷ []) ++ ((pos 20000 ∷ (− 32768) ∷ pos 0 ∷ []) ++ (by-hand ++ (pos 20000 ∷ pos 20000 ∷ pos 20000 ∷ [])))
+abbrev pub listedFrames : List ℤ
+listedFrames = (pos 0 ∷ pos 0 ∷ pos 0 ∷ []) ++ ((pos 20000 ∷ (− 32768) ∷ pos 0 ∷ []) ++ (by-hand ++ (pos 20000 ∷ pos 20000 ∷ pos 20000 ∷ [])))
 
--- n = 4 with the check (0,1,2,3): two triples and an auxiliary; three frames, the second with a false cost
-abbrev pub long : List ℕ
-long = 0x4C ∷ 0x48 ∷ 0 ∷ 4 ∷ 0 ∷ 1 ∷ 0x4C ∷ 0x43 ∷ 4 ∷ 0 ∷ 0 ∷ 0 ∷ 1 ∷ 0 ∷ 2 ∷ 0 ∷ 3 ∷ []
+-- n = 4 with the check (0,1,2,3), which makes two triples and an auxiliary; three frames of it, the second with a false cost
+abbrev pub fourBits : List ℕ
+fourBits = 0x4C ∷ 0x48 ∷ 0 ∷ 4 ∷ 0 ∷ 1 ∷ 0x4C ∷ 0x43 ∷ 4 ∷ 0 ∷ 0 ∷ 0 ∷ 1 ∷ 0 ∷ 2 ∷ 0 ∷ 3 ∷ []
 
-abbrev pub three : List ℤ
-three =
+abbrev pub fourBitFrames : List ℤ
+fourBitFrames =
     (pos 4000 ∷ pos 8000 ∷ (− 4000) ∷ pos 12000 ∷ []) ++ ((pos 4000 ∷ pos 4000 ∷ pos 4000 ∷ (− 32768) ∷ [])
     ++ (pos 4000 ∷ (− 8000) ∷ (− 4000) ∷ pos 12000 ∷ []))
 
 pub record WholeGroups : Type 0 where
-  -- the listing's frames end as they do by themselves (`WholeCalls`), and the one with a false cost has its parts of the lists as they were; of each list
-  -- one entry behind the frames
-  pub listing : group listed (listedSettings 2) 4 four (nines 4 4 13 17 13) (works 76) ≡ record {
+  -- the listing's frames end as they do by themselves (`WholeCalls`), and of the one with a false cost all is as it was; each list has one entry more than the
+  -- frames need
+  pub listing : group listed (listedSettings 2) 4 listedFrames (nines 4 4 13 17 13) (works 76) ≡ record {
     number = 0;
     answers = told 16 0 2 1 ∷ told 13 0 0 0 ∷ told 17 0 2 0 ∷ told 0 0 2 0 ∷ replicate 4 (alone 0);
     lists = record {
@@ -62,8 +64,8 @@ pub record WholeGroups : Type 0 where
       word = 9 ∷ 9 ∷ 9 ∷ 9 ∷ 9 ∷ 9 ∷ 9 ∷ 9 ∷ 9 ∷ 0 ∷ 0 ∷ 0 ∷ 9 ∷ [];
     };
   }
-  -- frame f stands at f × V, f × 4T and f × n, here f × 5, f × 8 and f × 4: one iteration, from which c is −L/4 and 0 for the auxiliary
-  pub auxiliary : group long (listedSettings 1) 3 three (nines 6 5 15 24 12) (works 124) ≡ record {
+  -- frame f stands at f × V, f × 4T and f × n, here f × 5, f × 8 and f × 4; one iteration, after which c is −L/4, and 0 for the auxiliary
+  pub auxiliary : group fourBits (listedSettings 1) 3 fourBitFrames (nines 6 5 15 24 12) (works 124) ≡ record {
     number = 0;
     answers = told 17 0 1 0 ∷ told 13 0 0 0 ∷ told 0 0 1 0 ∷ replicate 5 (alone 0);
     lists = record {
@@ -87,8 +89,8 @@ pub record WholeGroups : Type 0 where
   -- 12 in front of 10: three costs for two frames
   pub lengths : (l : Lists) (work : List ℤ) → group listed (listedSettings 2) 2 by-hand l work ≡ refused 12 l
   -- "10 included, also where a cost is false": a list of words, or of work, with one entry too few
-  pub words-short : group listed (listedSettings 2) 4 four (nines 3 3 12 16 11) (works 76) ≡ refused 10 (nines 3 3 12 16 11)
-  pub work-short : group listed (listedSettings 2) 4 four (nines 3 3 12 16 12) (works 75) ≡ refused 10 (nines 3 3 12 16 12)
+  pub words-short : group listed (listedSettings 2) 4 listedFrames (nines 3 3 12 16 11) (works 76) ≡ refused 10 (nines 3 3 12 16 11)
+  pub work-short : group listed (listedSettings 2) 4 listedFrames (nines 3 3 12 16 12) (works 75) ≡ refused 10 (nines 3 3 12 16 12)
   -- "with room for all": one frame, and eight, all with a false cost, in lists that are just long enough
   pub one : group listed (listedSettings 2) 1 (replicate 3 (− 32768)) (nines 3 3 3 4 3) (works 76) .number ≡ 0
   pub eight : group listed (listedSettings 2) 8 (replicate 24 (− 32768)) (nines 3 3 24 32 24) (works 152) .number ≡ 0
