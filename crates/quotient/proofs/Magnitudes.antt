@@ -15,8 +15,8 @@ use Rattle.quotient.specs.Quotient.Laws.{quotient-odd, quotient-is}
 pub divisor-is : (z : ℤ) (n : ℕ) → pos 0 <ℤ z → z ≤ℤ pos n → (0 < natAbs z) × (natAbs z ≤ n) × (z ≡ pos (natAbs z))
 divisor-is z n h k = (positive z h .0, omega (arith, readℤ, about z), positive z h .1)
 
--- below U times the divisor nothing is limited
-pub quotient-below : (n d : ℕ) → 0 < d → n < unit * d → quotient (pos n) (pos d) ≡ pos (nearest n d)
+-- below U and a half times the divisor nothing is limited
+pub quotient-below : (n d : ℕ) → 0 < d → 2 * n < 2 * (unit * d) + d → quotient (pos n) (pos d) ≡ pos (nearest n d)
 quotient-below n d h k =
     let q = nearest n d in
     let a = nearest-is n d h in
@@ -34,10 +34,10 @@ cut-negative (suc n) b = refl
 
 -- half of d is added with the sign of x, both doubled
 pub cut-quotient : (x : ℤ) (d : ℕ) → 0 < d → natAbs x < unit * d → quotZ (pos 2 *ℤ x +ℤ signed x d) (pos (2 * d)) ≡ quotient x (pos d)
-cut-quotient (pos n) d h k = rw (false-ltZ (pos n) (pos 0) (omega arith)) (sym (quotient-below n d h k))
+cut-quotient (pos n) d h k = rw (false-ltZ (pos n) (pos 0) (omega arith)) (sym (quotient-below n d h (omega arith)))
 cut-quotient (negsuc n) d h k =
     ap (λ (z : ℤ). quotZ z (pos (2 * d))) (sym (negℤ-+ℤ (pos (2 * suc n)) (pos d)))
-    ∙ cut-negative (2 * suc n + d) (2 * d) ∙ ap negℤ (sym (quotient-below (suc n) d h k)) ∙ sym (quotient-odd (pos (suc n)) (pos d))
+    ∙ cut-negative (2 * suc n + d) (2 * d) ∙ ap negℤ (sym (quotient-below (suc n) d h (omega arith))) ∙ sym (quotient-odd (pos (suc n)) (pos d))
 
 -- ---- the sign
 pub abs-signed : (x : ℤ) (q : ℕ) → natAbs (signed x q) ≡ q
