@@ -3,11 +3,12 @@ use Rattle.integers.proofs.Prelude.{_≡_, refl, sym, ap, _∙_, ℕ, zero, suc
 use Rattle.integers.proofs.Prelude.{_≤ℤ_, _<ℤ_}
 use native.Mathlib.Omega.{by-contra}
 use native.Mathlib.Nat.{mul-le-mul-left, zero-div}
-use lib.IntN.{negℤ-+ℤ}
+use lib.IntN.{negℤ-+ℤ, negℤ-negℤ}
 use lib.Signed.{quotZ}
+use Rattle.integers.specs.Parts.{up, dn}
 use Rattle.integers.specs.Nearest.{nearest}
 use Rattle.integers.proofs.Nearest.{nearest-is}
-use Rattle.integers.proofs.Linear.{readℤ, about, abs-neg, false-ltZ, positive}
+use Rattle.integers.proofs.Linear.{readℤ, about, about-neg, abs-neg, false-ltZ, positive}
 use Rattle.quotient.specs.Quotient.{unit, quotient, signed}
 use Rattle.quotient.specs.Quotient.Laws.{quotient-odd, quotient-is}
 
@@ -26,6 +27,15 @@ quotient-below n d h k =
       above = a .above;
       below = λ _. a .below;
     })
+
+-- less than half the divisor below U times it, the limit is the nearest
+pub limit-above : (z : ℤ) (d : ℕ) → 0 < d → 2 * (unit * d) ≤ 2 * up z + d → quotient z (pos d) ≡ pos unit
+limit-above (pos n) d h k = quotient-is n d unit h (record { range = omega arith; above = omega arith; below = λ l. absurd (omega arith) })
+limit-above (negsuc n) d h k = absurd (omega arith)
+
+pub limit-below : (z : ℤ) (d : ℕ) → 0 < d → 2 * (unit * d) ≤ 2 * dn z + d → quotient z (pos d) ≡ negℤ (pos unit)
+limit-below z d h k =
+    ap (λ (y : ℤ). quotient y (pos d)) (sym (negℤ-negℤ z)) ∙ quotient-odd (negℤ z) (pos d) ∙ ap negℤ (limit-above (negℤ z) d h (omega (arith, about-neg z)))
 
 -- ---- a division that cuts toward zero
 cut-negative : (n b : ℕ) → quotZ (negℤ (pos n)) (pos b) ≡ negℤ (pos (n / b))
