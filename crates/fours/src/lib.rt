@@ -72,7 +72,12 @@ fn positives(a: [i32; 4]) -> [i32; 4]
     requires { ⌜ ((k : ℕ) → natAbs (at a k) < 2 ^ 31) ⌝ }
     ensures { λ l. ⌜ l ≡ tab 4 (λ k. pos (multiplier (at a k))) ⌝ }
 {
-    [positive(a[0]), positive(a[1]), positive(a[2]), positive(a[3])]
+    [
+        positive(a[0]),
+        positive(a[1]),
+        positive(a[2]),
+        positive(a[3]),
+    ]
 }
 
 // z + p of a row, its magnitude.

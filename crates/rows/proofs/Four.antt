@@ -1,4 +1,4 @@
--- Four of a kind: an array by its entries, a sum, and the squares of changes. Assumes nothing.
+-- Four of a kind, or three: an array by its entries, a sum, and the squares of changes. Assumes nothing.
 use Rattle.integers.proofs.Prelude.{_≡_, refl, ap, _∙_, List, [], _∷_, ℕ, _+_, _*_, _≤_, _<_, arith, ℤ, pos, negsuc, natAbs, negℤ, _-ℤ_, _*ℤ_}
 use native.Mathlib.Nat.{le-refl, mul-le-mul}
 use Rattle.integers.specs.Sum.{sumℕ}
@@ -11,6 +11,9 @@ use Rattle.rows.specs.Sides.{Rows, changeOf}
 
 pub four-are : {A : Type 0} (f : ℕ → A) (a b c d : A) → a ≡ f 0 → b ≡ f 1 → c ≡ f 2 → d ≡ f 3 → a ∷ b ∷ c ∷ d ∷ [] ≡ tab 4 f
 four-are f a b c d p q r s = rw (p, q, r, s)
+
+pub three-are : {A : Type 0} (f : ℕ → A) (a b c : A) → a ≡ f 0 → b ≡ f 1 → c ≡ f 2 → a ∷ b ∷ c ∷ [] ≡ tab 3 f
+three-are f a b c p q r = rw (p, q, r)
 
 pub sum-four : (f : ℕ → ℕ) (a b c d : ℕ) → a ≡ f 0 → b ≡ f 1 → c ≡ f 2 → d ≡ f 3 → a + b + c + d ≡ sumℕ 4 f
 sum-four f a b c d p q r s = omega (arith, p, q, r, s)
