@@ -1,5 +1,6 @@
 -- Four numbers side by side: what the code reads of them, what it gives for each, their sums and differences. Assumes nothing.
-use Rattle.integers.proofs.Prelude.{_≡_, sym, ap, ap₂, _∙_, List, [], _∷_, ℕ, _+_, _^_, _≤_, _<_, arith, T, ltb, ℤ, pos, natAbs, _+ℤ_, _-ℤ_, length, w32}
+use Rattle.integers.proofs.Prelude.{_≡_, sym, ap, ap₂, _∙_, List, [], _∷_, ℕ, _+_, _^_, _≤_, _<_, arith, decLt, T, ltb, ℤ, pos, natAbs, _+ℤ_, _-ℤ_, length}
+use Rattle.integers.proofs.Prelude.{List·getD-eq-default, w32}
 use native.Mathlib.Nat.{lt-of-le-of-lt}
 use lib.Dec.{ltb→lt}
 use lib.Signed.{mag}
@@ -7,7 +8,7 @@ use mir.Val.{hbits}
 use Rattle.integers.proofs.Linear.{abs-add, abs-sub}
 use Rattle.integers.proofs.Machine.{Worth, stored, read-back, param}
 use Rattle.lists.specs.Tabulated.{tab}
-use Rattle.lists.proofs.Tabulated.{tab-same, tab-getD}
+use Rattle.lists.proofs.Tabulated.{length-tab, getD-tab, tab-same, tab-getD}
 use Rattle.model.specs.Iteration.{at}
 use Rattle.rows.proofs.Four.{four-are, small-are}
 use Rattle.rows.proofs.Signs.{raw}
@@ -46,6 +47,15 @@ module _ {a b : List ℤ} {f g : ℕ → ℤ} {m n : ℕ} (u : Lanes a f m) (v :
   -- what a sum and a difference ask
   pub room : T (ltb (m + n) (2 ^ 31)) → (k : ℕ) → natAbs (at a k) + natAbs (at b k) < 2 ^ 31
   room t k = lt-of-le-of-lt (omega (arith, u .within k, v .within k)) (ltb→lt (m + n) (2 ^ 31) t)
+
+-- and one of entries of a list, of which nothing is known but of these four: past them both are 0
+pub room-of : {a : List ℤ} (b : List ℤ) (f : ℕ → ℤ) → a ≡ tab 4 f → length b ≡ 4 → ((k : ℕ) → k < 4 → natAbs (f k) + natAbs (at b k) < 2 ^ 31)
+    → (k : ℕ) → natAbs (at a k) + natAbs (at b k) < 2 ^ 31
+room-of b f e long h k = rw e (by (decLt k 4))
+  where
+    by : Dec (k < 4) → natAbs (at (tab 4 f) k) + natAbs (at b k) < 2 ^ 31
+    by (yes l) = rw (getD-tab 4 f k (pos 0) l) (h k l)
+    by (no l) = rw (List·getD-eq-default (tab 4 f) (pos 0) {n = k} (omega (arith, length-tab 4 f)), List·getD-eq-default b (pos 0) {n = k} (omega (arith, long))) (omega arith)
 
 -- ---- by an operation that is `_+ℤ_` or `_-ℤ_`
 module _ (op : ℤ → ℤ → ℤ) (small : (a b : ℤ) → natAbs (op a b) ≤ natAbs a + natAbs b) where

@@ -8,24 +8,24 @@ use Rattle.model.proofs.Rows.{three}
 
 -- ---- renewed, from values that are raised by U: x is the multiplier
 module _ (x a b c : ℤ) where
-  abbrev renewedBy : ℕ → ℤ
+  abbrev pub renewedBy : ℕ → ℤ
   renewedBy r = x +ℤ rowSum r (a -ℤ pos unit) (b -ℤ pos unit) (c -ℤ pos unit) -ℤ pos unit
 
-  pub row-0 : x +ℤ (a -ℤ b) -ℤ c ≡ renewedBy 0
+  pub renewed-0 : x +ℤ (a -ℤ b) -ℤ c ≡ renewedBy 0
   unfolding rowSum sign
-  row-0 = rw (split x, split a, split b, split c) (simp toℕ (omega arith))
+  renewed-0 = rw (split x, split a, split b, split c) (simp toℕ (omega arith))
 
-  pub row-1 : x -ℤ (a -ℤ b) -ℤ c ≡ renewedBy 1
+  pub renewed-1 : x -ℤ (a -ℤ b) -ℤ c ≡ renewedBy 1
   unfolding rowSum sign
-  row-1 = rw (split x, split a, split b, split c) (simp toℕ (omega arith))
+  renewed-1 = rw (split x, split a, split b, split c) (simp toℕ (omega arith))
 
-  pub row-2 : x -ℤ (a +ℤ b) +ℤ c ≡ renewedBy 2
+  pub renewed-2 : x -ℤ (a +ℤ b) +ℤ c ≡ renewedBy 2
   unfolding rowSum sign
-  row-2 = rw (split x, split a, split b, split c) (simp toℕ (omega arith))
+  renewed-2 = rw (split x, split a, split b, split c) (simp toℕ (omega arith))
 
-  pub row-3 : x +ℤ (a +ℤ b) +ℤ (c -ℤ pos (4 * unit)) ≡ renewedBy 3
+  pub renewed-3 : x +ℤ (a +ℤ b) +ℤ (c -ℤ pos (4 * unit)) ≡ renewedBy 3
   unfolding rowSum sign
-  row-3 = rw (split x, split a, split b, split c) (simp toℕ (omega arith))
+  renewed-3 = rw (split x, split a, split b, split c) (simp toℕ (omega arith))
 
 -- ---- what rows of sizes n give each position
 module _ (n : ℕ → ℕ) where
