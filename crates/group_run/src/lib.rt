@@ -59,8 +59,8 @@ fn step_on(
     triples: &[u16],
     counts: &[u16],
     known: bool,
-    narrow_limits: &[i32],
-    narrow_inverses: &[u32],
+    bounds: &[i32],
+    factors: &[u32],
     raises: &[u64],
     limits: &[i64],
     inverses: &[i64],
@@ -82,8 +82,8 @@ fn step_on(
             triples,
             counts,
             known,
-            narrow_limits,
-            narrow_inverses,
+            bounds,
+            factors,
             raises,
             limits,
             inverses,
@@ -122,15 +122,10 @@ fn run_in_lanes(
 ) {
     lane_lists::begin(p, work);
     put_all_costs(costs, settings.weight, p, frames, running, work);
-    let mut narrow_limits = [0i32; 9];
-    let mut narrow_inverses = [0u32; 9];
+    let mut bounds = [0i32; 9];
+    let mut factors = [0u32; 9];
     let mut raises = [0u64; 9];
-    lane_values::prepare(
-        settings.ratio,
-        &mut narrow_limits,
-        &mut narrow_inverses,
-        &mut raises,
-    );
+    lane_values::prepare(settings.ratio, &mut bounds, &mut factors, &mut raises);
     let mut limits = [0i64; 31];
     let mut inverses = [0i64; 31];
     values::prepare(settings.ratio, &mut limits, &mut inverses);
@@ -141,8 +136,8 @@ fn run_in_lanes(
         triples,
         counts,
         without & narrow,
-        &narrow_limits,
-        &narrow_inverses,
+        &bounds,
+        &factors,
         &raises,
         &limits,
         &inverses,

@@ -113,8 +113,8 @@ pub fn step(
     triples: &[u16],
     counts: &[u16],
     known: bool,
-    narrow_limits: &[i32],
-    narrow_inverses: &[u32],
+    bounds: &[i32],
+    factors: &[u32],
     raises: &[u64],
     limits: &[i64],
     inverses: &[i64],
@@ -132,8 +132,8 @@ pub fn step(
 )
     requires { ⌜ Fits p (now work) × (i ≤ 1) × (settings .ratio ≤ mostRatio) × Counted p (now counts) ⌝ }
     requires { ⌜ Tripled p (now triples) (now counts) × (known ≡ true → Narrow p (now triples) (now counts)) ⌝ }
-    requires { ⌜ (length (now narrow_limits) ≡ 9) × (length (now narrow_inverses) ≡ 9) × (length (now raises) ≡ 9) ⌝ }
-    requires { ⌜ NarrowTables (settings .ratio) (now narrow_limits) (now narrow_inverses) (now raises)
+    requires { ⌜ (length (now bounds) ≡ 9) × (length (now factors) ≡ 9) × (length (now raises) ≡ 9) ⌝ }
+    requires { ⌜ NarrowTables (settings .ratio) (now bounds) (now factors) (now raises)
         × Tables (settings .ratio) (now limits) (now inverses) ⌝ }
     requires { ⌜ (frames ≤ p .lanes) × (k < mostIterations) × Marks frames (now running) (now ks) (now settled)
         × Held p frames (now sums) (now values) (now rows) ⌝ }
@@ -161,8 +161,8 @@ pub fn step(
         triples,
         counts,
         known,
-        narrow_limits,
-        narrow_inverses,
+        bounds,
+        factors,
         raises,
         limits,
         inverses,

@@ -36,8 +36,8 @@ pub fn advance(
     triples: &[u16],
     counts: &[u16],
     known: bool,
-    narrow_limits: &[i32],
-    narrow_inverses: &[u32],
+    bounds: &[i32],
+    factors: &[u32],
     raises: &[u64],
     limits: &[i64],
     inverses: &[i64],
@@ -50,8 +50,8 @@ pub fn advance(
 )
     requires { ⌜ Fits p (now work) × (i ≤ 1) × (settings .ratio ≤ mostRatio) × Counted p (now counts) ⌝ }
     requires { ⌜ Tripled p (now triples) (now counts) × (known ≡ true → Narrow p (now triples) (now counts)) ⌝ }
-    requires { ⌜ (length (now narrow_limits) ≡ 9) × (length (now narrow_inverses) ≡ 9) × (length (now raises) ≡ 9) ⌝ }
-    requires { ⌜ NarrowTables (settings .ratio) (now narrow_limits) (now narrow_inverses) (now raises)
+    requires { ⌜ (length (now bounds) ≡ 9) × (length (now factors) ≡ 9) × (length (now raises) ≡ 9) ⌝ }
+    requires { ⌜ NarrowTables (settings .ratio) (now bounds) (now factors) (now raises)
         × Tables (settings .ratio) (now limits) (now inverses) ⌝ }
     requires { ⌜ (length (now running) ≡ 8) × (length (now multipliers) ≡ 8) × (length (now slacks) ≡ 8) ⌝ }
     requires { ⌜ ((f : ℕ) × (0 < getD (now running) f 0)) × ((f : ℕ) → 0 < getD (now running) f 0 → f < p .lanes) ⌝ }
@@ -73,8 +73,8 @@ pub fn advance(
     lane_values::write_values(
         counts,
         settings.ratio,
-        narrow_limits,
-        narrow_inverses,
+        bounds,
+        factors,
         raises,
         limits,
         inverses,
