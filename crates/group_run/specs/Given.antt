@@ -13,7 +13,7 @@ use Rattle.model.specs.Iteration.{occurrences}
 use Rattle.model.specs.Bounds.{Ready}
 use Rattle.lanes.specs.declared.Plan.{Plan}
 use Rattle.lanes.specs.Lanes.{laneSize}
-use Rattle.group_step.specs.Frames.{runs}
+use Rattle.lane_step.specs.Step.{runs}
 
 -- the triples of a code with the plan's sizes, their counts, and the costs of F frames, of which those that run have no false one
 pub record Given (p : Plan) (F : ℕ) (o : Settings) (ts counts : List ℕ) (costs : List ℤ) (running : List ℕ) : Type 0 where

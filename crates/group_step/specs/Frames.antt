@@ -1,5 +1,5 @@
 -- What the frames of a group hold while they run: in lanes those that run, in their parts of the lists those that do not. Definitions only.
-use mathlib.Core.Bool.{Bool, true, false, cond, not, _&&_}
+use mathlib.Core.Bool.{Bool, true, false, cond, _&&_}
 use mathlib.Core.List.{List}
 use mathlib.Core.Path.{_≡_}
 use Prim.Native.Nat.{ℕ, _*_, _<_}
@@ -14,10 +14,7 @@ use Rattle.model.specs.Run.{Ended}
 use Rattle.model.specs.Group.{Frame}
 use Rattle.lanes.specs.declared.Plan.{Plan}
 use Rattle.lanes.specs.Lanes.{laneState}
-
--- a frame's mark is not 0 while it runs
-abbrev pub runs : List ℕ → ℕ → Bool
-runs running f = not (eqb (getD running f 0) 0)
+use Rattle.lane_step.specs.Step.{runs}
 
 -- what frame f has in its parts of S, c and s
 abbrev pub partState : Plan → List ℤ → List ℤ → List ℤ → ℕ → State

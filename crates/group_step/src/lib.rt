@@ -18,8 +18,8 @@ ghost use Rattle.lanes.specs.Lanes.{inLane, valuesAt, Fits, laneState, laneWeig
 ghost use Rattle.lane_values.specs.Valued.{NarrowTables, Counted};
 ghost use Rattle.lane_triples.specs.Walk.{Tripled, Narrow};
 ghost use Rattle.lane_renewal.specs.Counting.{settledIn};
-ghost use Rattle.lane_step.specs.Step.{systemFor, Weighed, Summed, Small};
-ghost use Rattle.group_step.specs.Frames.{runs, partState, frameNow, Held, Marks, stoppedBy};
+ghost use Rattle.lane_step.specs.Step.{runs, systemFor, Weighed, Summed, Small};
+ghost use Rattle.group_step.specs.Frames.{partState, frameNow, Held, Marks, stoppedBy};
 use lanes::Plan;
 use model::Settings;
 

@@ -1,8 +1,11 @@
 -- One iteration in lanes. Definitions only.
+use mathlib.Core.Bool.{Bool, not, _||_}
 use mathlib.Core.List.{List}
 use mathlib.Core.Path.{_≡_}
-use Prim.Native.Nat.{ℕ}
+use Prim.Native.Nat.{ℕ, _+_}
+use lib.Dec.{eqb}
 use lib.IntN.{ℤ, pos, _*ℤ_}
+use lib.ListN.{getD}
 use Rattle.lists.specs.Tabulated.{tab}
 use Rattle.model.specs.Code.{Code}
 use Rattle.model.specs.Splitting.{System}
@@ -11,6 +14,13 @@ use Rattle.model.specs.Bounds.{RowsWithin}
 use Rattle.lanes.specs.declared.Plan.{Plan}
 use Rattle.lanes.specs.Lanes.{laneRows, laneSums, laneWeighed, SumsKept}
 use Rattle.lane_values.specs.Valued.{WeighedWithin}
+
+-- a frame runs, by its mark, in one of the four lanes from l on
+abbrev pub runs : List ℕ → ℕ → Bool
+runs running f = not (eqb (getD running f 0) 0)
+
+abbrev pub someRun : List ℕ → ℕ → Bool
+someRun running l = runs running l || (runs running (l + 1) || (runs running (l + 2) || runs running (l + 3)))
 
 -- the system of the code k that the plan's sizes and the triples ts make
 abbrev pub systemFor : Code → Plan → List ℕ → System

@@ -1,10 +1,9 @@
 // One iteration (document 01) of all frames of a group that run, in lanes: the values from the sums of their rows, then the rows, with the sums of the iteration to
 // come. A four of lanes in which no frame runs is left out.
 ghost use mathlib.Core.Path.{_≡_};
-ghost use mathlib.Core.Bool.{true, not, _||_};
+ghost use mathlib.Core.Bool.{true, cond};
 ghost use mathlib.Core.List.{List};
 ghost use Prim.Native.Nat.{ℕ, suc, _+_, _-_, _≤_, _<_};
-ghost use lib.Dec.{eqb};
 ghost use lib.IntN.{ℤ};
 ghost use lib.ListN.{length, getD};
 ghost use Rattle.quotient.specs.Quotient.{quotient};
@@ -17,17 +16,33 @@ ghost use Rattle.lanes.specs.Lanes.{Fits, laneState, laneWeighed};
 ghost use Rattle.lane_values.specs.Valued.{NarrowTables, Counted};
 ghost use Rattle.lane_triples.specs.Walk.{Tripled, Narrow};
 ghost use Rattle.lane_renewal.specs.Counting.{settledIn};
-ghost use Rattle.lane_step.specs.Step.{systemFor, Weighed, Summed, Small};
+ghost use Rattle.lane_step.specs.Step.{someRun, systemFor, Weighed, Summed, Small};
 use lanes::Plan;
 use model::Settings;
 
 // Whether a frame runs in one of the four lanes from l on.
 fn some_run(running: &[u32], l: usize) -> bool
-    requires { ⌜ l + 4 ≤ length (now running) ⌝ }
-    ensures { λ r. ⌜ r ≡ (not (eqb (getD (now (running .entry)) l 0) 0) || (not (eqb (getD (now (running .entry)) (l + 1) 0) 0)
-        || (not (eqb (getD (now (running .entry)) (l + 2) 0) 0) || not (eqb (getD (now (running .entry)) (l + 3) 0) 0)))) ⌝ }
+    requires { ⌜ (length (now running) ≡ 8) × (l ≤ 4) ⌝ }
+    ensures { λ r. ⌜ r ≡ someRun (now (running .entry)) l ⌝ }
 {
-    (running[l] != 0) | ((running[l + 1] != 0) | ((running[l + 2] != 0) | (running[l + 3] != 0)))
+    (running[l] != 0)
+        | ((running[l + 1] != 0) | ((running[l + 2] != 0) | (running[l + 3] != 0)))
+}
+
+// Where the fours of lanes begin in which a frame runs,
+fn first_lane(running: &[u32]) -> usize
+    requires { ⌜ length (now running) ≡ 8 ⌝ }
+    ensures { λ l. ⌜ l ≡ cond (someRun (now (running .entry)) 0) 0 4 ⌝ }
+{
+    if some_run(running, 0) { 0 } else { 4 }
+}
+
+// and where they end.
+fn end_of_lanes(running: &[u32]) -> usize
+    requires { ⌜ length (now running) ≡ 8 ⌝ }
+    ensures { λ l. ⌜ l ≡ cond (someRun (now (running .entry)) 4) 8 4 ⌝ }
+{
+    if some_run(running, 4) { 8 } else { 4 }
 }
 
 // Every frame that runs goes one iteration on, from the sums in list i; its totals tell whether it then settles. It may be known that all is narrow.
@@ -82,16 +97,14 @@ pub fn advance(
         i,
         work,
     );
-    let from = if some_run(running, 0) { 0 } else { 4 };
-    let to = if some_run(running, 4) { 8 } else { 4 };
     lane_renewal::renew(
         triples,
         counts,
         known,
         p,
         1 - i,
-        from,
-        to,
+        first_lane(running),
+        end_of_lanes(running),
         running,
         settings.tolerance as u64,
         work,
