@@ -1,0 +1,35 @@
+-- Where the entries of lanes stand in the work list, and what a store to one of them leaves. Assumes nothing.
+use Rattle.integers.proofs.Prelude.{_≡_, refl, sym, ap, _∙_, List, ℕ, _+_, _*_, _/_, _%_, _≤_, _<_, arith, ℤ, pos, length, set}
+use mathlib.Core.Logic.{_≢_}
+use native.Mathlib.Nat.{mul-le-mul-left, mul-add-div, mul-add-mod-self-left, div-eq-of-lt, mod-eq-of-lt}
+use lib.Seq.{getD-set-same, getD-set-other}
+use Rattle.lanes.specs.Lanes.{inLane}
+
+module _ (L : ℕ) where
+  -- entry j of lane l is among the first n of all lanes
+  pub place-below : (n j l : ℕ) → l < L → j < n → L * j + l < L * n
+  place-below n j l h k = omega (arith, mul-le-mul-left L k)
+
+  -- its place tells which it is
+  pub place-entry : (j l k m : ℕ) → l < L → m < L → L * j + l ≡ L * k + m → j ≡ k
+  place-entry j l k m g h e = sym (entry j l g) ∙ ap (λ (i : ℕ). i / L) e ∙ entry k m h
+    where
+      entry : (j l : ℕ) → l < L → (L * j + l) / L ≡ j
+      entry j l h = let z : l / L ≡ 0 = div-eq-of-lt h in mul-add-div (omega arith) j l ∙ rw z (omega arith)
+
+  pub place-lane : (j l k m : ℕ) → l < L → m < L → L * j + l ≡ L * k + m → l ≡ m
+  place-lane j l k m g h e = sym (lane j l g) ∙ ap (λ (i : ℕ). i % L) e ∙ lane k m h
+    where
+      lane : (j l : ℕ) → l < L → (L * j + l) % L ≡ l
+      lane j l h = mul-add-mod-self-left L j l ∙ mod-eq-of-lt h
+
+  -- ---- x is stored as entry j of lane l
+  module _ (w : List ℤ) (l j : ℕ) (x : ℤ) (h : l < L) where
+    pub set-here : L * j + l < length w → inLane L (set w (L * j + l) x) l j ≡ x
+    set-here k = getD-set-same w (L * j + l) x (pos 0) k
+
+    pub set-entry : (k : ℕ) → k ≢ j → inLane L (set w (L * j + l) x) l k ≡ inLane L w l k
+    set-entry k d = getD-set-other w (L * j + l) (L * k + l) x (pos 0) (λ e. d (place-entry k l j l h h e))
+
+    pub set-lane : (m k : ℕ) → m < L → m ≢ l → inLane L (set w (L * j + l) x) m k ≡ inLane L w m k
+    set-lane m k g d = getD-set-other w (L * j + l) (L * k + m) x (pos 0) (λ e. d (place-lane k m j l g h e))
