@@ -1,5 +1,5 @@
 -- Where the entries of lanes stand in the work list, and what a store to one of them leaves. Assumes nothing.
-use Rattle.integers.proofs.Prelude.{_≡_, refl, sym, ap, _∙_, List, ℕ, _+_, _*_, _/_, _%_, _≤_, _<_, arith, ℤ, pos, length, set}
+use Rattle.integers.proofs.Prelude.{_≡_, sym, ap, _∙_, List, ℕ, _+_, _*_, _/_, _%_, _<_, arith, ℤ, pos, length, set}
 use mathlib.Core.Logic.{_≢_}
 use native.Mathlib.Nat.{mul-le-mul-left, mul-add-div, mul-add-mod-self-left, div-eq-of-lt, mod-eq-of-lt}
 use lib.Seq.{getD-set-same, getD-set-other}
