@@ -1,9 +1,10 @@
 -- Where the entries of lanes stand in the work list, and what a store to one of them leaves. Assumes nothing.
-use Rattle.integers.proofs.Prelude.{_≡_, sym, ap, _∙_, List, ℕ, _+_, _*_, _/_, _%_, _<_, arith, ℤ, pos, length, set}
-use mathlib.Core.Logic.{_≢_}
-use native.Mathlib.Nat.{mul-le-mul-left, mul-add-div, mul-add-mod-self-left, div-eq-of-lt, mod-eq-of-lt}
+use Rattle.integers.proofs.Prelude.{_≡_, sym, ap, _∙_, List, ℕ, _+_, _*_, _/_, _%_, _^_, _≤_, _<_, arith, ℤ, pos, length, set}
+use mathlib.Core.Logic.{_≢_, ⊎-elim}
+use native.Mathlib.Nat.{mul-le-mul, mul-le-mul-left, mul-add-div, mul-add-mod-self-left, div-eq-of-lt, mod-eq-of-lt}
 use lib.Seq.{getD-set-same, getD-set-other}
-use Rattle.lanes.specs.Lanes.{inLane}
+use Rattle.lanes.specs.declared.Plan.{Plan}
+use Rattle.lanes.specs.Lanes.{inLane, laneSize, Fits}
 
 module _ (L : ℕ) where
   -- entry j of lane l is among the first n of all lanes
@@ -33,3 +34,22 @@ module _ (L : ℕ) where
 
     pub set-lane : (m k : ℕ) → m < L → m ≢ l → inLane L (set w (L * j + l) x) m k ≡ inLane L w m k
     set-lane m k g d = getD-set-other w (L * j + l) (L * k + m) x (pos 0) (λ e. d (place-lane k m j l g h e))
+
+-- ---- a list of lanes
+module _ {p : Plan} {w : List ℤ} (f : Fits p w) where
+  pub lanes-few : p .lanes ≤ 8
+  lanes-few = ⊎-elim (λ e. omega arith) (λ e. omega arith) (f .lanes)
+
+  pub lane-short : laneSize p ≤ 2 ^ 17
+  lane-short = omega (arith, f .triples, f .variables, f .bits)
+
+  pub list-short : length w ≤ 2 ^ 20
+  list-short = omega (arith, f .long, mul-le-mul lanes-few lane-short)
+
+  -- entry j of lane l stands in it
+  pub place-in : (l j : ℕ) → l < p .lanes → j < laneSize p → p .lanes * j + l < length w
+  place-in l j h k = omega (arith, f .long, place-below (p .lanes) (laneSize p) j l h k)
+
+  -- another list of that length
+  pub fits-same : (w′ : List ℤ) → length w′ ≡ length w → Fits p w′
+  fits-same w′ e = record { lanes = f .lanes; triples = f .triples; variables = f .variables; bits = f .bits; long = e ∙ f .long }
