@@ -1,15 +1,19 @@
 -- Where the entries of lanes stand in the work list, and what a store to one of them leaves. Assumes nothing.
 use Rattle.integers.proofs.Prelude.{_≡_, sym, ap, _∙_, List, ℕ, _+_, _*_, _/_, _%_, _^_, _≤_, _<_, arith, ℤ, pos, length, set}
 use mathlib.Core.Logic.{_≢_, ⊎-elim}
-use native.Mathlib.Nat.{mul-le-mul, mul-le-mul-left, mul-add-div, mul-add-mod-self-left, div-eq-of-lt, mod-eq-of-lt}
+use native.Mathlib.Nat.{mul-le-mul, mul-le-mul-left, mul-le-mul-right, mul-add-div, mul-add-mod-self-left, div-eq-of-lt, mod-eq-of-lt}
 use lib.Seq.{getD-set-same, getD-set-other}
 use Rattle.lanes.specs.declared.Plan.{Plan}
-use Rattle.lanes.specs.Lanes.{inLane, laneSize, Fits}
+use Rattle.lanes.specs.Lanes.{inLane, sumsAt, weighedAt, laneSize, Fits}
 
 module _ (L : ℕ) where
   -- entry j of lane l is among the first n of all lanes
   pub place-below : (n j l : ℕ) → l < L → j < n → L * j + l < L * n
   place-below n j l h k = omega (arith, mul-le-mul-left L k)
+
+  -- entry v behind entry j of lane l, which stands at i
+  pub place-behind : (j l v i : ℕ) → i ≡ L * j + l → i + L * v ≡ L * (j + v) + l
+  place-behind j l v i e = omega (arith, e)
 
   -- its place tells which it is
   pub place-entry : (j l k m : ℕ) → l < L → m < L → L * j + l ≡ L * k + m → j ≡ k
@@ -35,6 +39,10 @@ module _ (L : ℕ) where
     pub set-lane : (m k : ℕ) → m < L → m ≢ l → inLane L (set w (L * j + l) x) m k ≡ inLane L w m k
     set-lane m k g d = getD-set-other w (L * j + l) (L * k + m) x (pos 0) (λ e. d (place-lane k m j l g h e))
 
+-- ---- the parts of a lane: both lists of sums stand before W × L
+pub sums-end : (p : Plan) (i : ℕ) → i ≤ 1 → sumsAt p i + (p .variables + p .bits) ≤ weighedAt p
+sums-end p i h = omega (arith, mul-le-mul-right (p .variables + p .bits) h)
+
 -- ---- a list of lanes
 module _ {p : Plan} {w : List ℤ} (f : Fits p w) where
   pub lanes-few : p .lanes ≤ 8
@@ -49,6 +57,9 @@ module _ {p : Plan} {w : List ℤ} (f : Fits p w) where
   -- entry j of lane l stands in it
   pub place-in : (l j : ℕ) → l < p .lanes → j < laneSize p → p .lanes * j + l < length w
   place-in l j h k = omega (arith, f .long, place-below (p .lanes) (laneSize p) j l h k)
+
+  pub behind-in : (j l v i : ℕ) → i ≡ p .lanes * j + l → l < p .lanes → j + v < laneSize p → i + p .lanes * v < length w
+  behind-in j l v i e h k = omega (arith, place-behind (p .lanes) j l v i e, place-in l (j + v) h k)
 
   -- another list of that length
   pub fits-same : (w′ : List ℤ) → length w′ ≡ length w → Fits p w′
