@@ -54,6 +54,10 @@ module _ {p : Plan} {w : List ℤ} (f : Fits p w) where
   pub list-short : length w ≤ 2 ^ 20
   list-short = omega (arith, f .long, mul-le-mul lanes-few lane-short)
 
+  -- the entries j of all lanes begin in it, or at its end
+  pub part-in : (j : ℕ) → j ≤ laneSize p → p .lanes * j ≤ length w
+  part-in j h = omega (arith, f .long, mul-le-mul-left (p .lanes) h)
+
   -- entry j of lane l stands in it
   pub place-in : (l j : ℕ) → l < p .lanes → j < laneSize p → p .lanes * j + l < length w
   place-in l j h k = omega (arith, f .long, place-below (p .lanes) (laneSize p) j l h k)

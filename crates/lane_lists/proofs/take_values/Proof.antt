@@ -1,94 +1,82 @@
+-- `lane_lists::take_values` meets its contract: after v turns the first v values are the lane's. Assumes nothing.
+use Rattle.integers.proofs.Prelude.{_≡_, refl, ap, _∙_, ℕ, _+_, _-_, _*_, _^_, _≤_, _<_, arith, needs, ℤ, pos, _-ℤ_, length, w16, w32, toZ, ofZ}
+use Rattle.integers.proofs.Machine.{read-back}
+use Rattle.lists.specs.Tabulated.{over}
+use Rattle.lists.proofs.Tabulated.{length-over, over-stored, over-whole}
+use Rattle.quotient.specs.Quotient.{unit}
+use Rattle.model.specs.Iteration.{at}
+use Rattle.lanes.specs.Lanes.{inLane, valuesAt}
+use Rattle.lanes.proofs.Places.{lanes-few, list-short, part-in, place-behind, behind-in}
 use Rattle.lane_lists.proofs.take_values.Statement.{statement}
 use Rattle.lane_lists.proofs.take_values.Tie as tie
-use Rattle.lane_lists.proofs.take_values.Reads as reads
-use Rattle.lane_lists.proofs.take_values.Lts as lts
-use Rattle.lane_lists.proofs.lowered.Reads as lowered-reads
-use Rattle.lanes.proofs.values_at.Reads as values-at-reads
 
 abbrev Inv-loop : tie.InvT-loop
-Inv-loop work p l values₀ first v₀ v-end values v = ?
+Inv-loop work p l values₀ first v₀ v-end values v =
+    (v ≤ length values₀) × (values ≡ over v (λ u. inLane (p .lanes) work l (valuesAt p + u) -ℤ pos unit) values₀)
 
 abbrev μ-loop : tie.MeasureT-loop
-μ-loop work p l values₀ first v₀ v-end values v = ?
+μ-loop work p l values₀ first v₀ v-end values v = length values₀ - v
 
--- src/lib.rt:82:17
-values-at-requires : tie.Need-values-at-requires Inv-loop μ-loop
-values-at-requires c κs = ?
+long : (l : tie.At-loop Inv-loop μ-loop) → length (l .loop .values) ≡ length (l .before .before .args .values .now)
+long l = ap length (l .loop .inv .1) ∙ length-over (l .loop .v) _ (l .before .before .args .values .now) (l .loop .inv .0)
 
--- src/lib.rt:82:17
 add-first : tie.Need-add-first Inv-loop μ-loop
-add-first c = ?
+add-first c = let s = c .before in let f = s .pre .0 .0 in record { fits = omega (arith, c .values-at .ensures, part-in f (valuesAt (s .args .p)) (omega arith), list-short f, lanes-few f, s .pre .0 .1) }
 
--- src/lib.rt:83:5
-loop-holds : tie.Need-loop-holds Inv-loop μ-loop
-loop-holds c = ?
+-- the place of a value
+module _ (c : tie.In-loop Inv-loop μ-loop) where
+  abbrev start : tie.Start Inv-loop μ-loop
+  start = c .before .before .before
 
--- src/lib.rt:84:42
-mul-lowered : tie.Need-mul-lowered Inv-loop μ-loop
-mul-lowered c = ?
+  abbrev v : ℕ
+  v = c .before .loop .v
 
--- src/lib.rt:84:34
-add-lowered : tie.Need-add-lowered Inv-loop μ-loop
-add-lowered c = ?
+  abbrev first : ℕ
+  first = c .before .before .values-at .result + start .args .l
 
--- src/lib.rt:84:29
-mul-lowered-2 : tie.Need-mul-lowered-2 Inv-loop μ-loop
-mul-lowered-2 c = ?
+  first-is : first ≡ start .args .p .lanes * valuesAt (start .args .p) + start .args .l
+  first-is = omega (arith, c .before .before .values-at .ensures)
 
--- src/lib.rt:84:29
-shared-slice-copy-out-lowered : tie.Need-shared-slice-copy-out-lowered Inv-loop μ-loop
-shared-slice-copy-out-lowered c = ?
+  value-in : first + start .args .p .lanes * v < length (start .args .work .now)
+  value-in = behind-in (start .pre .0 .0) (valuesAt (start .args .p)) (start .args .l) v first first-is (start .pre .0 .1) (omega (arith, c .loop-test .taken, start .pre .0 .2))
 
--- src/lib.rt:84:21
-lowered-requires : tie.Need-lowered-requires Inv-loop μ-loop
-lowered-requires c κs = ?
+  value-small : first + start .args .p .lanes * v ≤ 2 ^ 20
+  value-small = omega (arith, value-in, list-short (start .pre .0 .0))
 
--- src/lib.rt:84:9
-mul-t16 : tie.Need-mul-t16 Inv-loop μ-loop
-mul-t16 c = ?
+abbrev value-of : (c : tie.In-loop Inv-loop μ-loop) → ℤ
+value-of c = let a = start c .args in inLane (a .p .lanes) (a .work .now) (a .l) (valuesAt (a .p) + v c)
 
--- src/lib.rt:84:9
-slice-set-from-values : tie.Need-slice-set-from-values Inv-loop μ-loop
-slice-set-from-values c = ?
+entry : (c : tie.After-lowered-arg Inv-loop μ-loop) → let i = c .before .before in
+    toZ w32 (ofZ w32 (at (start i .args .work .now) (first i + start i .args .p .lanes * v i))) ≡ value-of i
+entry c =
+    let i = c .before .before in
+    let a = start i .args in
+    read-back w32 (c .lowered-arg .given) (ap (at (a .work .now)) (place-behind (a .p .lanes) (valuesAt (a .p)) (a .l) (v i) (first i) (first-is i)))
 
--- src/lib.rt:83:9
-add-v : tie.Need-add-v Inv-loop μ-loop
-add-v c = ?
-
--- src/lib.rt:83:5
-loop-less : tie.Need-loop-less Inv-loop μ-loop
-loop-less c = ?
-
--- src/lib.rt:83:5
 loop-again : tie.Need-loop-again Inv-loop μ-loop
-loop-again c = ?
+loop-again c =
+    let b = c .before in
+    let i = b .before .before in
+    let l = i .before in
+    let a = start i .args in (
+      omega arith,
+      rw (l .loop .inv .1)
+          (over-stored w16 (l .loop .v) (λ u. inLane (a .p .lanes) (a .work .now) (a .l) (valuesAt (a .p) + u) -ℤ pos unit) (a .values .now) _ (omega (arith, i .loop-test .taken))
+          (record { sfits = c .lowered .ok }) (c .lowered .ensures ∙ ap (λ (z : ℤ). z -ℤ pos unit) (entry b))),
+    )
 
--- src/lib.rt:77:1
-same-length : tie.Need-same-length Inv-loop μ-loop
-same-length c = ?
-
--- src/lib.rt:77:1
 returns : tie.Need-returns Inv-loop μ-loop
-returns c = ?
+returns c =
+    let l = c .before in
+    let s = l .before .before in
+    let e : l .loop .v ≡ s .args .p .variables = omega (arith, s .pre .0 .2, c .loop-test .left) in
+    l .loop .inv .1 ∙ rw e (over-whole (s .args .p .variables) _ (s .args .values .now) (omega (arith, s .pre .0 .2)))
 
 pub take-values-spec : {M : Type 1} → statement M
 take-values-spec =
-    tie.close
-    (tie.spec
-    Inv-loop
-    μ-loop
-    values-at-requires
-    add-first
-    loop-holds
-    mul-lowered
-    add-lowered
-    mul-lowered-2
-    shared-slice-copy-out-lowered
-    lowered-requires
-    mul-t16
-    slice-set-from-values
-    add-v
-    loop-less
-    loop-again
-    same-length
-    returns)
+    tie.close (tie.spec Inv-loop μ-loop (λ c κs. (lanes-few (c .pre .0 .0), c .pre .0 .0 .triples)) add-first (λ c. (omega arith, refl))
+    (λ c. record { fits = omega (arith, value-small (c .before)) }) (λ c. record { fits = omega (arith, value-small (c .before)) })
+    (λ c. record { fits = omega (arith, value-small (c .before)) }) (λ c. value-in (c .before))
+    (λ c κs. let i = c .before .before in rw (entry c) (start i .pre .1 (v i) (omega (arith, i .loop-test .taken, start i .pre .0 .2))))
+    (λ c. search needs) (λ c. omega (arith, long (c .before .before .before .before)))
+    (λ c. search needs) (λ c. search needs) loop-again (λ c. long (c .before)) returns)
