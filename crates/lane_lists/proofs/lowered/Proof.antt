@@ -1,5 +1,5 @@
 -- `lane_lists::lowered` meets its contract. Assumes nothing.
-use Rattle.integers.proofs.Prelude.{_≡_, _*_, _+_, _≤_, arith, ℤ, natAbs, pos, _-ℤ_, _≤ℤ_, w16, w32, toZ, ofZ}
+use Rattle.integers.proofs.Prelude.{_*_, _+_, _≤_, arith, ℤ, natAbs, pos, _-ℤ_, _≤ℤ_, w16, w32, toZ, ofZ}
 use Rattle.integers.proofs.Linear.{split, toℕ}
 use Rattle.integers.proofs.Machine.{Worth, param, literal, minus, fits, stored}
 use Rattle.quotient.specs.Quotient.{unit}

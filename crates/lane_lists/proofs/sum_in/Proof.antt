@@ -3,7 +3,7 @@ use Rattle.integers.proofs.Prelude.{_≡_, ap, ap₂, _∙_, ℕ, _+_, _*_, _^_
 use Rattle.integers.proofs.Linear.{split, toℕ}
 use Rattle.integers.proofs.Machine.{Worth, read, also, read-back, fits, stored}
 use Rattle.model.specs.Iteration.{at}
-use Rattle.lanes.specs.Lanes.{inLane, sumsAt, laneSize, lowPart, laneSum}
+use Rattle.lanes.specs.Lanes.{inLane, sumsAt, lowPart}
 use Rattle.lanes.proofs.Places.{place-behind, list-short, behind-in, sums-end}
 use Rattle.lane_lists.proofs.sum_in.Statement.{statement}
 use Rattle.lane_lists.proofs.sum_in.Tie as tie

@@ -1,6 +1,6 @@
 -- `lane_lists::take_rows` meets its contract: after i turns the first i rows are the lane's. Assumes nothing.
-use Rattle.integers.proofs.Prelude.{_≡_, refl, ap, _∙_, ℕ, _+_, _-_, _*_, _^_, _≤_, _<_, arith, needs, length, w32}
-use Rattle.lists.specs.Tabulated.{tab, over}
+use Rattle.integers.proofs.Prelude.{_≡_, refl, ap, _∙_, _+_, _-_, _*_, _^_, _≤_, _<_, arith, needs, length, w32}
+use Rattle.lists.specs.Tabulated.{over}
 use Rattle.lists.proofs.Tabulated.{length-over, over-stored, over-whole}
 use Rattle.lanes.specs.Lanes.{inLane}
 use Rattle.lanes.proofs.Places.{list-short, place-in}

@@ -1,5 +1,5 @@
 -- `lane_lists::take_sums` meets its contract: after v turns the first v sums are the lane's. Assumes nothing.
-use Rattle.integers.proofs.Prelude.{_≡_, refl, ap, _∙_, _+_, _-_, _*_, _≤_, arith, needs, length, w64}
+use Rattle.integers.proofs.Prelude.{_≡_, refl, ap, _∙_, _-_, _≤_, arith, needs, length, w64}
 use Rattle.lists.specs.Tabulated.{over}
 use Rattle.lists.proofs.Tabulated.{length-over, over-stored, over-whole}
 use Rattle.lanes.specs.Lanes.{sumsAt, laneSum}
