@@ -1,8 +1,8 @@
 -- A lane before an iteration, when its values are written, and when its rows are renewed. Assumes nothing.
 use Rattle.integers.proofs.Prelude.{_≡_, refl, sym, ap, ap₂, _∙_, Bool, true, false, List, ℕ, zero, suc, _+_, _-_, _*_, _^_, _≤_, _<_, arith, decLt}
-use Rattle.integers.proofs.Prelude.{ltb, lt-ltb, le-ltb, ℤ, pos, natAbs, negℤ, _+ℤ_, _-ℤ_, _*ℤ_, getD}
+use Rattle.integers.proofs.Prelude.{ltb, lt-ltb, le-ltb, ℤ, pos, natAbs, negℤ, _+ℤ_, _-ℤ_, _*ℤ_, _≤ℤ_, getD}
 use native.Mathlib.Nat.{mul-le-mul}
-use Rattle.integers.proofs.Linear.{split, toℕ, abs-add}
+use Rattle.integers.proofs.Linear.{split, toℕ, readℤ, about, about-sum, abs-add}
 use Rattle.lists.specs.Tabulated.{tab}
 use Rattle.lists.proofs.Tabulated.{tab-same, getD-tab}
 use Rattle.quotient.specs.Quotient.{unit, quotient}
@@ -29,6 +29,9 @@ stated {S} {S′} {c} {c′} {s} {s′} d e f = rw (d, e, f) refl
 -- what is raised and lowered again
 lowered : (z : ℤ) (n : ℕ) → z +ℤ pos n -ℤ pos n ≡ z
 lowered z n = rw (split z) (simp toℕ (omega arith))
+
+raised : (z : ℤ) → natAbs z ≤ unit → (pos 0 ≤ℤ (z +ℤ pos unit)) × (natAbs (z +ℤ pos unit) ≤ 2 * unit)
+raised z h = (omega (arith, readℤ, about z, about-sum z (pos unit)), omega (arith, abs-add z (pos unit)))
 
 -- entries that are taken only below n
 when-same : (n x : ℕ) (y z : ℤ) → (x < n → y ≡ z) → (y when ltb x n) ≡ (z when ltb x n)
@@ -108,7 +111,7 @@ module _ {p : Plan} {counts : List ℕ} (o : Settings) {i : ℕ} (two : i ≤ 1)
   pub due : RowsWithin mostDone (laneRows p w l) → Due p (1 - i) w₁ l
   due within = record {
     within = rw rows-first within;
-    values = λ x h. rw (valued .values x h) (omega (arith, abs-add (c x) (pos unit), value-small x));
+    values = λ x h. rw (valued .values x h) (raised (c x) (value-small x) .1);
     cleared = valued .cleared;
   }
 
@@ -140,6 +143,7 @@ module _ {p : Plan} {counts : List ℕ} (o : Settings) {i : ℕ} (two : i ≤ 1)
           rows = rw rows-second (rows-renewed ts (laneRows p w₁ l) (laneValues p w₁ l) first-small (4 * p .triples) n (rw rows-first (s .rows)));
           first = b .0;
           second = b .1;
+          values = λ x h. rw (walked .values x h, valued .values x h) (raised (c x) (value-small x));
           weighed = λ x. rw (weighed-second x) (s .weighed x);
         }
 
@@ -194,5 +198,6 @@ module _ {p : Plan} {counts : List ℕ} (o : Settings) {i : ℕ} (two : i ≤ 1)
           rows = rw rows (record { multipliers = λ j. omega (arith, s .rows .multipliers j); slacks = s .rows .slacks });
           first = b .0;
           second = b .1;
+          values = λ x h. rw (same (valuesAt p + x), valued .values x h) (raised (c x) (value-small x));
           weighed = λ x. rw (weighed-left x) (s .weighed x);
         }
