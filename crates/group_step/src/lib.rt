@@ -1,10 +1,10 @@
 // The group step (document 02, L7): "goes through the code for all frames together and takes every running frame one iteration on". A frame that stops with it is
 // taken out of its lane, into its parts of the lists.
 ghost use mathlib.Core.Path.{_≡_};
-ghost use mathlib.Core.Bool.{true, cond};
+ghost use mathlib.Core.Bool.{true, cond, _&&_};
 ghost use mathlib.Core.List.{List};
 ghost use Prim.Native.Nat.{ℕ, suc, _+_, _-_, _*_, _≤_, _<_};
-ghost use lib.Dec.{eqb};
+ghost use lib.Dec.{ltb, eqb};
 ghost use lib.IntN.{ℤ, pos, natAbs};
 ghost use lib.ListN.{length, getD};
 ghost use lib.Signed.{_≤ℤ_};
@@ -48,6 +48,13 @@ fn take_out(
     lane_lists::take_rows(work, p, f, &mut rows[r..r_end]);
 }
 
+// Whether a frame runs on after k iterations, of which the last settled it or not.
+fn runs_on(settled: u32, k: u32, limit: u32) -> bool
+    ensures { λ r. ⌜ r ≡ (eqb settled 0 && ltb k limit) ⌝ }
+{
+    (settled == 0) & (k < limit)
+}
+
 // Frame f, after its k-th iteration, is taken out if that stopped it.
 fn settle(
     settings: Settings,
@@ -82,7 +89,7 @@ fn settle(
 {
     if running[f] != 0 {
         let s = renewal::settles(multipliers[f], slacks[f], settings.tolerance as u64);
-        if (s != 0) | (settings.limit <= k) {
+        if !runs_on(s, k, settings.limit) {
             running[f] = 0;
             ks[f] = k;
             settled[f] = s;
