@@ -1,11 +1,14 @@
 -- What becomes of the frames when one of them may have stopped. Assumes nothing.
-use Rattle.integers.proofs.Prelude.{_≡_, refl, sym, ap, subst, _∙_, Bool, true, false, cond, not, _&&_, List, ℕ, zero, suc, _+_, _<_, arith, decLt, eqb, eqb-true, eqb-false, eq-eqb, ne-eqb, ltb, lt-ltb, le-ltb, ℤ}
+use Rattle.integers.proofs.Prelude.{_≡_, refl, sym, ap, subst, _∙_, Bool, true, false, cond, not, _&&_, List, ℕ, zero, suc, _+_, _-_, _<_, arith, decLt, eqb, eqb-true, eqb-false, eq-eqb, ne-eqb, ltb, lt-ltb, le-ltb, ℤ}
 use Rattle.integers.proofs.Prelude.{length, getD, set, length-set}
 use lib.Seq.{getD-set-same, getD-set-other}
+use Rattle.quotient.specs.Quotient.{quotient}
 use Rattle.model.specs.declared.Settings.{Settings}
 use Rattle.model.specs.Limits.{mostFrames}
-use Rattle.model.specs.Iteration.{State}
-use Rattle.model.specs.Group.{Frame}
+use Rattle.model.specs.Iteration.{State, iterate}
+use Rattle.model.specs.Splitting.{System}
+use Rattle.model.specs.Run.{stop}
+use Rattle.model.specs.Group.{Frame, onward}
 use Rattle.lanes.specs.declared.Plan.{Plan}
 use Rattle.lanes.specs.Lanes.{laneState}
 use Rattle.lane_step.specs.Step.{runs}
@@ -80,3 +83,23 @@ settled-next o σ x₀ x y f h e g = by (decLt g f) (decLt f g)
         let same : g ≡ f = omega arith in
         let kept : x g ≡ x₀ g = h g ∙ rw (le-ltb g f (omega arith)) refl in
         e g ∙ rw (eq-eqb g f same, lt-ltb g (f + 1) (omega arith)) (ap (stoppedBy o (σ g)) kept)
+
+-- ---- a group step, of one frame: where it runs its lane has gone one iteration on, with the sums in the other list
+pub steps-on : (g : System) (o : Settings) (costs : List ℤ) (p : Plan) (i k : ℕ) (w w′ : List ℤ) (m ks ss : List ℕ) (S c s : List ℤ) (f x : ℕ)
+    → (runs m f ≡ true → (laneState p i w′ f ≡ iterate quotient g o costs (laneState p (1 - i) w f)) × (x ≡ stop g o (laneState p (1 - i) w f) (laneState p i w′ f)))
+    → stoppedBy o x (frameNow p i (suc k) w′ m ks ss S c s f) ≡ onward g o costs (frameNow p (1 - i) k w m ks ss S c s f)
+unfolding onward
+steps-on g o costs p i k w w′ m ks ss S c s f x h = by (runs m f) refl
+  where
+    by : (b : Bool) → runs m f ≡ b → stoppedBy o x (frameNow p i (suc k) w′ m ks ss S c s f) ≡ onward g o costs (frameNow p (1 - i) k w m ks ss S c s f)
+    by false e = rw e refl
+    by true e = let q = h e in rw (e, q .1 ∙ ap (stop g o (laneState p (1 - i) w f)) (q .0), q .0) refl
+
+-- a frame that runs afterwards has run before
+pub ran : (o : Settings) (p : Plan) (i k : ℕ) (w : List ℤ) (m ks ss : List ℕ) (S c s : List ℤ) (m′ ks′ ss′ : List ℕ) (S′ c′ s′ : List ℤ) (f x : ℕ)
+    → frameNow p i k w m′ ks′ ss′ S′ c′ s′ f ≡ stoppedBy o x (frameNow p i k w m ks ss S c s f) → runs m′ f ≡ true → runs m f ≡ true
+ran o p i k w m ks ss S c s m′ ks′ ss′ S′ c′ s′ f x e h = by (runs m f) refl
+  where
+    by : (b : Bool) → runs m f ≡ b → b ≡ true
+    by true _ = refl
+    by false q = let r : true ≡ false = ap (λ (y : Frame). y .running) (rw (h, q) at e) in sym r

@@ -80,7 +80,7 @@ fn settle(
     requires { ⌜ f < frames ⌝ }
     ensures { λ _. ⌜ Marks frames (now (running .exit)) (now (ks .exit)) (now (settled .exit))
         × Held p frames (now (sums .exit)) (now (values .exit)) (now (rows .exit)) ⌝ }
-    ensures { λ _. ⌜ ((g : ℕ) → 
+    ensures { λ _. ⌜ ((g : ℕ) →
         let before = frameNow p i k (now (work .entry)) (now (running .entry)) (now (ks .entry)) (now (settled .entry))
         (now (sums .entry)) (now (values .entry)) (now (rows .entry)) g in
         frameNow p i k (now (work .entry)) (now (running .exit)) (now (ks .exit)) (now (settled .exit))

@@ -38,9 +38,11 @@ one-of f h = by (or-of (f 0) (f 1 || (f 2 || f 3)) h)
     last : (f 2 ≡ true) ⊎ (f 3 ≡ true) → (k : ℕ) × (k < 4) × (f k ≡ true)
     last (inl e) = (2, omega arith, e)
     last (inr e) = (3, omega arith, e)
+
     then : (f 1 ≡ true) ⊎ ((f 2 || f 3) ≡ true) → (k : ℕ) × (k < 4) × (f k ≡ true)
     then (inl e) = (1, omega arith, e)
     then (inr e) = last (or-of (f 2) (f 3) e)
+
     by : (f 0 ≡ true) ⊎ ((f 1 || (f 2 || f 3)) ≡ true) → (k : ℕ) × (k < 4) × (f k ≡ true)
     by (inl e) = (0, omega arith, e)
     by (inr e) = then (or-of (f 1) (f 2 || f 3) e)
@@ -98,15 +100,19 @@ module _ (p : Plan) (m : List ℕ) (lanes : (p .lanes ≡ 4) ⊎ (p .lanes ≡ 8
       either : (b : Bool) → (cond {A = ℕ} b 0 4 ≡ 0) ⊎ (cond {A = ℕ} b 0 4 ≡ 4)
       either true = inl refl
       either false = inr refl
+
       other : (b : Bool) → (cond {A = ℕ} b 8 4 ≡ 4) ⊎ (cond {A = ℕ} b 8 4 ≡ 8)
       other true = inr refl
       other false = inl refl
+
       eight : (p .lanes ≡ 4) ⊎ (p .lanes ≡ 8) → 4 < p .lanes → 8 ≤ p .lanes
       eight (inl e) h = absurd (omega arith)
       eight (inr e) h = omega arith
+
       four : (p .lanes ≡ 4) ⊎ (p .lanes ≡ 8) → 4 ≤ p .lanes
       four (inl e) = omega arith
       four (inr e) = omega arith
+
       room : (b : Bool) → someRun m 4 ≡ b → cond b 8 4 ≤ p .lanes
       room true h = let k = one-of (λ k. runs m (4 + k)) h in eight lanes (omega (arith, below (4 + k .0) (mark m (4 + k .0) (k .2))))
       room false h = four lanes

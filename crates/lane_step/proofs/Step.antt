@@ -91,6 +91,16 @@ one-of p counts zero n w l h s = s .first
 one-of p counts (suc zero) n w l h s = s .second
 one-of p counts (suc (suc i)) n w l h s = absurd (omega arith)
 
+-- what is small is so with more iterations done
+pub small-more : (p : Plan) (counts : List ℕ) (k n : ℕ) (w : List ℤ) (l : ℕ) → k ≤ n → Small p counts k w l → Small p counts n w l
+small-more p counts k n w l h s = record {
+  rows = record { multipliers = λ i. omega (arith, s .rows .multipliers i); slacks = s .rows .slacks };
+  first = s .first;
+  second = s .second;
+  values = s .values;
+  weighed = s .weighed;
+}
+
 module _ {p : Plan} {counts : List ℕ} (o : Settings) {i : ℕ} (two : i ≤ 1) {w w₁ : List ℤ} {l : ℕ} (valued : LaneValued p counts (o .ratio) i w w₁ l) where
   -- ---- the values are written
   abbrev c : ℕ → ℤ
@@ -195,7 +205,7 @@ module _ {p : Plan} {counts : List ℕ} (o : Settings) {i : ℕ} (two : i ≤ 1)
         let rows : laneRows p w₂ l ≡ laneRows p w l
         = tab-same (4 * p .triples) (inLane (p .lanes) w₂ l) (inLane (p .lanes) w l) (λ j h. same j ∙ valued .rows j h) in
         record {
-          rows = rw rows (record { multipliers = λ j. omega (arith, s .rows .multipliers j); slacks = s .rows .slacks });
+          rows = rw rows (small-more p counts n (suc n) w l (omega arith) s .rows);
           first = b .0;
           second = b .1;
           values = λ x h. rw (same (valuesAt p + x), valued .values x h) (raised (c x) (value-small x));

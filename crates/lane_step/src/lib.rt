@@ -25,8 +25,7 @@ fn some_run(running: &[u32], l: usize) -> bool
     requires { ⌜ (length (now running) ≡ 8) × (l ≤ 4) ⌝ }
     ensures { λ r. ⌜ r ≡ someRun (now (running .entry)) l ⌝ }
 {
-    (running[l] != 0)
-        | ((running[l + 1] != 0) | ((running[l + 2] != 0) | (running[l + 3] != 0)))
+    (running[l] != 0) | ((running[l + 1] != 0) | ((running[l + 2] != 0) | (running[l + 3] != 0)))
 }
 
 // Where the fours of lanes begin in which a frame runs,
@@ -81,8 +80,8 @@ pub fn advance(
         let a = laneState p (1 - i) (now (work .entry)) f in
         let b = laneState p i (now (work .exit)) f in
         (b ≡ Iteration.iterate quotient g settings costs a)
-        × (settledIn (settings .tolerance) (now (multipliers .exit)) (now (slacks .exit)) f ≡ Run.stop g settings a b)
-        × Summed p (now (triples .entry)) (1 - i) (now (work .exit)) f) ⌝ }
+        × (settledIn (settings .tolerance) (now (multipliers .exit)) (now (slacks .exit)) f ≡ Run.stop g settings a b)) ⌝ }
+    ensures { λ _. ⌜ ((f : ℕ) → 0 < getD (now (running .entry)) f 0 → Summed p (now (triples .entry)) (1 - i) (now (work .exit)) f) ⌝ }
     ensures { λ _. ⌜ (length (now (multipliers .exit)) ≡ 8) × (length (now (slacks .exit)) ≡ 8) ⌝ }
 {
     lane_values::write_values(

@@ -137,7 +137,7 @@ returns c =
         },
       ),
       rw (settles-is a)
-      (stopped (p s) (s .args .settings) (s .args .i) (s .args .k) (s .args .work .now) (s .args .running .now) (s .args .ks .now) (s .args .settled .now) (s .args .sums .now) (s .args .values .now) (s .args .rows .now) (f s) (σ s) _ _ _ (e .ensures) (in-running s) (in-ks s) (in-settled s) (does-run a) off),
+          (stopped (p s) (s .args .settings) (s .args .i) (s .args .k) (s .args .work .now) (s .args .running .now) (s .args .ks .now) (s .args .settled .now) (s .args .sums .now) (s .args .values .now) (s .args .rows .now) (f s) (σ s) _ _ _ (e .ensures) (in-running s) (in-ks s) (in-settled s) (does-run a) off),
     )
 
 returns-2 : tie.Need-returns-2

@@ -121,16 +121,22 @@ returns c =
           λ l x h. weighed-next m l h x,
           (
             λ f r k costs weighed summed.
-            let h = below s f r in
-            let a = first-runs (p s) (marks s) (s .pre .0 .0 .lanes) (below s) f r in
-            let b = last-runs (p s) (marks s) (s .pre .0 .0 .lanes) (below s) f r in
-            let x = walked m f h a b in
-            let settles = rw (m .before .before .before .before .before .before .first-lane .ensures, m .before .before .before .before .before .end-of-lanes .ensures) at (e .1 .1 .1 .0 f) in (
-              goes-on o (s .pre .0 .1) (v m f h) (s .pre .1 .0 .0) x k costs weighed summed,
-              settles a b r ∙ stops o (s .pre .0 .1) (v m f h) (s .pre .1 .0 .0) x k costs weighed summed,
-              summed-second o (s .pre .0 .1) (v m f h) (s .pre .1 .0 .0) x,
+                let h = below s f r in
+                let a = first-runs (p s) (marks s) (s .pre .0 .0 .lanes) (below s) f r in
+                let b = last-runs (p s) (marks s) (s .pre .0 .0 .lanes) (below s) f r in
+                let x = walked m f h a b in
+                let settles = rw (m .before .before .before .before .before .before .first-lane .ensures, m .before .before .before .before .before .end-of-lanes .ensures) at (e .1 .1 .1 .0 f) in (
+                  goes-on o (s .pre .0 .1) (v m f h) (s .pre .1 .0 .0) x k costs weighed summed,
+                  settles a b r ∙ stops o (s .pre .0 .1) (v m f h) (s .pre .1 .0 .0) x k costs weighed summed,
+                ),
+            (
+              λ f r.
+                  let h = below s f r in
+                  let a = first-runs (p s) (marks s) (s .pre .0 .0 .lanes) (below s) f r in
+                  let b = last-runs (p s) (marks s) (s .pre .0 .0 .lanes) (below s) f r in
+                  summed-second o (s .pre .0 .1) (v m f h) (s .pre .1 .0 .0) (walked m f h a b),
+              e .1 .1 .1 .1,
             ),
-            e .1 .1 .1 .1,
           ),
         ),
       ),
