@@ -119,16 +119,20 @@ fn costs_for_each_frame() {
     }
 }
 
+fn cut<T>(list: &mut Vec<T>) {
+    list.pop();
+}
+
 #[test]
 fn each_short_list() {
     let shorten: [fn(&mut Lent); 7] = [
-        |lent| drop(lent.lists.triples.pop()),
-        |lent| drop(lent.lists.counts.pop()),
-        |lent| drop(lent.lists.sums.pop()),
-        |lent| drop(lent.lists.values.pop()),
-        |lent| drop(lent.lists.rows.pop()),
-        |lent| drop(lent.lists.word.pop()),
-        |lent| drop(lent.work.pop()),
+        |lent| cut(&mut lent.lists.triples),
+        |lent| cut(&mut lent.lists.counts),
+        |lent| cut(&mut lent.lists.sums),
+        |lent| cut(&mut lent.lists.values),
+        |lent| cut(&mut lent.lists.rows),
+        |lent| cut(&mut lent.lists.word),
+        |lent| cut(&mut lent.work),
     ];
     for frames in 1..=8 {
         for shorten in shorten {
