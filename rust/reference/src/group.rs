@@ -166,10 +166,10 @@ impl Reference {
         let frames = runs.len();
         let mut answer = GroupAnswer::default();
         for (frame, ran) in runs.into_iter().enumerate() {
-            let word = match self.has(Fault::WordsAtVariables) {
-                true => frame * variables,
-                false => frame * code.bits,
-            };
+            let mut word = frame * code.bits;
+            if self.has(Fault::WordsAtVariables) {
+                word = (frame * variables).min(lists.word.len() - code.bits);
+            }
             let parts = Parts {
                 sums: part(lists.sums, frame * variables, variables),
                 values: part(lists.values, frame * variables, variables),
