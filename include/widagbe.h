@@ -353,7 +353,7 @@ typedef struct {
  *   rows       4T F entries: 4T for each frame
  *   word       n F entries: n for each frame; a frame's part is written where its number is 0 only
  *   work       L (4T + 3V + 2n) entries, where L is 4 for up to 4 frames and 8 for more; never above WIDAGBE_MAX_WORK. What it
- *              holds does not matter, and what it holds after an accepted call is open
+ *              holds does not matter, and what it holds after an accepted call is open, all of it
  * A frame with a cost of -32768 gets the number 13 in its answer, and its parts of sums, values, rows and word stay as they were;
  * the others are decoded. Triples and counts are filled and the group's number is 0, even if every frame has 13. A list that is
  * too short, the work list too, refuses the group with 10, also where a cost is -32768.
