@@ -40,6 +40,7 @@ fn listed() -> Vec<Family> {
             around_all(32, first().iter().map(Edge::case).collect())
         }),
         Family::listed("groups at late edges of the limit", late_edges),
+        Family::listed("groups on the largest codes", largest_groups),
     ]
 }
 
@@ -76,7 +77,9 @@ fn short() -> Vec<Family> {
         }),
         Family::random("noisy groups", 40, noisy_group),
         Family::random("groups in the order of their stops", 40, in_order_of_stops),
-        Family::random("groups on the largest codes", 6, largest_group),
+        Family::random("eight frames of the largest codes", 3, |random| {
+            largest_group(random, MOST_FRAMES)
+        }),
     ]
 }
 
@@ -257,12 +260,18 @@ fn in_order_of_stops(random: &mut Random) -> Case {
 }
 
 /// As many bits, checks and triples as can be.
-fn largest_group(random: &mut Random) -> Case {
+fn largest_group(random: &mut Random, frames: usize) -> Case {
     let code = code_of(random, 4_096, 2_048, 8_192);
     let mut draft = Draft::of(random, code);
     draft.settings.limit = random.between(1, 3) as u32;
-    let frames = random.pick(&[1, 4, 5, MOST_FRAMES, MOST_FRAMES, MOST_FRAMES]);
     among_others(random, &draft.code, draft.settings, &draft.costs, frames)
+}
+
+fn largest_groups() -> Vec<Case> {
+    let mut random = Random::new(40);
+    (1..=MOST_FRAMES)
+        .map(|frames| largest_group(&mut random, frames))
+        .collect()
 }
 
 /// So many frames of any costs up to the most.
