@@ -6,7 +6,7 @@
  * Lists
  *   A list is a pointer and its number of entries, not of bytes. Code, text, costs, samples, words and messages are whole lists:
  *   their length is exact (else 12; for a code 1 or 9, for a text 18). Lists that a call fills may be longer than needed: the
- *   entries past those needed stay as they were. One that is too short is refused with 10.
+ *   entries past those needed stay as they were, but those of a group's work list. One that is too short is refused with 10.
  *
  *   The sizes of a code are n (bits), m (checks), T (triples: degree - 2 for each check, but 1 for a check of two bits) and V
  *   (variables):
@@ -30,7 +30,7 @@
  *   No call keeps a pointer, allocates memory or has state of its own: calls in different threads do not disturb each other.
  *   A call needs less than 16 kilobytes of stack, but widagbe_import, which needs less than 272, widagbe_export and
  *   widagbe_export_size, which need less than 56, the functions of the encoder, which need less than 80, and
- *   widagbe_decode_group, which needs less than 64 kilobytes of stack.
+ *   widagbe_decode_group, which needs less than 64 kilobytes.
  */
 #ifndef WIDAGBE_H
 #define WIDAGBE_H
@@ -340,10 +340,11 @@ typedef struct {
 } widagbe_group_answer;
 
 /*
- * Decodes up to eight frames of one code with the same settings, all of them in each walk through the code. A frame's answer and
- * its parts of the lists are what widagbe_decode gives for its costs alone, whatever the other frames are. In each list that is
- * kept per frame the frames stand one behind the other, from 0: a part of size entries begins at f * size for frame f.
- *   weight, ratio, limit, tolerance  for all frames, as widagbe_decode takes them
+ * Decodes up to eight frames of one code with the same settings: each walk through the code takes every frame that still runs one
+ * iteration on. A frame's answer and its parts of the lists are what widagbe_decode gives for its costs alone, whatever the other
+ * frames are. In each list that is kept per frame the frames stand one behind the other: of a list with size entries for each,
+ * those of frame f, from 0, begin at f * size.
+ *   weight, ratio, limit, tolerance  as widagbe_decode takes them, for all frames
  *   frames     F, 1 to 8 (WIDAGBE_MAX_FRAMES): how many frames are given
  *   costs      n F entries: n for each frame
  *   triples    3T entries, as widagbe_split fills it, once for the group
@@ -353,11 +354,11 @@ typedef struct {
  *   rows       4T F entries: 4T for each frame
  *   word       n F entries: n for each frame; a frame's part is written where its number is 0 only
  *   work       L (4T + 3V + 2n) entries, where L is 4 for up to 4 frames and 8 for more; never above WIDAGBE_MAX_WORK. What it
- *              holds does not matter, and what it holds after an accepted call is open, all of it
+ *              held before does not matter, and what all of it holds after an accepted call is open
  * A frame with a cost of -32768 gets the number 13 in its answer, and its parts of sums, values, rows and word stay as they were;
  * the others are decoded. Triples and counts are filled and the group's number is 0, even if every frame has 13. A list that is
  * too short, the work list too, refuses the group with 10, also where a cost is -32768.
- * Numbers: 0 to 12, 21, in the order of the table above (1 to 9, 11, 21, 12, 10). Numbers of a frame: 0, 13, 16, 17.
+ * Numbers: 0 to 12, 21; 10 comes last of them. Numbers of a frame: 0, 13, 16, 17.
  */
 widagbe_group_answer widagbe_decode_group(const uint8_t *code, size_t code_len,
                                           uint32_t weight, uint32_t ratio, uint32_t limit, uint32_t tolerance,
