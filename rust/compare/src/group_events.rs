@@ -148,12 +148,12 @@ fn number_events(answers: &[Answer]) -> [bool; 10] {
     ]
 }
 
-/// Whether this frame ran and stopped before all others that ran, of which there is one.
+/// Whether this frame ran and stopped before all others that ran, of which there are some.
 fn stops_first(answers: &[Answer], frame: usize) -> bool {
     let stop = answers[frame].k;
     let others = (0..answers.len()).filter(|&other| other != frame);
     let others = others.map(|other| answers[other].k).filter(|&k| k > 0);
-    stop > 0 && others.clone().count() > 0 && others.min().is_none_or(|k| stop < k)
+    stop > 0 && others.min().is_some_and(|k| stop < k)
 }
 
 fn stop_events(case: &GroupCase, code: &Code, answers: &[Answer]) -> [bool; 7] {
