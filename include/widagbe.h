@@ -59,7 +59,7 @@ extern "C" {
 
 /* The most frames of a group, and entries of a work list that are enough for every group. */
 #define WIDAGBE_MAX_FRAMES 8
-#define WIDAGBE_MAX_WORK 622592
+#define WIDAGBE_MAX_WORK 655360
 
 enum widagbe_number {
     WIDAGBE_OK = 0,
@@ -353,7 +353,7 @@ typedef struct {
  *   values     V F entries: V for each frame
  *   rows       4T F entries: 4T for each frame
  *   word       n F entries: n for each frame; a frame's part is written where its number is 0 only
- *   work       L (4T + 3V + 2n) entries, where L is 4 for up to 4 frames and 8 for more; never above WIDAGBE_MAX_WORK. What it
+ *   work       L (4T + 3V + 3n) entries, where L is 4 for up to 4 frames and 8 for more; never above WIDAGBE_MAX_WORK. What it
  *              held before does not matter, and what all of it holds after an accepted call is open
  * A frame with a cost of -32768 gets the number 13 in its answer, and its parts of sums, values, rows and word stay as they were;
  * the others are decoded. Triples and counts are filled and the group's number is 0, even if every frame has 13. A list that is

@@ -11,14 +11,14 @@
 
 #include "widagbe.h"
 
-/* 7 bits, 3 checks of degree 4, so 6 triples; up to four frames need a work list of 4 (4T + 3V + 2n) entries. */
+/* 7 bits, 3 checks of degree 4, so 6 triples; up to four frames need a work list of 4 (4T + 3V + 3n) entries. */
 enum {
     BITS = 7,
     CHECKS = 3,
     TRIPLES = 6,
     VARIABLES = BITS + TRIPLES - CHECKS,
     FRAMES = 4,
-    WORK = 4 * (4 * TRIPLES + 3 * VARIABLES + 2 * BITS)
+    WORK = 4 * (4 * TRIPLES + 3 * VARIABLES + 3 * BITS)
 };
 
 static const uint8_t code[] = {

@@ -177,7 +177,7 @@ pub trait Decoder {
 /// or for eight.
 pub const fn work_length(frames: usize, bits: usize, variables: usize, triples: usize) -> usize {
     let lanes = if frames <= 4 { 4 } else { 8 };
-    lanes * (4 * triples + 3 * variables + 2 * bits)
+    lanes * (4 * triples + 3 * variables + 3 * bits)
 }
 
 /// Frames of one code, decoded together (document 02, L7).

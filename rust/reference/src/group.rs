@@ -34,7 +34,7 @@ impl Reference {
             _ if frames <= 4 => 4,
             _ => 8,
         };
-        lanes * (4 * self.triples(code) + 3 * self.variables(code) + 2 * code.bits)
+        lanes * (4 * self.triples(code) + 3 * self.variables(code) + 3 * code.bits)
     }
 
     /// Whether lists of these lengths, the work list's last, are enough for a group.

@@ -148,10 +148,10 @@ fn each_short_list() {
 
 #[test]
 fn the_length_of_the_work_list() {
-    // 4T + 3V + 2n is 19 for the small code.
+    // 4T + 3V + 3n is 22 for the small code.
     let lengths: Vec<usize> = (1..=8).map(|frames| work_length(frames, 3, 3, 1)).collect();
-    assert_eq!(lengths, [76, 76, 76, 76, 152, 152, 152, 152]);
-    assert_eq!(work_length(8, 4_096, 12_288, 8_192), 622_592);
+    assert_eq!(lengths, [88, 88, 88, 88, 176, 176, 176, 176]);
+    assert_eq!(work_length(8, 4_096, 12_288, 8_192), 655_360);
 }
 
 /// The decoder's lists for one frame of the small code, and its answer.

@@ -100,7 +100,7 @@ int main(void)
     }
     int64_t all_sums[F * V + 1] = {0};
     int16_t all_values[F * V + 1] = {0};
-    int32_t all_rows[F * 4 * T + 1] = {0}, work[4 * (4 * T + 3 * V + 2 * N)] = {0};
+    int32_t all_rows[F * 4 * T + 1] = {0}, work[4 * (4 * T + 3 * V + 3 * N)] = {0};
     uint8_t all_words[F * N + 1] = {0};
     widagbe_group_answer group = widagbe_decode_group(LIST(code), 8000, 150, 300, 1000000, F, LIST(frames), LIST(triples),
                                                       LIST(counts), LIST(all_sums), LIST(all_values), LIST(all_rows),
