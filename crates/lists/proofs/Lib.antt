@@ -3,6 +3,7 @@
 --   `over i f old`, from the front, one store a turn            over-next, over-stored (start: refl; end: over-tab, over-map or over-all)
 --   `over n f old`, a store anywhere below n, f changing        over-set
 --   reading it again                                            over-in, over-out; its length: length-over
+--   reading after several stores side by side, anywhere         sets-at
 --   one loop after another over the same entries                over-over
 --
 -- A loop that tests the entries keeps `every f (drop i l) ≡ every f l` (every-next, every-stop, every-end), or, where it goes on after one
