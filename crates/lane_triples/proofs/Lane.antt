@@ -1,13 +1,12 @@
 -- One lane, while the rows of a triple are renewed one by one and its places are given their shares. Its entries are a function's. Assumes nothing.
 use Rattle.integers.proofs.Prelude.{_≡_, refl, sym, ap, ap₂, _∙_, Bool, true, false, List, ℕ, suc, _+_, _-_, _*_, _^_, _≤_, _<_, arith, decLt, eqb-true, eqb-false, ne-eqb}
-use Rattle.integers.proofs.Prelude.{lt-ltb, eqb, ltb, ℤ, pos, natAbs, _+ℤ_, _*ℤ_, getD}
+use Rattle.integers.proofs.Prelude.{lt-ltb, eqb, ltb, ℤ, pos, _+ℤ_, _*ℤ_, getD}
 use mathlib.Core.Logic.{_⊎_, inl, inr, _≢_}
 use lib.IntN.{+ℤ-idr, +ℤ-assoc}
 use Rattle.integers.specs.Sum.{sumℕ, sumℤ}
 use Rattle.integers.proofs.Linear.{split, toℕ, abs-add}
-use Rattle.model.specs.Limits.{mostRow}
 use Rattle.model.specs.Causes.{_if_}
-use Rattle.model.specs.Splitting.{blank, member}
+use Rattle.model.specs.Splitting.{member}
 use Rattle.model.specs.Iteration.{renewedAt, share, _when_, sumOf, occurrences}
 use Rattle.model.proofs.Rows.{two}
 use Rattle.lanes.specs.declared.Plan.{Plan}

@@ -1,3 +1,4 @@
 pub mod Stores
 pub mod Lane
 pub mod Step
+pub mod Walks

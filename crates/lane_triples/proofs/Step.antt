@@ -1,9 +1,10 @@
 -- One triple in four lanes: it may be renewed as `Step` says, and the walk is one triple further in these lanes. Assumes nothing.
 use Rattle.integers.proofs.Prelude.{_≡_, refl, sym, ap, subst, _∙_, Bool, true, false, cond, List, ℕ, zero, suc, _+_, _-_, _*_, _^_, _≤_, _<_, arith, decLt}
-use Rattle.integers.proofs.Prelude.{ltb-true, ltb-false, lt-ltb, eqb-true, eqb-false, eq-eqb, eqb, ltb, ℤ, pos, natAbs, negℤ, _+ℤ_, _-ℤ_, _*ℤ_, length, getD, sets}
+use Rattle.integers.proofs.Prelude.{ltb-true, ltb-false, lt-ltb, eqb-true, eqb-false, eq-eqb, eqb, ℤ, pos, natAbs, _+ℤ_, _-ℤ_, _*ℤ_, length, getD, List·getD-eq-default, sets}
 use mathlib.Core.Logic.{_⊎_, inl, inr, ⊎-elim, _≢_}
 use native.Mathlib.Nat.{add-zero, add-suc, mul-le-mul, mul-le-mul-left}
 use lib.Seq.{length-sets}
+use lib.Signed.{shrZ}
 use Rattle.integers.specs.Sum.{sumℕ, sumℤ}
 use Rattle.integers.proofs.Linear.{split, toℕ, about}
 use Rattle.integers.proofs.Sums.{sumℕ-split, sumℕ-bound, sumℤ-same}
@@ -13,18 +14,17 @@ use Rattle.quotient.specs.Quotient.{unit}
 use Rattle.model.specs.Limits.{mostTriples, mostDone, mostRow}
 use Rattle.model.specs.Causes.{_if_}
 use Rattle.model.specs.Splitting.{blank, member}
-use Rattle.model.specs.Iteration.{at, row, sign, valueAt, sumAt, rowSum, slack, multiplier, share, renewed, renewedAt, occurrences}
-use Rattle.model.specs.Bounds.{RowsWithin}
+use Rattle.model.specs.Iteration.{at, row, sign, valueAt, slack, multiplier, share, renewedAt, occurrences}
 use Rattle.model.proofs.Rows.{three, at-tab, renewed-at, value-small}
 use Rattle.model.proofs.Bounds.{renewed-within, row-small}
 use Rattle.fours.proofs.Parts.{high-small, low-small}
 use Rattle.fours.proofs.Rows.{share-small}
 use Rattle.lanes.specs.declared.Plan.{Plan}
 use Rattle.lanes.specs.Lanes.{inLane, valuesAt, sumsAt, laneSize, Fits, laneRows, laneValues, mostNarrow, Kept}
-use Rattle.lane_triples.specs.Step.{added, MayAdd, highOf, lowOf, given, MayGive, withRows, newShare, MayRenew, Places, isWide, valueIn, rowIn, shareIn, after, MayStep}
+use Rattle.lane_triples.specs.Step.{added, MayAdd, highsOf, lowsOf, given, MayGive, withRows, MayRenew, Places, isWide, valuesIn, rowIn, sharesIn, after, MayStep}
 use Rattle.lane_triples.specs.Walk.{Tripled, Due, newRows, Walked, InWalk, SameBeside}
 use Rattle.lane_triples.proofs.Stores.{put-here, put-other}
-use Rattle.lane_triples.proofs.Lane.{high, partCount, Partly, before-weighed, Put, Gave, gave-whole, gave-parts, gave-none, begun, ended, row-put, place-given}
+use Rattle.lane_triples.proofs.Lane.{high, partCount, Partly, before-weighed, Put, gave-whole, gave-parts, gave-none, begun, ended, row-put, place-given}
 
 -- ---- how often a variable occurs
 part-below : (m n : ℕ) (f : ℕ → ℕ) → m ≤ n → sumℕ m f ≤ sumℕ n f
@@ -47,6 +47,26 @@ module _ (ts : List ℕ) (T : ℕ) where
       by : (e : Bool) → 1 if e ≤ 1
       by true = omega arith
       by false = omega arith
+
+-- ---- four numbers
+-- what holds of four and of 0 holds of any entry
+four-or-zero : (P : ℤ → Type 0) (q : List ℤ) → length q ≡ 4 → ((k : ℕ) → k < 4 → P (at q k)) → P (pos 0) → (k : ℕ) → P (at q k)
+four-or-zero P q e h z k = by (decLt k 4)
+  where
+    by : Dec (k < 4) → P (at q k)
+    by (yes l) = h k l
+    by (no l) = rw (List·getD-eq-default q (pos 0) {n = k} (omega arith)) z
+
+-- they are their two parts
+no-high : (z : ℤ) → z +ℤ pos (2 ^ 14) *ℤ pos 0 ≡ z
+no-high z = rw (split z) (simp toℕ (omega arith))
+
+both-parts : (x : List ℤ) (k : ℕ) → k < 4 → at (lowsOf x) k +ℤ pos (2 ^ 14) *ℤ at (highsOf x) k ≡ at x k
+both-parts x k n =
+    rw (getD-tab 4 (λ k. at x k -ℤ pos (2 ^ 14) *ℤ shrZ (at x k) (2 ^ 14)) k (pos 0) n, getD-tab 4 (λ k. shrZ (at x k) (2 ^ 14)) k (pos 0) n) (by (at x k) (shrZ (at x k) (2 ^ 14)))
+  where
+    by : (z y : ℤ) → (z -ℤ pos (2 ^ 14) *ℤ y) +ℤ pos (2 ^ 14) *ℤ y ≡ z
+    by z y = rw (split z, split y) (simp toℕ (omega arith))
 
 -- ---- triple t comes next in the lanes from h on, which stood in w and stand in w₀
 pub record Turn (p : Plan) (ts counts : List ℕ) (i : ℕ) (w : List ℤ) (t h : ℕ) (w₀ : List ℤ) : Type 0 where
@@ -94,13 +114,13 @@ module _ (p : Plan) (h : ℕ) (room : h + 4 ≤ p .lanes) where
     entry : (j i : ℕ) → i ≡ p .lanes * j + h → (k : ℕ) → at w (i + k) ≡ inLane (p .lanes) w (h + k) j
     entry j i e k = ap (at w) (omega arith)
 
-    increased : (j i : ℕ) (f : ℕ → ℤ) → j < laneSize p → i ≡ p .lanes * j + h → Stored j (λ k. inLane (p .lanes) w (h + k) j +ℤ f k) w (added w i f)
+    increased : (j i : ℕ) (q : List ℤ) → j < laneSize p → i ≡ p .lanes * j + h → Stored j (λ k. inLane (p .lanes) w (h + k) j +ℤ at q k) w (added w i q)
     unfolding added
-    increased j i f l e =
-        let s = stored j i (λ k. at w (i + k) +ℤ f k) l e in
+    increased j i q l e =
+        let s = stored j i (λ k. at w (i + k) +ℤ at q k) l e in
         record {
           long = s .long;
-          here = λ k m. record { here = s .here k m .here ∙ ap (λ (z : ℤ). z +ℤ f k) (entry j i e k); other = s .here k m .other };
+          here = λ k m. record { here = s .here k m .here ∙ ap (λ (z : ℤ). z +ℤ at q k) (entry j i e k); other = s .here k m .other };
           beside = s .beside;
         }
 
@@ -143,8 +163,8 @@ module _ {p : Plan} {ts counts : List ℕ} {i : ℕ} {w : List ℤ} {t h : ℕ} 
       by (inl h) other = h
       by (inr h) other = absurd (other h)
 
-  value-is : (q k : ℕ) → q < 3 → k < 4 → valueIn L w₀ s q k -ℤ pos unit ≡ valueAt (c k) (member ts t q)
-  value-is q k l m = by (s .none q) refl
+  value-is : (q k : ℕ) → q < 3 → k < 4 → at (valuesIn L w₀ s q) k -ℤ pos unit ≡ valueAt (c k) (member ts t q)
+  value-is q k l m = ap (λ (z : ℤ). z -ℤ pos unit) (getD-tab 4 (λ k. cond (s .none q) (pos 0) (at w₀ (s .value q + k))) k (pos 0) m) ∙ by (s .none q) refl
     where
       by : (e : Bool) → s .none q ≡ e → cond e (pos 0) (at w₀ (s .value q + k)) -ℤ pos unit ≡ valueAt (c k) (member ts t q)
       by true e = rw (← st .none q l, e)
@@ -157,8 +177,8 @@ module _ {p : Plan} {ts counts : List ℕ} {i : ℕ} {w : List ℤ} {t h : ℕ} 
   values-small : (k : ℕ) → k < 4 → (v : ℕ) → natAbs (at (c k) v) ≤ unit
   values-small k m v = at-tab (λ z. natAbs z ≤ unit) (p .variables) (λ v. inLane L w (h + k) (valuesAt p + v) -ℤ pos unit) v (due k m .values v) (omega arith)
 
-  value-within : (q k : ℕ) → q < 3 → k < 4 → natAbs (valueIn L w₀ s q k -ℤ pos unit) ≤ unit
-  value-within q k l m = rw (value-is q k l m) (value-small (c k) (member ts t q) (values-small k m (member ts t q)))
+  value-within : (q : ℕ) → q < 3 → (k : ℕ) → natAbs (at (valuesIn L w₀ s q) k -ℤ pos unit) ≤ unit
+  value-within q l = four-or-zero (λ z. natAbs (z -ℤ pos unit) ≤ unit) (valuesIn L w₀ s q) refl (λ k m. rw (value-is q k l m) (value-small (c k) (member ts t q) (values-small k m (member ts t q)))) (omega arith)
 
   old-is : (r k : ℕ) → r < 4 → k < 4 → at w₀ (s .rows + r * L + k) ≡ row (laneRows p w (h + k)) t r
   old-is r k l m =
@@ -171,22 +191,23 @@ module _ {p : Plan} {ts counts : List ℕ} {i : ℕ} {w : List ℤ} {t h : ℕ} 
   new-is r k l m =
       rw (old-is r k l m, value-is 0 k (omega arith) m, value-is 1 k (omega arith) m, value-is 2 k (omega arith) m) (sym (renewed-at ts (laneRows p w (h + k)) (c k) t r l))
 
-  may-renew : MayRenew L w₀ (s .rows) (valueIn L w₀ s 0) (valueIn L w₀ s 1) (valueIn L w₀ s 2)
+  may-renew : MayRenew L w₀ (s .rows) (valuesIn L w₀ s 0) (valuesIn L w₀ s 1) (valuesIn L w₀ s 2)
   may-renew = record {
     room = omega (arith, st .rows, in-list p h (turn .room) w₀ (turn .fits) (4 * t + 3) (omega (arith, turn .below)));
     multipliers = λ r k l m. rw (old-is r k l m) (due k m .within .multipliers (4 * t + r));
     slacks = λ r k l m. rw (old-is r k l m) (due k m .within .slacks (4 * t + r));
-    first = λ k m. value-within 0 k (omega arith) m;
-    second = λ k m. value-within 1 k (omega arith) m;
-    third = λ k m. value-within 2 k (omega arith) m;
+    first = value-within 0 (omega arith);
+    second = value-within 1 (omega arith);
+    third = value-within 2 (omega arith);
   }
 
   -- what the new rows give
-  share-is : (q k : ℕ) → k < 4 → shareIn L w₀ s q k ≡ share (new k) t q
-  unfolding newShare share
+  share-is : (q k : ℕ) → k < 4 → at (sharesIn L w₀ s q) k ≡ share (new k) t q
+  unfolding share
   share-is q k m =
       let signed : ℕ → ℤ → ℤ = λ r z. sign r q *ℤ pos (slack z + multiplier z) in
-      sumℤ-same 4 (λ r. signed r (rowIn L w₀ s r k)) (λ r. signed r (row (new k) t r)) (λ r l. ap (signed r)
+      getD-tab 4 (λ k. sumℤ 4 (λ r. signed r (rowIn L w₀ s r k))) k (pos 0) m
+      ∙ sumℤ-same 4 (λ r. signed r (rowIn L w₀ s r k)) (λ r. signed r (row (new k) t r)) (λ r l. ap (signed r)
       (new-is r k l m ∙ sym (getD-tab (4 * p .triples) (renewedAt ts (laneRows p w (h + k)) (c k)) (4 * t + r) (pos 0) (omega (arith, turn .below)))))
 
   share-within : (q k : ℕ) → q < 3 → k < 4 → natAbs (share (new k) t q) ≤ 2 * mostRow
@@ -234,20 +255,17 @@ module _ {p : Plan} {ts counts : List ℕ} {i : ℕ} {w : List ℤ} {t h : ℕ} 
         long = a .long;
         lanes = λ k m.
             place-given (a .lanes k m) (omega (arith, turn .below)) (turn .list) (share (new k) t q) (pos 0)
-            (gave-none p i (member ts t q) (share (new k) t q) (pos 0) (inLane L w′ (h + k)) above) (all (share (new k) t q)) (λ v u e. absurd (omega arith));
+            (gave-none p i (member ts t q) (share (new k) t q) (pos 0) (inLane L w′ (h + k)) above) (no-high (share (new k) t q)) (λ v u e. absurd (omega arith));
         beside = a .beside;
       }
-    where
-      all : (z : ℤ) → z +ℤ pos (2 ^ 14) *ℤ pos 0 ≡ z
-      all z = rw (split z) (simp toℕ (omega arith))
 
   -- ---- or has one
   module _ (q : ℕ) (l : q < 3) (some : s .none q ≡ false) {w′ : List ℤ} (a : State (4 * suc t) q w′) where
     abbrev m : ℕ
     m = member ts t q
 
-    abbrev x : ℕ → ℤ
-    x = shareIn L w₀ s q
+    abbrev x : List ℤ
+    x = sharesIn L w₀ s q
 
     abbrev count : ℕ
     count = getD counts m 0
@@ -284,55 +302,56 @@ module _ {p : Plan} {ts counts : List ℕ} {i : ℕ} {w : List ℤ} {t h : ℕ} 
     kept : (k : ℕ) → k < 4 → Kept count (partCount ts t q m) (inLane L w′ (h + k) (sumsAt p i + m)) (high p i (inLane L w′ (h + k)) m)
     kept k n = a .lanes k n .kept m var
 
-    share-most : (k : ℕ) → k < 4 → natAbs (x k) ≤ 2 * mostRow
-    share-most k n = rw (share-is q k n) (share-within q k l n)
+    share-most : (k : ℕ) → natAbs (at x k) ≤ 2 * mostRow
+    share-most = four-or-zero (λ z. natAbs z ≤ 2 * mostRow) x refl (λ k n. rw (share-is q k n) (share-within q k l n)) (omega arith)
 
     -- the sum, and what is added to it
     at-sum : s .sum q ≡ L * (sumsAt p i + m) + h
     at-sum = st .sum q l some
 
-    put-low : (f : ℕ → ℤ) → Stored p h (turn .room) (sumsAt p i + m) (λ k. inLane L w′ (h + k) (sumsAt p i + m) +ℤ f k) w′ (added w′ (s .sum q) f)
-    put-low f = increased p h (turn .room) w′ (now-fits a) (sumsAt p i + m) (s .sum q) f (in-sums m (omega (arith, var))) at-sum
+    put-low : (z : List ℤ) → Stored p h (turn .room) (sumsAt p i + m) (λ k. inLane L w′ (h + k) (sumsAt p i + m) +ℤ at z k) w′ (added w′ (s .sum q) z)
+    put-low z = increased p h (turn .room) w′ (now-fits a) (sumsAt p i + m) (s .sum q) z (in-sums m (omega (arith, var))) at-sum
 
-    may-low : (f : ℕ → ℤ) → ((k : ℕ) → k < 4 → natAbs (inLane L w′ (h + k) (sumsAt p i + m)) + natAbs (f k) < 2 ^ 31) → MayAdd w′ (s .sum q) f
-    may-low f small = record {
+    may-low : (z : List ℤ) → ((k : ℕ) → k < 4 → natAbs (inLane L w′ (h + k) (sumsAt p i + m)) + natAbs (at z k) < 2 ^ 31) → MayAdd w′ (s .sum q) z
+    may-low z small = record {
       room = omega (arith, at-sum, in-list p h (turn .room) w′ (now-fits a) (sumsAt p i + m) (in-sums m (omega (arith, var))));
       small = λ k n. rw (entry p h (turn .room) w′ (now-fits a) (sumsAt p i + m) (s .sum q) at-sum k) (small k n);
     }
 
+    high-most : (k : ℕ) → natAbs (at (highsOf x) k) ≤ 2 ^ 14
+    high-most k = at-tab (λ z. natAbs z ≤ 2 ^ 14) 4 (λ k. shrZ (at x k) (2 ^ 14)) k (λ _. high-small (at x k) (share-most k)) (omega arith)
+
+    low-most : (k : ℕ) → natAbs (at (lowsOf x) k) ≤ 2 ^ 14
+    low-most k = at-tab (λ z. natAbs z ≤ 2 ^ 14) 4 (λ k. at x k -ℤ pos (2 ^ 14) *ℤ shrZ (at x k) (2 ^ 14)) k (λ _. low-small (at x k)) (omega arith)
+
     -- in two parts
     module _ (e : s .wide q ≡ true) where
-      abbrev lows : ℕ → ℤ
-      lows k = lowOf (x k)
-
-      abbrev highs : ℕ → ℤ
-      highs k = highOf (x k)
-
       abbrev between : List ℤ
-      between = added w′ (s .sum q) lows
+      between = added w′ (s .sum q) (lowsOf x)
 
       then-fits : Fits p between
-      then-fits = refit (now-fits a) (put-low lows .long)
+      then-fits = refit (now-fits a) (put-low (lowsOf x) .long)
 
       at-high : s .sum q + s .apart ≡ L * (sumsAt p i + (p .variables + m)) + h
       at-high = omega (arith, at-sum, st .apart q l some e)
 
-      put-high : Stored p h (turn .room) (sumsAt p i + (p .variables + m)) (λ k. inLane L between (h + k) (sumsAt p i + (p .variables + m)) +ℤ highs k) between (added between (s .sum q + s .apart) highs)
-      put-high = increased p h (turn .room) between then-fits (sumsAt p i + (p .variables + m)) (s .sum q + s .apart) highs (in-sums (p .variables + m) (omega (arith, bit e))) at-high
+      put-high : Stored p h (turn .room) (sumsAt p i + (p .variables + m)) (λ k. inLane L between (h + k) (sumsAt p i + (p .variables + m)) +ℤ at (highsOf x) k) between (added between (s .sum q + s .apart) (highsOf x))
+      put-high = increased p h (turn .room) between then-fits (sumsAt p i + (p .variables + m)) (s .sum q + s .apart) (highsOf x) (in-sums (p .variables + m) (omega (arith, bit e))) at-high
 
-      may-high : MayAdd between (s .sum q + s .apart) highs
+      may-high : MayAdd between (s .sum q + s .apart) (highsOf x)
       may-high = record {
         room = omega (arith, at-high, in-list p h (turn .room) between then-fits (sumsAt p i + (p .variables + m)) (in-sums (p .variables + m) (omega (arith, bit e))));
         small = λ k n.
             rw (entry p h (turn .room) between then-fits (sumsAt p i + (p .variables + m)) (s .sum q + s .apart) at-high k)
-            (rw (put-low lows .here k n .other (sumsAt p i + (p .variables + m)) (λ z. omega (arith, var)))
-            (omega (arith, rw (lt-ltb m (p .bits) (bit e)) at (kept k n .wide (broad e) .1), next, most, high-small (x k) (share-most k n))));
+            (rw (put-low (lowsOf x) .here k n .other (sumsAt p i + (p .variables + m)) (λ z. omega (arith, var)))
+            (omega (arith, rw (lt-ltb m (p .bits) (bit e)) at (kept k n .wide (broad e) .1), next, most, high-most k)));
       }
 
     may-give : MayGive (s .wide q) w′ (s .sum q) (s .sum q + s .apart) x
     may-give = record {
-      whole = λ e. may-low x (λ k n. omega (arith, kept k n .narrow (narrow e) .0, narrow e, next, share-most k n));
-      low = λ e. may-low (λ k. lowOf (x k)) (λ k n. omega (arith, kept k n .wide (broad e) .0, next, most, low-small (x k)));
+      share = share-most;
+      whole = λ e. may-low x (λ k n. omega (arith, kept k n .narrow (narrow e) .0, narrow e, next, share-most k));
+      low = λ e. may-low (lowsOf x) (λ k n. omega (arith, kept k n .wide (broad e) .0, next, most, low-most k));
       high = may-high;
     }
 
@@ -343,27 +362,21 @@ module _ {p : Plan} {ts counts : List ℕ} {i : ℕ} {w : List ℤ} {t h : ℕ} 
         record {
           long = y .long ∙ a .long;
           lanes = λ k n.
-              place-given (a .lanes k n) (omega (arith, turn .below)) (turn .list) (x k) (pos 0) (gave-whole p i m (x k) (y .here k n) var) (rw (all-low (x k)) (share-is q k n)) (λ v u z.
-              rw (← z) (record { narrow = λ _. (omega (arith, share-most k n), refl); wide = λ b. absurd (omega (arith, narrow e)) }));
+              place-given (a .lanes k n) (omega (arith, turn .below)) (turn .list) (at x k) (pos 0) (gave-whole p i m (at x k) (y .here k n) var) (no-high (at x k) ∙ share-is q k n) (λ v u z.
+              rw (← z) (record { narrow = λ _. (omega (arith, share-most k), refl); wide = λ b. absurd (omega (arith, narrow e)) }));
           beside = λ l j b o. y .beside l j b o ∙ a .beside l j b o;
         }
-      where
-        all-low : (z : ℤ) → z +ℤ pos (2 ^ 14) *ℤ pos 0 ≡ z
-        all-low z = rw (split z) (simp toℕ (omega arith))
     give-step true e =
-        let y = put-low (lows e) in
+        let y = put-low (lowsOf x) in
         let z = put-high e in
         record {
           long = z .long ∙ y .long ∙ a .long;
           lanes = λ k n.
-              place-given (a .lanes k n) (omega (arith, turn .below)) (turn .list) (lowOf (x k)) (highOf (x k)) (gave-parts p i m (lowOf (x k)) (y .here k n) var (highOf (x k)) (z .here k n) (bit e))
-              (rw (both (x k) (highOf (x k))) (share-is q k n)) (λ v u same.
-              rw (← same) (record { narrow = λ b. absurd (omega (arith, broad e)); wide = λ _. (omega (arith, low-small (x k)), omega (arith, high-small (x k) (share-most k n))) }));
+              place-given (a .lanes k n) (omega (arith, turn .below)) (turn .list) (at (lowsOf x) k) (at (highsOf x) k)
+              (gave-parts p i m (at (lowsOf x) k) (y .here k n) var (at (highsOf x) k) (z .here k n) (bit e)) (both-parts x k n ∙ share-is q k n) (λ v u same.
+              rw (← same) (record { narrow = λ b. absurd (omega (arith, broad e)); wide = λ _. (omega (arith, low-most k), omega (arith, high-most k)) }));
           beside = λ l j b o. z .beside l j b o ∙ y .beside l j b o ∙ a .beside l j b o;
         }
-      where
-        both : (z y : ℤ) → (z -ℤ pos (2 ^ 14) *ℤ y) +ℤ pos (2 ^ 14) *ℤ y ≡ z
-        both z y = rw (split z, split y) (simp toℕ (omega arith))
 
   -- ---- place after place
   after-state : (q : ℕ) → q ≤ 3 → State (4 * suc t) q (after L w₀ s q)
@@ -372,7 +385,7 @@ module _ {p : Plan} {ts counts : List ℕ} {i : ℕ} {w : List ℤ} {t h : ℕ} 
   after-state (suc q) h = by (s .none q) refl (after-state q (omega arith))
     where
       by : (e : Bool) → s .none q ≡ e → State (4 * suc t) q (after L w₀ s q)
-          → State (4 * suc t) (suc q) (cond e (after L w₀ s q) (given (s .wide q) (after L w₀ s q) (s .sum q) (s .sum q + s .apart) (shareIn L w₀ s q)))
+          → State (4 * suc t) (suc q) (cond e (after L w₀ s q) (given (s .wide q) (after L w₀ s q) (s .sum q) (s .sum q + s .apart) (sharesIn L w₀ s q)))
       by true e a = none-step q (omega arith) e a
       by false e a = give-step q (omega arith) e a (s .wide q) refl
 

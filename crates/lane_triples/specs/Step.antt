@@ -11,54 +11,55 @@ use lib.Signed.{shrZ}
 use Rattle.integers.specs.Sum.{sumℤ}
 use Rattle.lists.specs.Tabulated.{tab}
 use Rattle.quotient.specs.Quotient.{unit}
-use Rattle.model.specs.Limits.{mostDone, mostSlack, mostMultiplier}
+use Rattle.model.specs.Limits.{mostDone, mostSlack, mostMultiplier, mostRow}
 use Rattle.model.specs.Splitting.{blank}
 use Rattle.model.specs.Iteration.{at, sign, rowSum, slack, multiplier, renewed}
 use Rattle.lanes.specs.Lanes.{mostNarrow}
 
--- ---- numbers are added to four entries, those from i on
-unfoldable pub added : List ℤ → ℕ → (ℕ → ℤ) → List ℤ
-added w i f = sets w i (tab 4 (λ k. at w (i + k) +ℤ f k))
+-- ---- four numbers are added to four entries, those from i on
+unfoldable pub added : List ℤ → ℕ → List ℤ → List ℤ
+added w i q = sets w i (tab 4 (λ k. at w (i + k) +ℤ at q k))
 
-pub record MayAdd (w : List ℤ) (i : ℕ) (f : ℕ → ℤ) : Type 0 where
+pub record MayAdd (w : List ℤ) (i : ℕ) (q : List ℤ) : Type 0 where
   pub room : i + 3 < length w
-  pub small : (k : ℕ) → k < 4 → natAbs (at w (i + k)) + natAbs (f k) < 2 ^ 31
+  pub small : (k : ℕ) → k < 4 → natAbs (at w (i + k)) + natAbs (at q k) < 2 ^ 31
 
--- in two parts where they are wide: the low ones at i, the high ones at j
-abbrev pub highOf : ℤ → ℤ
-highOf x = shrZ x (2 ^ 14)
+-- in two parts, if they are wide: the low ones at i, the high ones at j
+abbrev pub highsOf : List ℤ → List ℤ
+highsOf x = tab 4 (λ k. shrZ (at x k) (2 ^ 14))
 
-abbrev pub lowOf : ℤ → ℤ
-lowOf x = x -ℤ pos (2 ^ 14) *ℤ highOf x
+abbrev pub lowsOf : List ℤ → List ℤ
+lowsOf x = tab 4 (λ k. at x k -ℤ pos (2 ^ 14) *ℤ shrZ (at x k) (2 ^ 14))
 
-unfoldable pub given : Bool → List ℤ → ℕ → ℕ → (ℕ → ℤ) → List ℤ
-given true w i j x = added (added w i (λ k. lowOf (x k))) j (λ k. highOf (x k))
+unfoldable pub given : Bool → List ℤ → ℕ → ℕ → List ℤ → List ℤ
+given true w i j x = added (added w i (lowsOf x)) j (highsOf x)
 given false w i j x = added w i x
 
-pub record MayGive (wide : Bool) (w : List ℤ) (i j : ℕ) (x : ℕ → ℤ) : Type 0 where
+pub record MayGive (wide : Bool) (w : List ℤ) (i j : ℕ) (x : List ℤ) : Type 0 where
+  pub share : (k : ℕ) → natAbs (at x k) ≤ 2 * mostRow
   pub whole : wide ≡ false → MayAdd w i x
-  pub low : wide ≡ true → MayAdd w i (λ k. lowOf (x k))
-  pub high : wide ≡ true → MayAdd (added w i (λ k. lowOf (x k))) j (λ k. highOf (x k))
+  pub low : wide ≡ true → MayAdd w i (lowsOf x)
+  pub high : wide ≡ true → MayAdd (added w i (lowsOf x)) j (highsOf x)
 
 -- ---- rows, of which the first stand at i and each of the others L further, become f's
 unfoldable pub withRows : ℕ → List ℤ → ℕ → (ℕ → ℕ → ℤ) → List ℤ
 withRows L w i f = sets (sets (sets (sets w i (tab 4 (f 0))) (i + L) (tab 4 (f 1))) (i + 2 * L) (tab 4 (f 2))) (i + 3 * L) (tab 4 (f 3))
 
 -- they are renewed with a, b and c, which are raised by U: what they become, what they then give place p, and what is asked of them
-module _ (L : ℕ) (w : List ℤ) (i : ℕ) (a b c : ℕ → ℤ) where
+module _ (L : ℕ) (w : List ℤ) (i : ℕ) (a b c : List ℤ) where
   abbrev pub newRow : ℕ → ℕ → ℤ
-  newRow r k = renewed (at w (i + r * L + k)) (rowSum r (a k -ℤ pos unit) (b k -ℤ pos unit) (c k -ℤ pos unit))
+  newRow r k = renewed (at w (i + r * L + k)) (rowSum r (at a k -ℤ pos unit) (at b k -ℤ pos unit) (at c k -ℤ pos unit))
 
-  unfoldable pub newShare : ℕ → ℕ → ℤ
-  newShare p k = sumℤ 4 (λ r. sign r p *ℤ pos (slack (newRow r k) + multiplier (newRow r k)))
+  abbrev pub newShares : ℕ → List ℤ
+  newShares p = tab 4 (λ k. sumℤ 4 (λ r. sign r p *ℤ pos (slack (newRow r k) + multiplier (newRow r k))))
 
   pub record MayRenew : Type 0 where
     pub room : i + 3 * L + 3 < length w
     pub multipliers : (r k : ℕ) → r < 4 → k < 4 → multiplier (at w (i + r * L + k)) ≤ mostMultiplier mostDone
     pub slacks : (r k : ℕ) → r < 4 → k < 4 → slack (at w (i + r * L + k)) ≤ mostSlack
-    pub first : (k : ℕ) → k < 4 → natAbs (a k -ℤ pos unit) ≤ unit
-    pub second : (k : ℕ) → k < 4 → natAbs (b k -ℤ pos unit) ≤ unit
-    pub third : (k : ℕ) → k < 4 → natAbs (c k -ℤ pos unit) ≤ unit
+    pub first : (k : ℕ) → natAbs (at a k -ℤ pos unit) ≤ unit
+    pub second : (k : ℕ) → natAbs (at b k -ℤ pos unit) ≤ unit
+    pub third : (k : ℕ) → natAbs (at c k -ℤ pos unit) ≤ unit
 
 -- ---- a triple's places: where its first rows stand; where c of the variable in place p stands, and its sum; how far behind that the sum's high part is,
 -- if it is wide; which places have no variable
@@ -103,22 +104,22 @@ anyPlaces counts L i values next apart u v w = record {
 -- ---- the triple is renewed, and place after place is given its share
 module _ (L : ℕ) (w : List ℤ) (s : Places) where
   -- c of place p, raised by U: the blank's is 0
-  abbrev pub valueIn : ℕ → ℕ → ℤ
-  valueIn p k = cond (s .none p) (pos 0) (at w (s .value p + k))
+  abbrev pub valuesIn : ℕ → List ℤ
+  valuesIn p = tab 4 (λ k. cond (s .none p) (pos 0) (at w (s .value p + k)))
 
   abbrev pub rowIn : ℕ → ℕ → ℤ
-  rowIn = newRow L w (s .rows) (valueIn 0) (valueIn 1) (valueIn 2)
+  rowIn = newRow L w (s .rows) (valuesIn 0) (valuesIn 1) (valuesIn 2)
 
-  abbrev pub shareIn : ℕ → ℕ → ℤ
-  shareIn = newShare L w (s .rows) (valueIn 0) (valueIn 1) (valueIn 2)
+  abbrev pub sharesIn : ℕ → List ℤ
+  sharesIn = newShares L w (s .rows) (valuesIn 0) (valuesIn 1) (valuesIn 2)
 
   -- w after the first p places
   unfoldable pub after : ℕ → List ℤ
   after zero = withRows L w (s .rows) rowIn
-  after (suc p) = cond (s .none p) (after p) (given (s .wide p) (after p) (s .sum p) (s .sum p + s .apart) (shareIn p))
+  after (suc p) = cond (s .none p) (after p) (given (s .wide p) (after p) (s .sum p) (s .sum p + s .apart) (sharesIn p))
 
   pub record MayStep : Type 0 where
     pub long : length w < 2 ^ 32
     pub values : (p : ℕ) → p < 3 → s .none p ≡ false → s .value p + 3 < length w
-    pub renew : MayRenew L w (s .rows) (valueIn 0) (valueIn 1) (valueIn 2)
-    pub give : (p : ℕ) → p < 3 → s .none p ≡ false → MayGive (s .wide p) (after p) (s .sum p) (s .sum p + s .apart) (shareIn p)
+    pub renew : MayRenew L w (s .rows) (valuesIn 0) (valuesIn 1) (valuesIn 2)
+    pub give : (p : ℕ) → p < 3 → s .none p ≡ false → MayGive (s .wide p) (after p) (s .sum p) (s .sum p + s .apart) (sharesIn p)

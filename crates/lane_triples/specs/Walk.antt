@@ -1,5 +1,4 @@
 -- The walk through the triples in lanes. Definitions only.
-use mathlib.Core.Bool.{Bool, true}
 use mathlib.Core.List.{List}
 use mathlib.Core.Logic.{_⊎_}
 use mathlib.Core.Path.{_≡_}
@@ -68,3 +67,10 @@ pub record Course (p : Plan) (ts counts : List ℕ) (i values next : ℕ) : Type
   pub list : i ≤ 1
   pub at-values : values ≡ p .lanes * valuesAt p
   pub at-sums : next ≡ p .lanes * sumsAt p i
+
+-- triples t to u are walked, in all of these lanes, from w₀ to w₁
+abbrev pub Begun : Plan → List ℕ → List ℕ → ℕ → ℕ → ℕ → ℕ → ℕ → List ℤ → Type 0
+Begun p ts counts values next from to t w₀ = (i : ℕ) × (w : List ℤ) × Course p ts counts i values next × InWalk p ts counts i w from to t w₀
+
+abbrev pub Walks : Plan → List ℕ → List ℕ → ℕ → ℕ → ℕ → ℕ → ℕ → ℕ → List ℤ → List ℤ → Type 0
+Walks p ts counts values next from to t u w₀ w₁ = (i : ℕ) (w : List ℤ) → Course p ts counts i values next → InWalk p ts counts i w from to t w₀ → InWalk p ts counts i w from to u w₁

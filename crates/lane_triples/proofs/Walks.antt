@@ -1,0 +1,128 @@
+-- The walk: a triple in one four of lanes after the other, and the places of a triple. Assumes nothing.
+use Rattle.integers.proofs.Prelude.{_≡_, refl, sym, ap, subst, _∙_, Bool, false, List, ℕ, suc, _+_, _-_, _*_, _≤_, _<_, arith, decLt, le-ltb, ne-eqb, T, eqb, ℤ, length, getD}
+use mathlib.Core.Logic.{_⊎_, inl, inr}
+use Rattle.model.specs.Splitting.{blank, member, Members}
+use Rattle.model.proofs.Rows.{three}
+use Rattle.lanes.specs.declared.Plan.{Plan}
+use Rattle.lanes.specs.Lanes.{inLane, valuesAt, sumsAt, Fits, mostNarrow}
+use Rattle.lane_triples.specs.Step as Step
+use Rattle.lane_triples.specs.Step.{Places, narrowPlaces, anyPlaces, isWide, after}
+use Rattle.lane_triples.specs.Walk.{Tripled, Narrow, Due, Walked, InWalk, SameBeside, Course}
+use Rattle.lane_triples.proofs.Step.{Turn, Stands, stepped, stepped-beside}
+
+-- a lane that is as it was
+walked-same : {p : Plan} {ts counts : List ℕ} {i : ℕ} {w : List ℤ} {l t : ℕ} {w′ w″ : List ℤ} → ((j : ℕ) → inLane (p .lanes) w″ l j ≡ inLane (p .lanes) w′ l j)
+    → Walked p ts counts i w l t w′ → Walked p ts counts i w l t w″
+walked-same {p} {i = i} same d = record {
+  done = λ j h. same j ∙ d .done j h;
+  left = λ j h k. same j ∙ d .left j h k;
+  values = λ v h. same (valuesAt p + v) ∙ d .values v h;
+  sums = λ v h. rw (same (sumsAt p i + v), same (sumsAt p i + (p .variables + v))) (d .sums v h);
+  kept = λ v h. rw (same (sumsAt p i + v), same (sumsAt p i + (p .variables + v))) (d .kept v h);
+  others = λ j h. same (sumsAt p (1 - i) + j) ∙ d .others j h;
+  weighed = λ b h. same (sumsAt p 2 + b) ∙ d .weighed b h;
+}
+
+module _ {p : Plan} {ts counts : List ℕ} {i : ℕ} {w : List ℤ} {t : ℕ} where
+  -- lanes beside those from l to m, which alone were changed
+  carried : {from to l m : ℕ} {w′ w″ : List ℤ} → SameBeside p l m w′ w″ → (to ≤ l) ⊎ (m ≤ from) → to ≤ p .lanes → InWalk p ts counts i w from to t w′ → InWalk p ts counts i w from to t w″
+  carried {from} {to} {l} {m} same apart room d n a b = (d n a b .0, walked-same (λ j. same n j (omega arith) (by apart)) (d n a b .1))
+    where
+      by : (to ≤ l) ⊎ (m ≤ from) → (n < l) ⊎ (m ≤ n)
+      by (inl h) = inl (omega arith)
+      by (inr h) = inr (omega arith)
+
+  joined : {from l to : ℕ} {w′ : List ℤ} → InWalk p ts counts i w from l t w′ → InWalk p ts counts i w l to t w′ → InWalk p ts counts i w from to t w′
+  joined {from} {l} {to} {w′} d e n a b = by (decLt n l)
+    where
+      by : Dec (n < l) → Due p i w n × Walked p ts counts i w n t w′
+      by (yes h) = d n a h
+      by (no h) = e n (omega arith) b
+
+-- ---- triple t, in the lanes from..to: those before l are done
+abbrev pub InTurn : Plan → List ℕ → List ℕ → ℕ → ℕ → ℕ → ℕ → ℕ → List ℤ → List ℤ → Type 0
+InTurn p ts counts i from to t l w₀ w′ = (w : List ℤ) → InWalk p ts counts i w from to t w₀ → InWalk p ts counts i w from l (suc t) w′ × InWalk p ts counts i w l to t w′
+
+module _ {p : Plan} {ts counts : List ℕ} {i : ℕ} {to t l : ℕ} {w′ : List ℤ} (fits : Fits p w′) (tripled : Tripled p ts counts) (one : i ≤ 1) (below : t < p .triples)
+    (four : l + 4 ≤ to) (room : to ≤ p .lanes) where
+  pub turn-of : {w : List ℤ} → InWalk p ts counts i w l to t w′ → Turn p ts counts i w t l w′
+  turn-of now = record { fits = fits; tripled = tripled; list = one; below = below; room = omega arith; lanes = λ n a b. now n a (omega arith) }
+
+  -- one four more
+  pub four-more : {from : ℕ} {w₀ : List ℤ} {s : Places} → from ≤ l → Stands p ts counts i t l s → InTurn p ts counts i from to t l w₀ w′
+      → InTurn p ts counts i from to t (l + 4) w₀ (after (p .lanes) w′ s 3)
+  four-more begin st before w start =
+      let now = before w start in
+      let turn = turn-of (now .1) in
+      let same = stepped-beside turn st in
+      (joined (carried same (inl (omega arith)) (omega arith) (now .0)) (stepped turn st), carried same (inr (omega arith)) room (λ n a b. now .1 n (omega arith) b))
+
+-- ---- the places of triple t, in the lanes from h on
+abbrev place : (ℕ → ℕ) → ℕ → ℕ
+place f = Step.three (f 0) (f 1) (f 2)
+
+abbrev thirdAlone : Bool → ℕ → Bool
+thirdAlone b = Step.three false false b
+
+module _ {p : Plan} {ts counts : List ℕ} {i values next : ℕ} (course : Course p ts counts i values next) (t h : ℕ) (below : t < p .triples) where
+  abbrev m : ℕ → ℕ
+  m = member ts t
+
+  abbrev L : ℕ
+  L = p .lanes
+
+  in-triples : 3 * t + 2 < length ts
+  in-triples = omega (arith, course .tripled .long)
+
+  abbrev named : Members ts (p .variables)
+  named = course .tripled .named
+
+  pub first-below : m 0 < p .variables
+  first-below = named .first t in-triples
+
+  pub second-below : m 1 < p .variables
+  second-below = named .second t in-triples
+
+  -- that of three which place q has; where its entry of a part stands that begins at `at`
+  of-three : (f : ℕ → ℕ) (q : ℕ) → q < 3 → place f q ≡ f q
+  of-three f = three (λ q. place f q ≡ f q) refl refl refl
+
+  at-entry : {at : ℕ} (a : ℕ) → at ≡ L * a → (q : ℕ) → q < 3 → at + place (λ q. L * m q + h) q ≡ L * (a + m q) + h
+  at-entry a e q l = rw (of-three (λ q. L * m q + h) q l) (omega arith)
+
+  at-any : {at : ℕ} (a : ℕ) → at ≡ L * a → (q : ℕ) → q < 3 → at + h + L * place m q ≡ L * (a + m q) + h
+  at-any a e q l = rw (of-three m q l) (omega arith)
+
+  -- any triple
+  pub any-stands : Stands p ts counts i t h (anyPlaces counts L (4 * L * t + h) (values + h) (next + h) (L * p .variables) (m 0) (m 1) (m 2))
+  any-stands = record {
+    rows = omega arith;
+    none = three (λ q. thirdAlone (eqb (m 2) blank) q ≡ eqb (m q) blank) (sym (ne-eqb (m 0) blank (λ e. omega (arith, first-below, named .few))))
+        (sym (ne-eqb (m 1) blank (λ e. omega (arith, second-below, named .few)))) refl;
+    value = λ q l _. at-any (valuesAt p) (course .at-values) q l;
+    sum = λ q l _. at-any (sumsAt p i) (course .at-sums) q l;
+    wide = λ q l _. ap (isWide counts) (of-three m q l);
+    apart = λ q l n e. refl;
+  }
+
+  -- where all is known to be narrow
+  module _ (narrow : Narrow p ts counts) where
+    pub third-below : m 2 < p .variables
+    third-below = by (named .third t in-triples)
+      where
+        by : (m 2 < p .variables) ⊎ (m 2 ≡ blank) → m 2 < p .variables
+        by (inl h) = h
+        by (inr h) = absurd (narrow .blank-none t below h)
+
+    variable : (q : ℕ) → q < 3 → m q < p .variables
+    variable = three (λ q. m q < p .variables) first-below second-below third-below
+
+    pub narrow-stands : Stands p ts counts i t h (narrowPlaces (4 * L * t + h) values next (L * m 0 + h) (L * m 1 + h) (L * m 2 + h))
+    narrow-stands = record {
+      rows = omega arith;
+      none = λ q l. sym (ne-eqb (m q) blank (λ e. omega (arith, variable q l, named .few)));
+      value = λ q l _. at-entry (valuesAt p) (course .at-values) q l;
+      sum = λ q l _. at-entry (sumsAt p i) (course .at-sums) q l;
+      wide = λ q l n. sym (le-ltb mostNarrow (getD counts (m q) 0) (narrow .counts-few (m q) (variable q l)));
+      apart = λ q l n e. absurd (subst T (sym e) tt);
+    }
