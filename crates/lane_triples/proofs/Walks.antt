@@ -1,14 +1,14 @@
 -- The walk: a triple in one four of lanes after the other, and the places of a triple. Assumes nothing.
-use Rattle.integers.proofs.Prelude.{_≡_, refl, sym, ap, subst, _∙_, Bool, false, List, ℕ, suc, _+_, _-_, _*_, _≤_, _<_, arith, decLt, le-ltb, ne-eqb, T, eqb, ℤ, length, getD}
-use mathlib.Core.Logic.{_⊎_, inl, inr}
+use Rattle.integers.proofs.Prelude.{_≡_, refl, sym, ap, subst, _∙_, Bool, false, List, ℕ, suc, _+_, _-_, _*_, _%_, _≤_, _<_, arith, decLt, le-ltb, ne-eqb, T, eqb, ℤ, length, getD}
+use mathlib.Core.Logic.{_⊎_, inl, inr, ⊎-elim}
 use Rattle.model.specs.Splitting.{blank, member, Members}
 use Rattle.model.proofs.Rows.{three}
 use Rattle.lanes.specs.declared.Plan.{Plan}
 use Rattle.lanes.specs.Lanes.{inLane, valuesAt, sumsAt, Fits, mostNarrow}
 use Rattle.lane_triples.specs.Step as Step
 use Rattle.lane_triples.specs.Step.{Places, narrowPlaces, anyPlaces, isWide, after}
-use Rattle.lane_triples.specs.Walk.{Tripled, Narrow, Due, Walked, InWalk, SameBeside, Course}
-use Rattle.lane_triples.proofs.Step.{Turn, Stands, stepped, stepped-beside}
+use Rattle.lane_triples.specs.Walk.{Tripled, Narrow, Halves, Due, Walked, InWalk, SameBeside, Course}
+use Rattle.lane_triples.proofs.Step.{refit, Turn, Stands, stepped, stepped-long, stepped-beside}
 
 -- a lane that is as it was
 walked-same : {p : Plan} {ts counts : List ℕ} {i : ℕ} {w : List ℤ} {l t : ℕ} {w′ w″ : List ℤ} → ((j : ℕ) → inLane (p .lanes) w″ l j ≡ inLane (p .lanes) w′ l j)
@@ -57,6 +57,47 @@ module _ {p : Plan} {ts counts : List ℕ} {i : ℕ} {to t l : ℕ} {w′ : List
       let same = stepped-beside turn st in
       (joined (carried same (inl (omega arith)) (omega arith) (now .0)) (stepped turn st), carried same (inr (omega arith)) room (λ n a b. now .1 n (omega arith) b))
 
+-- ---- the loop over the fours of from..to, which stands at lane l
+pub record AtFour (p : Plan) (from to l : ℕ) (w₀ w′ : List ℤ) : Type 0 where
+  pub first : from ≤ l
+  pub last : l ≤ to
+  pub whole : (to - l) % 4 ≡ 0
+  pub room : to ≤ p .lanes
+  pub fits : Fits p w′
+  pub long : length w′ ≡ length w₀
+  pub beside : SameBeside p from to w₀ w′
+
+pub at-first : {p : Plan} {from to : ℕ} {w : List ℤ} → Fits p w → Halves p from to → AtFour p from to from w w
+at-first {from = from} {to} fits h = record {
+  first = omega arith;
+  last = omega (arith, h .some);
+  whole = ⊎-elim (λ d. ⊎-elim (λ e. omega arith) (λ e. omega arith) (h .last)) (λ d. ⊎-elim (λ e. omega arith) (λ e. omega arith) (h .last)) (h .first);
+  room = h .room;
+  fits = fits;
+  long = refl;
+  beside = λ l j _ _. refl;
+}
+
+module _ {p : Plan} {from to l : ℕ} {w₀ w′ : List ℤ} (a : AtFour p from to l w₀ w′) (less : l < to) where
+  pub a-four : l + 4 ≤ to
+  a-four = omega (arith, a .whole)
+
+  pub next-four : {ts counts : List ℕ} {i : ℕ} {w : List ℤ} {t : ℕ} {s : Places} → Turn p ts counts i w t l w′ → Stands p ts counts i t l s
+      → AtFour p from to (l + 4) w₀ (after (p .lanes) w′ s 3)
+  next-four turn st = record {
+    first = omega (arith, a .first);
+    last = a-four;
+    whole = omega (arith, a .whole);
+    room = a .room;
+    fits = refit (a .fits) (stepped-long turn st);
+    long = stepped-long turn st ∙ a .long;
+    beside = λ n j m o. stepped-beside turn st n j m (by n o) ∙ a .beside n j m o;
+  }
+    where
+      by : (n : ℕ) → (n < from) ⊎ (to ≤ n) → (n < l) ⊎ (l + 4 ≤ n)
+      by n (inl h) = inl (omega (arith, a .first))
+      by n (inr h) = inr (omega (arith, a-four))
+
 -- ---- the places of triple t, in the lanes from h on
 abbrev place : (ℕ → ℕ) → ℕ → ℕ
 place f = Step.three (f 0) (f 1) (f 2)
@@ -94,8 +135,8 @@ module _ {p : Plan} {ts counts : List ℕ} {i values next : ℕ} (course : Cours
   at-any a e q l = rw (of-three m q l) (omega arith)
 
   -- any triple
-  pub any-stands : Stands p ts counts i t h (anyPlaces counts L (4 * L * t + h) (values + h) (next + h) (L * p .variables) (m 0) (m 1) (m 2))
-  any-stands = record {
+  pub any-stands : {a b c : ℕ} → a ≡ m 0 → b ≡ m 1 → c ≡ m 2 → Stands p ts counts i t h (anyPlaces counts L (4 * L * t + h) (values + h) (next + h) (L * p .variables) a b c)
+  any-stands d e f = rw (d, e, f) record {
     rows = omega arith;
     none = three (λ q. thirdAlone (eqb (m 2) blank) q ≡ eqb (m q) blank) (sym (ne-eqb (m 0) blank (λ e. omega (arith, first-below, named .few))))
         (sym (ne-eqb (m 1) blank (λ e. omega (arith, second-below, named .few)))) refl;
@@ -117,8 +158,8 @@ module _ {p : Plan} {ts counts : List ℕ} {i values next : ℕ} (course : Cours
     variable : (q : ℕ) → q < 3 → m q < p .variables
     variable = three (λ q. m q < p .variables) first-below second-below third-below
 
-    pub narrow-stands : Stands p ts counts i t h (narrowPlaces (4 * L * t + h) values next (L * m 0 + h) (L * m 1 + h) (L * m 2 + h))
-    narrow-stands = record {
+    pub narrow-stands : {a b c : ℕ} → a ≡ m 0 → b ≡ m 1 → c ≡ m 2 → Stands p ts counts i t h (narrowPlaces (4 * L * t + h) values next (L * a + h) (L * b + h) (L * c + h))
+    narrow-stands d e f = rw (d, e, f) record {
       rows = omega arith;
       none = λ q l. sym (ne-eqb (m q) blank (λ e. omega (arith, variable q l, named .few)));
       value = λ q l _. at-entry (valuesAt p) (course .at-values) q l;
