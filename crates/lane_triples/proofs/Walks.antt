@@ -1,6 +1,8 @@
 -- The walk: a triple in one four of lanes after the other, and the places of a triple. Assumes nothing.
 use Rattle.integers.proofs.Prelude.{_≡_, refl, sym, ap, subst, _∙_, Bool, false, List, ℕ, suc, _+_, _-_, _*_, _%_, _≤_, _<_, arith, decLt, le-ltb, ne-eqb, T, eqb, ℤ, length, getD}
-use mathlib.Core.Logic.{_⊎_, inl, inr, ⊎-elim}
+use mathlib.Core.Logic.{_⊎_, inl, inr, ⊎-elim, _≢_}
+use native.Mathlib.Nat.{mul-le-mul}
+use Rattle.model.specs.Limits.{mostTriples}
 use Rattle.model.specs.Splitting.{blank, member, Members}
 use Rattle.model.proofs.Rows.{three}
 use Rattle.lanes.specs.declared.Plan.{Plan}
@@ -8,7 +10,7 @@ use Rattle.lanes.specs.Lanes.{inLane, valuesAt, sumsAt, Fits, mostNarrow}
 use Rattle.lane_triples.specs.Step as Step
 use Rattle.lane_triples.specs.Step.{Places, narrowPlaces, anyPlaces, isWide, after}
 use Rattle.lane_triples.specs.Walk.{Tripled, Narrow, Halves, Due, Walked, InWalk, SameBeside, Course}
-use Rattle.lane_triples.proofs.Step.{refit, Turn, Stands, stepped, stepped-long, stepped-beside}
+use Rattle.lane_triples.proofs.Step.{refit, eight-most, Turn, Stands, stepped, stepped-long, stepped-beside}
 
 -- a lane that is as it was
 walked-same : {p : Plan} {ts counts : List ℕ} {i : ℕ} {w : List ℤ} {l t : ℕ} {w′ w″ : List ℤ} → ((j : ℕ) → inLane (p .lanes) w″ l j ≡ inLane (p .lanes) w′ l j)
@@ -82,6 +84,9 @@ module _ {p : Plan} {from to l : ℕ} {w₀ w′ : List ℤ} (a : AtFour p from 
   pub a-four : l + 4 ≤ to
   a-four = omega (arith, a .whole)
 
+  pub lane-low : l + 4 ≤ 8
+  lane-low = omega (arith, a-four, a .room, eight-most (a .fits))
+
   pub next-four : {ts counts : List ℕ} {i : ℕ} {w : List ℤ} {t : ℕ} {s : Places} → Turn p ts counts i w t l w′ → Stands p ts counts i t l s
       → AtFour p from to (l + 4) w₀ (after (p .lanes) w′ s 3)
   next-four turn st = record {
@@ -97,6 +102,10 @@ module _ {p : Plan} {from to l : ℕ} {w₀ w′ : List ℤ} (a : AtFour p from 
       by : (n : ℕ) → (n < from) ⊎ (to ≤ n) → (n < l) ⊎ (l + 4 ≤ n)
       by n (inl h) = inl (omega (arith, a .first))
       by n (inr h) = inr (omega (arith, a-four))
+
+-- no index is too large
+pub product-low : {p : Plan} {w : List ℤ} → Fits p w → (v n : ℕ) → v ≤ n → p .lanes * v ≤ 8 * n
+product-low fits v n h = mul-le-mul (eight-most fits) h
 
 -- ---- the places of triple t, in the lanes from h on
 abbrev place : (ℕ → ℕ) → ℕ → ℕ
@@ -124,6 +133,23 @@ module _ {p : Plan} {ts counts : List ℕ} {i values next : ℕ} (course : Cours
   pub second-below : m 1 < p .variables
   second-below = named .second t in-triples
 
+  pub third-below : m 2 ≢ blank → m 2 < p .variables
+  third-below some = by (named .third t in-triples)
+    where
+      by : (m 2 < p .variables) ⊎ (m 2 ≡ blank) → m 2 < p .variables
+      by (inl h) = h
+      by (inr h) = absurd (some h)
+
+  pub third-most : m 2 ≤ blank
+  third-most = by (named .third t in-triples)
+    where
+      by : (m 2 < p .variables) ⊎ (m 2 ≡ blank) → m 2 ≤ blank
+      by (inl h) = omega (arith, named .few)
+      by (inr h) = omega arith
+
+  pub may-read : p .triples ≤ mostTriples → (q : ℕ) → q < 3 → (t ≤ mostTriples) × (q < 3) × (3 * t + q < length ts)
+  may-read few q l = (omega arith, l, omega (arith, in-triples))
+
   -- that of three which place q has; where its entry of a part stands that begins at `at`
   of-three : (f : ℕ → ℕ) (q : ℕ) → q < 3 → place f q ≡ f q
   of-three f = three (λ q. place f q ≡ f q) refl refl refl
@@ -148,15 +174,11 @@ module _ {p : Plan} {ts counts : List ℕ} {i values next : ℕ} (course : Cours
 
   -- where all is known to be narrow
   module _ (narrow : Narrow p ts counts) where
-    pub third-below : m 2 < p .variables
-    third-below = by (named .third t in-triples)
-      where
-        by : (m 2 < p .variables) ⊎ (m 2 ≡ blank) → m 2 < p .variables
-        by (inl h) = h
-        by (inr h) = absurd (narrow .blank-none t below h)
+    pub third-narrow : m 2 < p .variables
+    third-narrow = third-below (narrow .blank-none t below)
 
     variable : (q : ℕ) → q < 3 → m q < p .variables
-    variable = three (λ q. m q < p .variables) first-below second-below third-below
+    variable = three (λ q. m q < p .variables) first-below second-below third-narrow
 
     pub narrow-stands : {a b c : ℕ} → a ≡ m 0 → b ≡ m 1 → c ≡ m 2 → Stands p ts counts i t h (narrowPlaces (4 * L * t + h) values next (L * a + h) (L * b + h) (L * c + h))
     narrow-stands d e f = rw (d, e, f) record {

@@ -1,12 +1,11 @@
 -- `lane_triples::walk_narrow` meets its contract: the lanes before l have the triple done, those from l on have not. Assumes nothing.
 use Rattle.integers.proofs.Prelude.{_≡_, subst, List, ℕ, suc, _+_, _-_, _*_, _≤_, _<_, arith, add-one, ℤ, length}
-use native.Mathlib.Nat.{mul-le-mul}
 use Rattle.model.specs.Limits.{mostTriples, mostVariables}
 use Rattle.model.specs.Splitting.{member}
 use Rattle.lane_triples.specs.Step.{Places, narrowPlaces}
 use Rattle.lane_triples.specs.Walk.{Narrow, Course, InWalk}
 use Rattle.lane_triples.proofs.Step.{Turn, Stands, eight-most, may-step}
-use Rattle.lane_triples.proofs.Walks.{InTurn, turn-of, four-more, AtFour, at-first, a-four, next-four, first-below, second-below, third-below, narrow-stands}
+use Rattle.lane_triples.proofs.Walks.{InTurn, turn-of, four-more, AtFour, at-first, a-four, lane-low, next-four, product-low, first-below, second-below, third-narrow, may-read, narrow-stands}
 use Rattle.lane_triples.proofs.walk_narrow.Statement.{statement}
 use Rattle.lane_triples.proofs.walk_narrow.Tie as tie
 
@@ -23,23 +22,23 @@ module _ (s : tie.Start Inv-loop μ-loop) where
   course : Course (s .args .p) (s .args .triples .now) (s .pre .1 .0) (s .pre .1 .2 .0) (s .args .values) (s .args .next)
   course = s .pre .1 .2 .2
 
-  may-read : (q : ℕ) → q < 3 → (s .args .t ≤ mostTriples) × (q < 3) × (3 * s .args .t + q < length (s .args .triples .now))
-  may-read q l = (omega (arith, s .pre .0), l, omega (arith, s .pre .0 .2, course .tripled .long))
+  reads : (q : ℕ) → q < 3 → (s .args .t ≤ mostTriples) × (q < 3) × (3 * s .args .t + q < length (s .args .triples .now))
+  reads = may-read course (s .args .t) 0 (s .pre .0 .2) (s .pre .0 .0 .triples)
 
-  low : {v u : ℕ} → v ≡ u → u < s .args .p .variables → s .args .p .lanes * v ≤ 8 * mostVariables
-  low {v} e h = let few : v ≤ mostVariables = omega (arith, s .pre .0 .0 .variables) in mul-le-mul (eight-most (s .pre .0 .0)) few
+  low : (v : ℕ) {u : ℕ} → v ≡ u → u < s .args .p .variables → s .args .p .lanes * v ≤ 8 * mostVariables
+  low v e h = product-low (s .pre .0 .0) v mostVariables (omega (arith, s .pre .0 .0 .variables))
 
   low-1 : {v : ℕ} → v ≡ member (s .args .triples .now) (s .args .t) 0 → s .args .p .lanes * v ≤ 8 * mostVariables
-  low-1 e = low e (first-below course (s .args .t) 0 (s .pre .0 .2))
+  low-1 e = low _ e (first-below course (s .args .t) 0 (s .pre .0 .2))
 
   low-2 : {v : ℕ} → v ≡ member (s .args .triples .now) (s .args .t) 1 → s .args .p .lanes * v ≤ 8 * mostVariables
-  low-2 e = low e (second-below course (s .args .t) 0 (s .pre .0 .2))
+  low-2 e = low _ e (second-below course (s .args .t) 0 (s .pre .0 .2))
 
   low-3 : {v : ℕ} → v ≡ member (s .args .triples .now) (s .args .t) 2 → s .args .p .lanes * v ≤ 8 * mostVariables
-  low-3 e = low e (third-below course (s .args .t) 0 (s .pre .0 .2) (s .pre .1 .1))
+  low-3 e = low _ e (third-narrow course (s .args .t) 0 (s .pre .0 .2) (s .pre .1 .1))
 
   row-low : s .args .p .lanes * s .args .t ≤ 8 * mostTriples
-  row-low = let few : s .args .t ≤ mostTriples = omega (arith, s .pre .0) in mul-le-mul (eight-most (s .pre .0 .0)) few
+  row-low = product-low (s .pre .0 .0) (s .args .t) mostTriples (omega (arith, s .pre .0))
 
 abbrev start : tie.After-variable3 Inv-loop μ-loop → tie.Start Inv-loop μ-loop
 start c = c .before .before .before .before .before .before
@@ -89,20 +88,19 @@ returns c =
     (λ counts n i w k begin. rw (add-one (a .t)) (subst (λ (m : ℕ). InWalk (a .p) (a .triples .now) counts i w (a .from) m (suc (a .t)) (l .loop .work)) e (l .loop .inv .1 counts i n k w begin .0)),
     l .loop .inv .0 .beside)
 
--- no index is too large
-lane-low : (c : tie.In-loop Inv-loop μ-loop) → c .before .loop .l + 4 ≤ 8
-lane-low c = let l = c .before in omega (arith, a-four (l .loop .inv .0) (c .loop-test .taken), l .loop .inv .0 .room, eight-most (s l .pre .0 .0))
+lane : (c : tie.In-loop Inv-loop μ-loop) → c .before .loop .l + 4 ≤ 8
+lane c = lane-low (c .before .loop .inv .0) (c .loop-test .taken)
 
 pub walk-narrow-spec : {M : Type 1} → statement M
 walk-narrow-spec =
-    tie.close (tie.spec Inv-loop μ-loop (λ c κs. may-read (c .before) 0 (omega arith)) (λ c. omega (arith, low-1 (c .before .before .before) (c .before .variable .ensures)))
-    (λ c κs. may-read (c .before .before .before) 1 (omega arith)) (λ c. omega (arith, low-2 (c .before .before .before .before .before) (c .before .variable2 .ensures)))
-    (λ c κs. may-read (c .before .before .before .before .before) 2 (omega arith)) (λ c. omega (arith, low-3 (start (c .before)) (c .before .variable3 .ensures)))
+    tie.close (tie.spec Inv-loop μ-loop (λ c κs. reads (c .before) 0 (omega arith)) (λ c. omega (arith, low-1 (c .before .before .before) (c .before .variable .ensures)))
+    (λ c κs. reads (c .before .before .before) 1 (omega arith)) (λ c. omega (arith, low-2 (c .before .before .before .before .before) (c .before .variable2 .ensures)))
+    (λ c κs. reads (c .before .before .before .before .before) 2 (omega arith)) (λ c. omega (arith, low-3 (start (c .before)) (c .before .variable3 .ensures)))
     (λ c. let s = start (c .before) in (at-first (s .pre .0 .0) (s .pre .0 .1), λ counts i n k w begin. ((λ l a b. absurd (omega arith)), begin)))
     (λ c. omega (arith, eight-most (s (c .before .before .before) .pre .0 .0))) (λ c. omega (arith, row-low (s (c .before .before .before))))
-    (λ c. omega (arith, row-low (s (c .before .before .before)), lane-low (c .before .before)))
-    (λ c. let l = c .before .before .before in omega (arith, low-1 (s l) (named l .before .before .before .before .variable .ensures), lane-low (c .before .before)))
-    (λ c. let l = c .before .before .before in omega (arith, low-2 (s l) (named l .before .before .variable2 .ensures), lane-low (c .before .before)))
-    (λ c. let l = c .before .before .before in omega (arith, low-3 (s l) (named l .variable3 .ensures), lane-low (c .before .before)))
-    renew-narrow-requires (λ c. omega (arith, lane-low (c .before .before .before .before))) (λ c. omega (arith, c .before .before .before .before .loop-test .taken)) loop-again
+    (λ c. omega (arith, row-low (s (c .before .before .before)), lane (c .before .before)))
+    (λ c. let l = c .before .before .before in omega (arith, low-1 (s l) (named l .before .before .before .before .variable .ensures), lane (c .before .before)))
+    (λ c. let l = c .before .before .before in omega (arith, low-2 (s l) (named l .before .before .variable2 .ensures), lane (c .before .before)))
+    (λ c. let l = c .before .before .before in omega (arith, low-3 (s l) (named l .variable3 .ensures), lane (c .before .before)))
+    renew-narrow-requires (λ c. omega (arith, lane (c .before .before .before .before))) (λ c. omega (arith, c .before .before .before .before .loop-test .taken)) loop-again
     (λ c. c .before .loop .inv .0 .long) returns)
