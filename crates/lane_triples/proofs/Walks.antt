@@ -103,6 +103,22 @@ module _ {p : Plan} {from to l : ℕ} {w₀ w′ : List ℤ} (a : AtFour p from 
       by n (inl h) = inl (omega (arith, a .first))
       by n (inr h) = inr (omega (arith, a-four))
 
+-- ---- the loop over the triples from t to `end`, which stands at triple u
+pub record AtTriple (p : Plan) (from to t end u : ℕ) (w₀ w′ : List ℤ) : Type 0 where
+  pub first : t ≤ u
+  pub last : u ≤ end
+  pub fits : Fits p w′
+  pub long : length w′ ≡ length w₀
+  pub beside : SameBeside p from to w₀ w′
+
+pub at-begin : {p : Plan} {from to t end : ℕ} {w : List ℤ} → Fits p w → t ≤ end → AtTriple p from to t end t w w
+at-begin fits h = record { first = omega arith; last = h; fits = fits; long = refl; beside = λ l j _ _. refl }
+
+pub next-triple : {p : Plan} {from to t end u : ℕ} {w₀ w′ w″ : List ℤ} → AtTriple p from to t end u w₀ w′ → u < end → length w″ ≡ length w′ → SameBeside p from to w′ w″
+    → AtTriple p from to t end (u + 1) w₀ w″
+next-triple a less long same =
+    record { first = omega (arith, a .first); last = omega arith; fits = refit (a .fits) long; long = long ∙ a .long; beside = λ l j m o. same l j m o ∙ a .beside l j m o }
+
 -- no index is too large
 pub product-low : {p : Plan} {w : List ℤ} → Fits p w → (v n : ℕ) → v ≤ n → p .lanes * v ≤ 8 * n
 product-low fits v n h = mul-le-mul (eight-most fits) h

@@ -50,10 +50,11 @@ returns : tie.Need-returns
 unfolding withRows
 returns c =
     let d = c .before .before .before .before in
-    let a = d .before .before .before .args in
-    (c .shares .ensures .0
-    ∙ ap (λ (q : List (List ℤ)). tab 3 (λ p. tab 4 (λ k. sumℤ 4 (λ r. sign r p *ℤ pos (slack (cell q r k) + multiplier (cell q r k)))))) (new-is d),
-    c .before .before .store-rows .ensures ∙ ap (λ (q : List (List ℤ)). withRows (a .lanes) (a .work .now) (a .i) (cell q)) (new-is d))
+    let a = d .before .before .before .args in (
+      c .shares .ensures .0
+          ∙ ap (λ (q : List (List ℤ)). tab 3 (λ p. tab 4 (λ k. sumℤ 4 (λ r. sign r p *ℤ pos (slack (cell q r k) + multiplier (cell q r k)))))) (new-is d),
+      c .before .before .store-rows .ensures ∙ ap (λ (q : List (List ℤ)). withRows (a .lanes) (a .work .now) (a .i) (cell q)) (new-is d),
+    )
 
 pub renew-four-spec : {M : Type 1} → statement M
 renew-four-spec =

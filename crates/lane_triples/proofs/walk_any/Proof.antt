@@ -93,16 +93,20 @@ loop-again c =
     let l = t .before in
     let a = l .loop .inv .0 in
     let h = t .loop-test .taken in
-    rw (c .before .renew-any .ensures) (next-four a h (turn l h) (stands l (course (s l))), λ i k.
-    four-more (a .fits) (k .tripled) (k .list) (s l .pre .0 .2) (a-four a h) (a .room) (a .first) (stands l k) (l .loop .inv .1 i k))
+    rw (c .before .renew-any .ensures) (
+      next-four a h (turn l h) (stands l (course (s l))),
+      λ i k.
+          four-more (a .fits) (k .tripled) (k .list) (s l .pre .0 .2) (a-four a h) (a .room) (a .first) (stands l k) (l .loop .inv .1 i k),
+    )
 
 returns : tie.Need-returns Inv-loop μ-loop
 returns c =
     let l = c .before in
     let a = s l .args in
-    let e : l .loop .l ≡ a .to = omega (arith, l .loop .inv .0 .last, c .loop-test .left) in
-    (λ i w k begin. rw (add-one (a .t)) (subst (λ (m : ℕ). InWalk (a .p) (a .triples .now) (a .counts .now) i w (a .from) m (suc (a .t)) (l .loop .work)) e (l .loop .inv .1 i k w begin .0)),
-    l .loop .inv .0 .beside)
+    let e : l .loop .l ≡ a .to = omega (arith, l .loop .inv .0 .last, c .loop-test .left) in (
+      λ i w k begin. rw (add-one (a .t)) (subst (λ (m : ℕ). InWalk (a .p) (a .triples .now) (a .counts .now) i w (a .from) m (suc (a .t)) (l .loop .work)) e (l .loop .inv .1 i k w begin .0)),
+      l .loop .inv .0 .beside,
+    )
 
 pub walk-any-spec : {M : Type 1} → statement M
 walk-any-spec =

@@ -77,16 +77,20 @@ loop-again c =
     let l = t .before in
     let a = l .loop .inv .0 in
     let h = t .loop-test .taken in
-    rw (c .before .renew-narrow .ensures) (next-four a h (turn l h) (stands l (s l .pre .1 .1) (course (s l))), λ counts i n k.
-    four-more (a .fits) (k .tripled) (k .list) (s l .pre .0 .2) (a-four a h) (a .room) (a .first) (stands l n k) (l .loop .inv .1 counts i n k))
+    rw (c .before .renew-narrow .ensures) (
+      next-four a h (turn l h) (stands l (s l .pre .1 .1) (course (s l))),
+      λ counts i n k.
+          four-more (a .fits) (k .tripled) (k .list) (s l .pre .0 .2) (a-four a h) (a .room) (a .first) (stands l n k) (l .loop .inv .1 counts i n k),
+    )
 
 returns : tie.Need-returns Inv-loop μ-loop
 returns c =
     let l = c .before in
     let a = s l .args in
-    let e : l .loop .l ≡ a .to = omega (arith, l .loop .inv .0 .last, c .loop-test .left) in
-    (λ counts n i w k begin. rw (add-one (a .t)) (subst (λ (m : ℕ). InWalk (a .p) (a .triples .now) counts i w (a .from) m (suc (a .t)) (l .loop .work)) e (l .loop .inv .1 counts i n k w begin .0)),
-    l .loop .inv .0 .beside)
+    let e : l .loop .l ≡ a .to = omega (arith, l .loop .inv .0 .last, c .loop-test .left) in (
+      λ counts n i w k begin. rw (add-one (a .t)) (subst (λ (m : ℕ). InWalk (a .p) (a .triples .now) counts i w (a .from) m (suc (a .t)) (l .loop .work)) e (l .loop .inv .1 counts i n k w begin .0)),
+      l .loop .inv .0 .beside,
+    )
 
 lane : (c : tie.In-loop Inv-loop μ-loop) → c .before .loop .l + 4 ≤ 8
 lane c = lane-low (c .before .loop .inv .0) (c .loop-test .taken)
