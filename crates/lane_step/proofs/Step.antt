@@ -14,7 +14,7 @@ use Rattle.model.specs.Iteration.{at, _when_, occurrences, sumOf, divisor, rene
 use Rattle.model.specs.Run.{settledBy, stop}
 use Rattle.model.specs.Bounds.{RowsWithin}
 use Rattle.model.proofs.Rows.{at-tab}
-use Rattle.model.proofs.Bounds.{rows-renewed}
+use Rattle.model.proofs.Bounds.{renewed-within}
 use Rattle.lanes.specs.declared.Plan.{Plan}
 use Rattle.lanes.specs.Lanes.{inLane, valuesAt, sumsAt, weighedAt, laneRows, laneValues, laneSum, laneSums, lowPart, highPart, laneWeighed, laneState, Kept, SumsKept}
 use Rattle.lane_values.specs.Valued.{laneValue, LaneValued, WeighedWithin}
@@ -150,7 +150,7 @@ module _ {p : Plan} {counts : List ℕ} (o : Settings) {i : ℕ} (two : i ≤ 1)
         let k : SumsKept p counts (1 - i) w₂ l = λ x h. rw (counted x h) at (walked .kept x h) in
         let b = both p counts i w₂ l two (kept-same p w w₂ l counts i same-second (one-of p counts i n w l two s)) k in
         record {
-          rows = rw rows-second (rows-renewed ts (laneRows p w₁ l) (laneValues p w₁ l) first-small (4 * p .triples) n (rw rows-first (s .rows)));
+          rows = rw rows-second (renewed-within ts (laneValues p w₁ l) first-small n (p .triples) (laneRows p w₁ l) (rw rows-first (s .rows)));
           first = b .0;
           second = b .1;
           values = λ x h. rw (walked .values x h, valued .values x h) (raised (c x) (value-small x));

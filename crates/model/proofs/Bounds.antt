@@ -11,7 +11,7 @@ use Rattle.quotient.specs.Quotient.{unit, quotient}
 use Rattle.quotient.specs.Quotient.Laws.{quotient-range}
 use Rattle.model.specs.declared.Settings.{Settings}
 use Rattle.model.specs.Causes.{_if_}
-use Rattle.model.specs.Limits.{mostChecks, mostTriples, mostWeight, mostRatio, mostIterations, mostCost, mostSlack, mostMultiplier, mostRow, mostSum, mostNumerator}
+use Rattle.model.specs.Limits.{mostChecks, mostTriples, mostWeight, mostRatio, mostIterations, mostDone, mostCost, mostSlack, mostMultiplier, mostRow, mostSum, mostNumerator}
 use Rattle.model.specs.Code.{Code, triples, variables}
 use Rattle.model.specs.Sound.{Sound}
 use Rattle.model.specs.Calls.{outOfRange}
@@ -49,6 +49,26 @@ module _ (s sum : ℤ) (small : natAbs sum ≤ 49152) where
   pub multiplier-change : natAbs (pos (multiplier (renewed s sum)) -ℤ pos (multiplier s)) ≤ 65536
   multiplier-change = abs-difference (multiplier (renewed s sum)) (multiplier s) 65536 (omega (arith, renewed-multiplier)) (omega (arith, parts, about sum))
 
+  pub renewed-small : multiplier s ≤ mostMultiplier mostDone → natAbs (renewed s sum) ≤ mostRow
+  renewed-small h = omega (arith, about (renewed s sum), renewed-multiplier, renewed-slack)
+
+-- ---- all rows, renewed with the values c
+module _ (ts : List ℕ) (c : List ℤ) (small : (v : ℕ) → natAbs (at c v) ≤ unit) where
+  pub sumAt-small : (t r : ℕ) → r < 4 → natAbs (sumAt ts c t r) ≤ 49152
+  sumAt-small t r h =
+      let of : (p : ℕ) → natAbs (valueAt c (member ts t p)) ≤ unit = λ p. value-small c (member ts t p) (small (member ts t p)) in
+      rowSum-bound r _ _ _ h (of 0) (of 1) (of 2)
+
+  pub renewed-within : (n T : ℕ) (s : List ℤ) → RowsWithin n s → RowsWithin (suc n) (tab (4 * T) (renewedAt ts s c))
+  renewed-within n T s within =
+      let sum : ℕ → ℤ = λ i. sumAt ts c (i / 4) (i % 4) in
+      let sum-small : (i : ℕ) → natAbs (sum i) ≤ 49152 = λ i. sumAt-small (i / 4) (i % 4) (omega arith) in
+      record {
+        multipliers = λ i. at-tab (λ z. multiplier z ≤ mostMultiplier (suc n)) (4 * T) (renewedAt ts s c) i
+            (λ _. omega (arith, renewed-multiplier (at s i) (sum i) (sum-small i), within .multipliers i)) (omega arith);
+        slacks = λ i. at-tab (λ z. slack z ≤ mostSlack) (4 * T) (renewedAt ts s c) i (λ _. renewed-slack (at s i) (sum i) (sum-small i)) (omega arith);
+      }
+
 -- ---- a total, where no part changes by more than 65,536
 square : (a b : ℕ) → natAbs (pos b -ℤ pos a) ≤ 65536 → squareOfChange a b ≤ 4294967296
 square a b h = mul-le-mul h h
@@ -69,23 +89,6 @@ divisor-above e A h k = simp toℕ (omega arith)
 pub divisor-below : (e A m : ℕ) → e ≤ m → divisor (4 * e) A ≤ℤ pos (1024 * m)
 divisor-below e A m h = simp toℕ (omega arith)
 
--- ---- the rows, renewed with any values within U
-module _ (ts : List ℕ) (s c : List ℤ) (value : (v : ℕ) → natAbs (at c v) ≤ unit) where
-  pub row-sum-small : (t r : ℕ) → r < 4 → natAbs (sumAt ts c t r) ≤ 49152
-  row-sum-small t r h =
-      let small : (p : ℕ) → natAbs (valueAt c (member ts t p)) ≤ unit = λ p. value-small c (member ts t p) (value (member ts t p)) in
-      rowSum-bound r (valueAt c (member ts t 0)) (valueAt c (member ts t 1)) (valueAt c (member ts t 2)) h (small 0) (small 1) (small 2)
-
-  pub rows-renewed : (m n : ℕ) → RowsWithin n s → RowsWithin (suc n) (tab m (renewedAt ts s c))
-  rows-renewed m n within =
-      let sum : ℕ → ℤ = λ i. sumAt ts c (i / 4) (i % 4) in
-      let small : (i : ℕ) → natAbs (sum i) ≤ 49152 = λ i. row-sum-small (i / 4) (i % 4) (omega arith) in
-      record {
-        multipliers = λ i. at-tab (λ s. multiplier s ≤ mostMultiplier (suc n)) m (renewedAt ts s c) i
-            (λ _. omega (arith, renewed-multiplier (at s i) (sum i) (small i), within .multipliers i)) (omega arith);
-        slacks = λ i. at-tab (λ s. slack s ≤ mostSlack) m (renewedAt ts s c) i (λ _. renewed-slack (at s i) (sum i) (small i)) (omega arith);
-      }
-
 -- ---- one iteration: the values and the rows, whatever the settings and costs
 module _ (g : System) (o : Settings) (costs : List ℤ) (a : State) where
   abbrev e : ℕ → ℕ
@@ -102,7 +105,7 @@ module _ (g : System) (o : Settings) (costs : List ℤ) (a : State) where
 
   pub rows : (n : ℕ) → RowsWithin n (a .rows) → RowsWithin (suc n) (b .rows)
   unfolding iterate rowsOf
-  rows n within = rows-renewed (g .members) (a .rows) (b .values) values (4 * g .triples) n within
+  rows n within = renewed-within (g .members) (b .values) values n (g .triples) (a .rows) within
 
 -- ---- rows that a run reaches: how large s is, a position's share of a triple, and S of a variable
 pub row-small : (n : ℕ) (s : List ℤ) → n ≤ mostIterations → RowsWithin n s → (i : ℕ) → natAbs (at s i) ≤ mostRow
@@ -158,7 +161,7 @@ module _ (g : System) (o : Settings) (costs : List ℤ) (n : ℕ) (a : State) (r
     numerators = numerators;
     values = values g o costs a;
     rows = rows g o costs a n within;
-    multiplier-total = changes-bound multiplier (g .triples) (a .rows) (b′ .rows) (ready .triples) (λ t r l k. rw (row-renewed g (a .rows) (b′ .values) t r l k) (multiplier-change (row (a .rows) t r) (sumAt (g .members) (b′ .values) t r) (row-sum-small (g .members) (a .rows) (b′ .values) (values g o costs a) t r k)));
+    multiplier-total = changes-bound multiplier (g .triples) (a .rows) (b′ .rows) (ready .triples) (λ t r l k. rw (row-renewed g (a .rows) (b′ .values) t r l k) (multiplier-change (row (a .rows) t r) (sumAt (g .members) (b′ .values) t r) (sumAt-small (g .members) (b′ .values) (values g o costs a) t r k)));
     slack-total = changes-bound slack (g .triples) (a .rows) (b′ .rows) (ready .triples) (λ t r l k. abs-difference (slack (row (b′ .rows) t r)) (slack (row (a .rows) t r)) 65536 (omega (arith, rows g o costs a n within .slacks (4 * t + r))) (omega (arith, within .slacks (4 * t + r))));
   }
 

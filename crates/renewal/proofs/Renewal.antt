@@ -15,11 +15,10 @@ use Rattle.quotient.specs.Quotient.{unit}
 use Rattle.model.specs.Limits.{mostTriples, mostDone, mostSlack, mostRow}
 use Rattle.model.specs.Causes.{_if_}
 use Rattle.model.specs.Splitting.{blank, member}
-use Rattle.model.specs.Iteration.{at, valueAt, sumAt, row, slack, multiplier, renewed, renewedAt}
+use Rattle.model.specs.Iteration.{at, sumAt, row, slack, multiplier, renewed, renewedAt}
 use Rattle.model.specs.Run.{squareOfChange, changes, settledBy}
 use Rattle.model.specs.Bounds.{RowsWithin}
-use Rattle.model.proofs.Bounds.{rowSum-bound, renewed-multiplier, renewed-slack, multiplier-change}
-use Rattle.model.proofs.Rows.{value-small}
+use Rattle.model.proofs.Bounds.{renewed-slack, renewed-small, multiplier-change, sumAt-small}
 use Rattle.rows.specs.Sides.{Rows, changeOf}
 use Rattle.rows.proofs.Four.{rows-are, side-multiplier, side-slack}
 use Rattle.layout.specs.Transposed.{cell, Fours, lane, stored, place, straight, Aligned}
@@ -39,26 +38,20 @@ pub old-fours : (s : List ℤ) (t : ℕ) → ((i : ℕ) → 4 * t ≤ i → Smal
 old-fours s t small = fours-are (λ k r. row s (t + r) k) (λ k r _ _. small-abs (row s (t + r) k) (small (4 * (t + r) + k) (omega arith)))
 
 module _ (ts : List ℕ) (c : List ℤ) (unit-most : (v : ℕ) → natAbs (at c v) ≤ unit) where
-  sum-small : (t r : ℕ) → r < 4 → natAbs (sumAt ts c t r) ≤ 3 * unit
-  sum-small t r l = rowSum-bound r _ _ _ l (small 0) (small 1) (small 2)
-    where
-      small : (p : ℕ) → natAbs (valueAt c (member ts t p)) ≤ unit
-      small p = value-small c (member ts t p) (unit-most (member ts t p))
-
   new-abs : (z : ℤ) (t r : ℕ) → r < 4 → SmallRow z → natAbs (renewed z (sumAt ts c t r)) ≤ mostRow
-  new-abs z t r l h = let sum = sumAt ts c t r in let k = sum-small t r l in omega (arith, about (renewed z sum), renewed-multiplier z sum k, renewed-slack z sum k, h .0)
+  new-abs z t r l h = renewed-small z (sumAt ts c t r) (sumAt-small ts c unit-most t r l) (h .0)
 
   -- the square of a change, on both sides
   multiplier-most : (z : ℤ) (t r : ℕ) → r < 4 → SmallRow z → changeOf (pos 1) z (renewed z (sumAt ts c t r)) ≤ 4294967296
   multiplier-most z t r l h =
       let sum = sumAt ts c t r in
-      let d = multiplier-change z sum (sum-small t r l) in
+      let d = multiplier-change z sum (sumAt-small ts c unit-most t r l) in
       rw (side-multiplier z, side-multiplier (renewed z sum)) (mul-le-mul d d)
 
   slack-most : (z : ℤ) (t r : ℕ) → r < 4 → SmallRow z → changeOf (negsuc 0) z (renewed z (sumAt ts c t r)) ≤ 4294967296
   slack-most z t r l h =
       let sum = sumAt ts c t r in
-      let d = abs-difference (slack (renewed z sum)) (slack z) mostSlack (omega (arith, renewed-slack z sum (sum-small t r l))) (omega (arith, h .1)) in
+      let d = abs-difference (slack (renewed z sum)) (slack z) mostSlack (omega (arith, renewed-slack z sum (sumAt-small ts c unit-most t r l))) (omega (arith, h .1)) in
       rw (side-slack z, side-slack (renewed z sum)) (mul-le-mul d d)
 
   -- and after
