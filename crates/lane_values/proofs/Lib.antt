@@ -1,2 +1,3 @@
 pub mod Stored
 pub mod Tables
+pub mod Bits

@@ -63,6 +63,15 @@ module _ {n size : ℕ} {parts : List ℕ} (a : Parts n size parts) where
 pub nothing-stored : {m : ℕ} {parts : List ℕ} {f : ℕ → ℤ} {from to : ℕ} {w : List ℤ} → to ≤ from → Stored m parts f from to w w
 nothing-stored h = record { long = refl; new = λ q i hq hf ht. absurd (omega arith); old = λ j out. refl }
 
+-- the same values by another name
+pub stored-same : {m : ℕ} {parts : List ℕ} {f g : ℕ → ℤ} {from to : ℕ} {w w′ : List ℤ} → ((i : ℕ) → from ≤ i → i < to → f i ≡ g i)
+    → Stored m parts f from to w w′ → Stored m parts g from to w w′
+stored-same {m} {parts} {f} {g} {from} {to} {w} {w′} e s = record { long = s .long; new = new; old = s .old }
+  where
+    new : (q i : ℕ) → q < m → from ≤ i → i < to → at w′ (getD parts q 0 + i) ≡ stored g q i
+    new zero i hq hf ht = s .new 0 i hq hf ht ∙ e i hf ht
+    new (suc q) i hq hf ht = s .new (suc q) i hq hf ht
+
 module _ {n size : ℕ} {parts : List ℕ} (a : Parts n size parts) (f : ℕ → ℤ) (i : ℕ) (x : ℤ) (e : x ≡ f i) (below : i < n) (w : List ℤ) (long : length w ≡ size) where
   stored-turn : (m : ℕ) → m ≤ length parts → Stored m parts f i (i + 1) w (turned parts i x m w)
   stored-turn zero few = record { long = refl; new = λ q k hq. absurd (omega arith); old = λ j out. refl }
