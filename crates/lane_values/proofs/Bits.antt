@@ -12,7 +12,7 @@ use Rattle.lanes.specs.declared.Plan.{Plan}
 use Rattle.lanes.specs.Lanes.{valuesAt, sumsAt, weighedAt, mostNarrow, Fits}
 use Rattle.lane_values.specs.Stored.{Parts, stored, Stored}
 use Rattle.lane_values.specs.Valued.{Counted, wideParts, bitParts, wideValue, narrowValue, bitValue, Entry, Entries}
-use Rattle.lane_values.proofs.Stored.{apart-at, stored-same}
+use Rattle.lane_values.proofs.Stored.{apart-at, stored-join, ahead, stored-same}
 
 -- ---- where the parts stand
 module _ {p : Plan} {w : List ℤ} (f : Fits p w) where
@@ -146,3 +146,32 @@ module _ {p : Plan} {counts : List ℕ} {i v end : ℕ} {w : List ℤ} {values n
     narrow-bits n s =
         wide-bits (narrow-stored (p .lanes * p .variables) handed-parts (omega arith) s (λ k l m. handed-entry k l m .clear n)
         (λ k l m. ap (λ (z : ℤ). quotient (negℤ z) (divisor (4 * count) A) +ℤ pos unit) (narrow-whole (handed-entry k l m) n)))
+
+-- ---- the bits below v are done, from w₀ to w
+module _ {p : Plan} (counts : List ℕ) (A v : ℕ) {i : ℕ} {w₀ w : List ℤ} (f : Fits p w₀) (list : i ≤ 1) (s : Stored 3 (bitParts p i) (bitValue p counts A i w₀) 0 (p .lanes * v) w₀ w) where
+  pub still-fits : Fits p w
+  still-fits = record { lanes = f .lanes; triples = f .triples; variables = f .variables; bits = f .bits; long = s .long ∙ f .long }
+
+  parts : Parts (p .lanes * p .bits) (length w₀) (bitParts p i)
+  parts = bit-parts f i (p .lanes * p .bits) list (omega arith)
+
+  -- the entries of the others are as they were
+  later : (q k : ℕ) → q < 6 → p .lanes * v ≤ k → k < p .lanes * p .bits → at w (getD (bitParts p i) q 0 + k) ≡ at w₀ (getD (bitParts p i) q 0 + k)
+  later q k h l m = ahead parts (omega arith) s q k h l m
+
+  module _ {end : ℕ} (last : end ≤ p .bits) where
+    until : p .lanes * end ≤ p .lanes * p .bits
+    until = mul-le-mul-left (p .lanes) last
+
+    pub entries-later : Entries p counts i w₀ 0 (p .lanes * p .bits) → Entries p counts i w (p .lanes * v) (p .lanes * end)
+    entries-later e = λ k l m.
+        let n : k < p .lanes * p .bits = omega (arith, until) in
+        rw (later 2 k (omega arith) l n, later 3 k (omega arith) l n, later 4 k (omega arith) l n, later 5 k (omega arith) l n) (e k (omega arith) n)
+
+    pub bits-next : v ≤ end → {w′ : List ℤ} → Stored 3 (bitParts p i) (bitValue p counts A i w) (p .lanes * v) (p .lanes * end) w w′
+        → Stored 3 (bitParts p i) (bitValue p counts A i w₀) 0 (p .lanes * end) w₀ w′
+    bits-next h t =
+        stored-join parts (omega arith) (omega arith) (mul-le-mul-left (p .lanes) h) until s
+        (stored-same (λ k l m.
+        let n : k < p .lanes * p .bits = omega (arith, until) in
+        rw (later 3 k (omega arith) l n, later 4 k (omega arith) l n, later 5 k (omega arith) l n)) t)
