@@ -22,6 +22,9 @@ module _ {p : Plan} {w : List ℤ} (f : Fits p w) where
   pub few-lanes : p .lanes ≤ 8
   few-lanes = ⊎-elim (λ e. omega arith) (λ e. omega arith) (f .lanes)
 
+  pub still-fits : {w′ : List ℤ} → length w′ ≡ length w → Fits p w′
+  still-fits e = record { lanes = f .lanes; triples = f .triples; variables = f .variables; bits = f .bits; long = e ∙ f .long }
+
   pub entries-below : {v : ℕ} → v ≤ p .variables → p .lanes * v < 2 ^ 64
   entries-below h = omega (arith, mul-le-mul few-lanes h, f .variables)
 
@@ -149,9 +152,6 @@ module _ {p : Plan} {counts : List ℕ} {i v end : ℕ} {w : List ℤ} {values n
 
 -- ---- the bits below v are done, from w₀ to w
 module _ {p : Plan} (counts : List ℕ) (A v : ℕ) {i : ℕ} {w₀ w : List ℤ} (f : Fits p w₀) (list : i ≤ 1) (s : Stored 3 (bitParts p i) (bitValue p counts A i w₀) 0 (p .lanes * v) w₀ w) where
-  pub still-fits : Fits p w
-  still-fits = record { lanes = f .lanes; triples = f .triples; variables = f .variables; bits = f .bits; long = s .long ∙ f .long }
-
   parts : Parts (p .lanes * p .bits) (length w₀) (bitParts p i)
   parts = bit-parts f i (p .lanes * p .bits) list (omega arith)
 

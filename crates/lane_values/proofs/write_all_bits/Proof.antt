@@ -30,7 +30,7 @@ write-bits-requires c κs =
     let a = start l .args in
     let p = start l .pre in
     let fits = p .0 .0 in (
-      (still-fits (a .counts .now) (a .ratio) (l .loop .v) fits (p .0 .1) (l .loop .inv .1), p .0 .1, p .0 .2, p .0 .3),
+      (still-fits fits (l .loop .inv .1 .long), p .0 .1, p .0 .2, p .0 .3),
       (
         p .1 .0,
         (p .1 .1 .0, (until, entries-later (a .counts .now) (a .ratio) (l .loop .v) fits (p .0 .1) (l .loop .inv .1) (until .1) (p .1 .1 .1))),
