@@ -6,7 +6,7 @@ use native.Mathlib.Nat.{mul-le-mul, mul-le-mul-left, le-div-iff-mul-le, div-lt-i
 use lib.IntN.{+ℤ-idr}
 use Rattle.integers.proofs.Linear.{abs-add, abs-mul}
 use Rattle.quotient.specs.Quotient.{unit, quotient}
-use Rattle.model.specs.Limits.{mostChecks, mostTriples, mostVariables, mostNumerator}
+use Rattle.model.specs.Limits.{mostChecks, mostNumerator}
 use Rattle.model.specs.Iteration.{at, divisor}
 use Rattle.lanes.specs.declared.Plan.{Plan}
 use Rattle.lanes.specs.Lanes.{valuesAt, sumsAt, weighedAt, mostNarrow, Fits}

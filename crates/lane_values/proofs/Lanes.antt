@@ -1,14 +1,14 @@
 -- From the entries of a lane to places in the list, and back. Assumes nothing.
-use Rattle.integers.proofs.Prelude.{_≡_, refl, sym, ap, ap₂, _∙_, Bool, true, false, List, [], _∷_, ℕ, zero, suc, _+_, _-_, _*_, _/_, _%_, _^_, _≤_, _<_, arith}
-use Rattle.integers.proofs.Prelude.{lt-ltb, le-ltb, ltb-true, ltb-false, ltb, ℤ, pos, natAbs, negℤ, _+ℤ_, _*ℤ_, length, getD}
+use Rattle.integers.proofs.Prelude.{_≡_, sym, ap, _∙_, List, ℕ, zero, suc, _+_, _-_, _*_, _/_, _%_, _^_, _≤_, _<_, arith}
+use Rattle.integers.proofs.Prelude.{lt-ltb, le-ltb, ℤ, pos, natAbs, negℤ, _+ℤ_, _*ℤ_, getD}
 use native.Mathlib.Nat.{mul-le-mul-left, mod-lt, div-add-mod, mul-add-div, div-eq-of-lt, mul-add-mod-self-left, mod-eq-of-lt, lt-of-mul-lt-mul-left}
 use lib.IntN.{+ℤ-idr}
 use Rattle.quotient.specs.Quotient.{unit, quotient}
 use Rattle.model.specs.Iteration.{at, divisor}
 use Rattle.lanes.specs.declared.Plan.{Plan}
-use Rattle.lanes.specs.Lanes.{inLane, valuesAt, sumsAt, weighedAt, lowPart, highPart, laneWeighed, mostNarrow, Fits, Kept, SumsKept}
-use Rattle.lane_values.specs.Stored.{Parts, stored, Stored}
-use Rattle.lane_values.specs.Valued.{Counted, WeighedWithin, laneValue, LaneValued, bitParts, auxiliaryValue, bitValue, Entry, Entries}
+use Rattle.lanes.specs.Lanes.{inLane, sumsAt, weighedAt, lowPart, highPart, laneWeighed, Fits, SumsKept}
+use Rattle.lane_values.specs.Stored.{stored, Stored}
+use Rattle.lane_values.specs.Valued.{Counted, WeighedWithin, laneValue, bitValue, Entries}
 use Rattle.lane_values.proofs.Bits.{some-lanes, variable-of}
 
 -- ---- entry k of a part that begins at L a, in its lane

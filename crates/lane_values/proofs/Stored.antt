@@ -1,7 +1,7 @@
 -- Parts of a list that loops read and write. Assumes nothing.
 -- A loop that stores entry i of the first parts at turn i keeps `Stored m parts f from i` (start: nothing-stored; store-next). What it reads at i or
 -- later is still as it was (ahead), and so are the parts that are only read (only-read). One loop after another: stored-join.
-use Rattle.integers.proofs.Prelude.{_≡_, refl, sym, ap, subst, _∙_, Bool, true, false, List, [], _∷_, ℕ, zero, suc, _+_, _≤_, _<_, arith, eqb-true, eqb-false, eqb}
+use Rattle.integers.proofs.Prelude.{_≡_, refl, sym, ap, _∙_, Bool, true, false, List, [], _∷_, ℕ, zero, suc, _+_, _≤_, _<_, arith, eqb-true, eqb-false, eqb}
 use Rattle.integers.proofs.Prelude.{ltb-true, ltb-false, ltb, ℤ, pos, length, getD, set, length-set}
 use mathlib.Core.Logic.{_≢_}
 use lib.Seq.{getD-set-same, getD-set-other}

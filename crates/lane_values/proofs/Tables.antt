@@ -1,5 +1,5 @@
 -- The divisors of 2 to 8 triples, and the lists that stand for them. Assumes nothing.
-use Rattle.integers.proofs.Prelude.{_≡_, List, ℕ, _+_, _*_, _≤_, _<_, arith, ℤ, pos, _-ℤ_, _≤ℤ_, length, getD, set}
+use Rattle.integers.proofs.Prelude.{List, ℕ, _+_, _*_, _≤_, _<_, arith, ℤ, pos, _≤ℤ_, length, getD, set}
 use mathlib.Core.Logic.{_≢_}
 use borrow.Author.Count.{below-more}
 use lib.Seq.{getD-set-same, getD-set-other}

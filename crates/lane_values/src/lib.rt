@@ -3,15 +3,14 @@
 ghost use mathlib.Core.List.{[], _∷_};
 ghost use mathlib.Core.Path.{_≡_};
 ghost use Prim.Native.Nat.{ℕ, _+_, _-_, _*_, _^_, _≤_, _<_};
-ghost use lib.IntN.{ℤ, pos, negℤ, natAbs, _+ℤ_, _*ℤ_};
+ghost use lib.IntN.{ℤ, pos, natAbs, _+ℤ_, _*ℤ_};
 ghost use lib.ListN.{length, getD};
-ghost use lib.Signed.{_≤ℤ_};
-ghost use Rattle.quotient.specs.Quotient.{unit, quotient};
+ghost use Rattle.quotient.specs.Quotient.{unit};
 ghost use Rattle.quotient.specs.Narrowed.{Narrowed};
 ghost use Rattle.model.specs.Limits.{mostChecks, mostWeight, mostRatio, mostCost, mostNumerator};
 ghost use Rattle.model.specs.Iteration.{at, divisor};
 ghost use Rattle.values.specs.Divisors.{Tables};
-ghost use Rattle.lanes.specs.Lanes.{Fits, SumsKept, mostNarrow};
+ghost use Rattle.lanes.specs.Lanes.{Fits, SumsKept};
 ghost use Rattle.lane_values.specs.Stored.{Parts, Stored};
 ghost use Rattle.lane_values.specs.Valued.{NarrowTables, Counted, WeighedWithin, LaneValued};
 ghost use Rattle.lane_values.specs.Valued.{whole, wideValue, narrowValue, auxiliaryValue, wideParts, bitParts, bitValue, Entries};

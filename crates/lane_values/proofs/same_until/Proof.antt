@@ -1,5 +1,5 @@
 -- `lane_values::same_until` meets its contract: the variables below u are in as many triples as v. Assumes nothing.
-use Rattle.integers.proofs.Prelude.{_≡_, ap, ℕ, _+_, _-_, _≤_, _<_, arith, needs, length, getD}
+use Rattle.integers.proofs.Prelude.{_≡_, ap, ℕ, _-_, _≤_, _<_, arith, needs, length, getD}
 use Rattle.lists.proofs.Entries.{below-next}
 use Rattle.lane_values.proofs.same_until.Statement.{statement}
 use Rattle.lane_values.proofs.same_until.Tie as tie

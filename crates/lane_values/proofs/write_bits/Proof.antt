@@ -1,5 +1,5 @@
 -- `lane_values::write_bits` meets its contract: what is handed on are the parts of the bits. Assumes nothing.
-use Rattle.integers.proofs.Prelude.{ℕ, _*_, _≤_, _<_, arith, needs, ltb-true, leb-true, ltb, leb, getD, w32, w64, toZ, ofZ}
+use Rattle.integers.proofs.Prelude.{ℕ, _*_, _≤_, arith, needs, ltb-true, leb-true, ltb, leb, getD, w32, w64, toZ, ofZ}
 use native.Mathlib.Nat.{mul-le-mul-left}
 use mir.Val
 use Rattle.integers.proofs.Machine.{kept}
