@@ -1,10 +1,10 @@
 // The group step (document 02, L7): "goes through the code for all frames together and takes every running frame one iteration on". A frame that stops with it is
 // taken out of its lane, into its parts of the lists.
 ghost use mathlib.Core.Path.{_≡_};
-ghost use mathlib.Core.Bool.{true, cond};
+ghost use mathlib.Core.Bool.{true, cond, _&&_};
 ghost use mathlib.Core.List.{List};
 ghost use Prim.Native.Nat.{ℕ, suc, _+_, _-_, _*_, _≤_, _<_};
-ghost use lib.Dec.{eqb};
+ghost use lib.Dec.{ltb, eqb};
 ghost use lib.IntN.{ℤ, pos, natAbs};
 ghost use lib.ListN.{length, getD};
 ghost use lib.Signed.{_≤ℤ_};
@@ -32,7 +32,13 @@ fn take_out(
     sums: &mut [i64],
     values: &mut [i16],
     rows: &mut [i32],
-) {
+)
+    requires { ⌜ Fits p (now work) × (i ≤ 1) × (f < p .lanes) ⌝ }
+    requires { ⌜ (suc f * p .variables ≤ length (now sums)) × (suc f * p .variables ≤ length (now values)) × (suc f * (4 * p .triples) ≤ length (now rows)) ⌝ }
+    requires { ⌜ ((v : ℕ) → v < p .variables → let x = inLane (p .lanes) (now work) f (valuesAt p + v) in (pos 0 ≤ℤ x) × (natAbs x ≤ 2 * unit)) ⌝ }
+    ensures { λ _. ⌜ ((g : ℕ) → partState p (now (sums .exit)) (now (values .exit)) (now (rows .exit)) g
+        ≡ cond (eqb g f) (laneState p i (now (work .entry)) f) (partState p (now (sums .entry)) (now (values .entry)) (now (rows .entry)) g)) ⌝ }
+{
     let v = f * p.variables;
     let v_end = v + p.variables;
     let r = f * (4 * p.triples);
@@ -40,6 +46,13 @@ fn take_out(
     lane_lists::take_sums(work, p, i, f, &mut sums[v..v_end]);
     lane_lists::take_values(work, p, f, &mut values[v..v_end]);
     lane_lists::take_rows(work, p, f, &mut rows[r..r_end]);
+}
+
+// Whether a frame runs on after k iterations, of which the last settled it or not.
+fn runs_on(settled: u32, k: u32, limit: u32) -> bool
+    ensures { λ r. ⌜ r ≡ (eqb settled 0 && ltb k limit) ⌝ }
+{
+    (settled == 0) & (k < limit)
 }
 
 // Frame f, after its k-th iteration, is taken out if that stopped it.
@@ -51,6 +64,7 @@ fn settle(
     k: u32,
     multipliers: &[u64],
     slacks: &[u64],
+    frames: usize,
     f: usize,
     running: &mut [u32],
     ks: &mut [u32],
@@ -58,10 +72,24 @@ fn settle(
     sums: &mut [i64],
     values: &mut [i16],
     rows: &mut [i32],
-) {
+)
+    requires { ⌜ Fits p (now work) × (i ≤ 1) × (frames ≤ p .lanes) × (length (now multipliers) ≡ 8) × (length (now slacks) ≡ 8) ⌝ }
+    requires { ⌜ Marks frames (now running) (now ks) (now settled) × Held p frames (now sums) (now values) (now rows) ⌝ }
+    requires { ⌜ ((l v : ℕ) → l < p .lanes → v < p .variables
+        → let x = inLane (p .lanes) (now work) l (valuesAt p + v) in (pos 0 ≤ℤ x) × (natAbs x ≤ 2 * unit)) ⌝ }
+    requires { ⌜ f < frames ⌝ }
+    ensures { λ _. ⌜ Marks frames (now (running .exit)) (now (ks .exit)) (now (settled .exit))
+        × Held p frames (now (sums .exit)) (now (values .exit)) (now (rows .exit)) ⌝ }
+    ensures { λ _. ⌜ ((g : ℕ) → 
+        let before = frameNow p i k (now (work .entry)) (now (running .entry)) (now (ks .entry)) (now (settled .entry))
+        (now (sums .entry)) (now (values .entry)) (now (rows .entry)) g in
+        frameNow p i k (now (work .entry)) (now (running .exit)) (now (ks .exit)) (now (settled .exit))
+        (now (sums .exit)) (now (values .exit)) (now (rows .exit)) g
+        ≡ cond (eqb g f) (stoppedBy settings (settledIn (settings .tolerance) (now (multipliers .entry)) (now (slacks .entry)) g) before) before) ⌝ }
+{
     if running[f] != 0 {
         let s = renewal::settles(multipliers[f], slacks[f], settings.tolerance as u64);
-        if (s != 0) | (settings.limit <= k) {
+        if !runs_on(s, k, settings.limit) {
             running[f] = 0;
             ks[f] = k;
             settled[f] = s;
@@ -86,7 +114,20 @@ fn settle_all(
     sums: &mut [i64],
     values: &mut [i16],
     rows: &mut [i32],
-) {
+)
+    requires { ⌜ Fits p (now work) × (i ≤ 1) × (frames ≤ p .lanes) × (length (now multipliers) ≡ 8) × (length (now slacks) ≡ 8) ⌝ }
+    requires { ⌜ Marks frames (now running) (now ks) (now settled) × Held p frames (now sums) (now values) (now rows) ⌝ }
+    requires { ⌜ ((l v : ℕ) → l < p .lanes → v < p .variables
+        → let x = inLane (p .lanes) (now work) l (valuesAt p + v) in (pos 0 ≤ℤ x) × (natAbs x ≤ 2 * unit)) ⌝ }
+    ensures { λ _. ⌜ Marks frames (now (running .exit)) (now (ks .exit)) (now (settled .exit))
+        × Held p frames (now (sums .exit)) (now (values .exit)) (now (rows .exit)) ⌝ }
+    ensures { λ _. ⌜ ((g : ℕ) → g < frames →
+        let before = frameNow p i k (now (work .entry)) (now (running .entry)) (now (ks .entry)) (now (settled .entry))
+        (now (sums .entry)) (now (values .entry)) (now (rows .entry)) g in
+        frameNow p i k (now (work .entry)) (now (running .exit)) (now (ks .exit)) (now (settled .exit))
+        (now (sums .exit)) (now (values .exit)) (now (rows .exit)) g
+        ≡ stoppedBy settings (settledIn (settings .tolerance) (now (multipliers .entry)) (now (slacks .entry)) g) before) ⌝ }
+{
     for f in 0..frames {
         settle(
             settings,
@@ -96,6 +137,7 @@ fn settle_all(
             k,
             multipliers,
             slacks,
+            frames,
             f,
             running,
             ks,

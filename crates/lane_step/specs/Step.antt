@@ -2,17 +2,19 @@
 use mathlib.Core.Bool.{Bool, not, _||_}
 use mathlib.Core.List.{List}
 use mathlib.Core.Path.{_≡_}
-use Prim.Native.Nat.{ℕ, _+_}
+use Prim.Native.Nat.{ℕ, _+_, _*_, _≤_, _<_}
 use lib.Dec.{eqb}
-use lib.IntN.{ℤ, pos, _*ℤ_}
+use lib.IntN.{ℤ, pos, natAbs, _*ℤ_}
 use lib.ListN.{getD}
+use lib.Signed.{_≤ℤ_}
 use Rattle.lists.specs.Tabulated.{tab}
+use Rattle.quotient.specs.Quotient.{unit}
 use Rattle.model.specs.Code.{Code}
 use Rattle.model.specs.Splitting.{System}
 use Rattle.model.specs.Iteration.{at, sumOf}
 use Rattle.model.specs.Bounds.{RowsWithin}
 use Rattle.lanes.specs.declared.Plan.{Plan}
-use Rattle.lanes.specs.Lanes.{laneRows, laneSums, laneWeighed, SumsKept}
+use Rattle.lanes.specs.Lanes.{inLane, valuesAt, laneRows, laneSums, laneWeighed, SumsKept}
 use Rattle.lane_values.specs.Valued.{WeighedWithin}
 
 -- a frame runs, by its mark, in one of the four lanes from l on
@@ -39,4 +41,5 @@ pub record Small (p : Plan) (counts : List ℕ) (n : ℕ) (w : List ℤ) (l : �
   pub rows : RowsWithin n (laneRows p w l)
   pub first : SumsKept p counts 0 w l
   pub second : SumsKept p counts 1 w l
+  pub values : (v : ℕ) → v < p .variables → let x = inLane (p .lanes) w l (valuesAt p + v) in (pos 0 ≤ℤ x) × (natAbs x ≤ 2 * unit)
   pub weighed : WeighedWithin p w l
