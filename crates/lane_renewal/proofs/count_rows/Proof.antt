@@ -45,19 +45,12 @@ module _ (c : tie.In-loop Inv-loop μ-loop) where
 abbrev turn : tie.After-count-row-arg2 Inv-loop μ-loop → tie.In-loop Inv-loop μ-loop
 turn c = c .before .before
 
-multipliers-small : (c : tie.In-loop Inv-loop μ-loop) → let a = start c .args in AtMost (a .from) (a .to) (2 ^ 63) (c .before .loop .multipliers)
-multipliers-small c =
+small-of : (c : tie.In-loop Inv-loop μ-loop) (side : ℤ) → natAbs side ≤ 1 → (old new : List ℕ) → let a = start c .args in
+    Grown (a .from) (a .to) (rowsChange side (a .before .now) (a .work .now) (a .first) (a .lanes) (r c)) old new → AtMost (a .from) (a .to) (2 ^ 62) old → AtMost (a .from) (a .to) (2 ^ 63) new
+small-of c side one old new g =
     let s = start c in
     let a = s .args in
-    small (pos 1) (a .before .now) (a .work .now) (a .first) (a .lanes) (a .from) (a .to) (a .multipliers .now) (c .before .loop .multipliers) (r c) (c .before .loop .inv .3) (a .rows) (omega arith)
-    (s .pre .1 .1 .0) (s .pre .0 .2) (c .loop-test .taken) (s .pre .1 .1 .1 .0)
-
-slacks-small : (c : tie.In-loop Inv-loop μ-loop) → let a = start c .args in AtMost (a .from) (a .to) (2 ^ 63) (c .before .loop .slacks)
-slacks-small c =
-    let s = start c in
-    let a = s .args in
-    small (negsuc 0) (a .before .now) (a .work .now) (a .first) (a .lanes) (a .from) (a .to) (a .slacks .now) (c .before .loop .slacks) (r c) (c .before .loop .inv .4) (a .rows) (omega arith)
-    (s .pre .1 .1 .0) (s .pre .0 .2) (c .loop-test .taken) (s .pre .1 .1 .1 .1)
+    small side (a .before .now) (a .work .now) (a .first) (a .lanes) (a .from) (a .to) old new (r c) g (a .rows) one (s .pre .1 .1 .0) (s .pre .0 .2) (c .loop-test .taken)
 
 count-row-requires : tie.Need-count-row-requires Inv-loop μ-loop
 count-row-requires c κs =
@@ -65,7 +58,16 @@ count-row-requires c κs =
     let s = start t in
     let v = t .before .loop .inv in (
       (omega (arith, s .pre .0), v .1 ∙ s .pre .0 .3, v .2 ∙ s .pre .0 .4),
-      ((omega (arith, row-in t, s .pre .1 .0 .0), omega (arith, row-in t, s .pre .1 .0 .1)), (λ l f h. s .pre .1 .1 .0 (r t) l (t .loop-test .taken) f h, (multipliers-small t, slacks-small t))),
+      (
+        (omega (arith, row-in t, s .pre .1 .0 .0), omega (arith, row-in t, s .pre .1 .0 .1)),
+        (
+          λ l f h. s .pre .1 .1 .0 (r t) l (t .loop-test .taken) f h,
+          (
+            small-of t (pos 1) (omega arith) (s .args .multipliers .now) (t .before .loop .multipliers) (v .3) (s .pre .1 .1 .1 .0),
+            small-of t (negsuc 0) (omega arith) (s .args .slacks .now) (t .before .loop .slacks) (v .4) (s .pre .1 .1 .1 .1),
+          ),
+        ),
+      ),
     )
 
 loop-again : tie.Need-loop-again Inv-loop μ-loop

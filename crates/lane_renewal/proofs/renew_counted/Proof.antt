@@ -3,7 +3,6 @@ use Rattle.integers.proofs.Prelude.{_≡_, refl, sym, _∙_, List, ℕ, _+_, _-
 use mathlib.Core.Logic.{⊎-elim}
 use native.Mathlib.Nat.{mul-le-mul}
 use Rattle.lists.proofs.Tests.{and-left}
-use Rattle.model.specs.Iteration.{at}
 use Rattle.lanes.specs.declared.Plan.{Plan}
 use Rattle.lanes.specs.Lanes.{Fits}
 use Rattle.lanes.proofs.Places.{lanes-few, list-short, part-in}
