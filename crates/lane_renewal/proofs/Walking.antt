@@ -1,6 +1,5 @@
 -- Lanes while their triples are renewed and counted. Assumes nothing.
 use Rattle.integers.proofs.Prelude.{_≡_, refl, sym, ap, ap₂, _∙_, Bool, true, false, List, ℕ, _+_, _-_, _*_, _^_, _≤_, _<_, arith, decLt, ltb, ltb-true, ℤ, pos, negsuc, natAbs, _-ℤ_, _*ℤ_, getD}
-use mathlib.Core.Logic.{_⊎_}
 use Rattle.integers.specs.Sum.{sumℕ}
 use Rattle.integers.proofs.Sums.{sumℕ-same, sumℕ-split}
 use Rattle.lists.proofs.Tabulated.{getD-tab}
@@ -17,7 +16,7 @@ use Rattle.rows.proofs.Four.{side-multiplier, side-slack}
 use Rattle.lanes.specs.declared.Plan.{Plan}
 use Rattle.lanes.specs.Lanes.{inLane, valuesAt, Fits, laneRows, laneValues, lowPart, highPart}
 use Rattle.lanes.proofs.Places.{place-below}
-use Rattle.lane_triples.specs.Walk.{Due, newRows, Walked}
+use Rattle.lane_triples.specs.Walk.{Due, newRows, Walked, SameBeside}
 use Rattle.lane_renewal.specs.Counting.{settledIn, rowsChange, Comparable, AtMost, Grown, NoneWithin, laneChanges, Counted}
 
 -- ---- one lane: how large its rows and totals are
@@ -142,7 +141,7 @@ module _ {p : Plan} {ts counts : List ℕ} {i from to : ℕ} {w : List ℤ} {t :
       ∙ sym (sumℕ-split (4 * t) (4 * n) h)
       ∙ ap (λ (x : ℕ). sumℕ x h) e
 
-  pub counted-more : (m′ s′ : List ℕ) → Fits p w₂ → ((l j : ℕ) → l < p .lanes → (l < from) ⊎ (to ≤ l) → inLane (p .lanes) w₂ l j ≡ inLane (p .lanes) w₁ l j)
+  pub counted-more : (m′ s′ : List ℕ) → Fits p w₂ → SameBeside p from to w₁ w₂
       → Grown from to (rowsChange (pos 1) before w₂ (p .lanes * (4 * t)) (p .lanes) (4 * n)) m m′
       → Grown from to (rowsChange (negsuc 0) before w₂ (p .lanes * (4 * t)) (p .lanes) (4 * n)) s s′ → Counted p ts counts i from to w (t + n) w₂ m′ s′
   counted-more m′ s′ fits beside of-m of-s = record {

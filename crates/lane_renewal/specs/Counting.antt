@@ -1,7 +1,6 @@
 -- How the totals of the changes grow, and how they tell whether a frame settles. Definitions only.
 use mathlib.Core.Bool.{_&&_}
 use mathlib.Core.List.{List}
-use mathlib.Core.Logic.{_⊎_}
 use mathlib.Core.Path.{_≡_}
 use Prim.Native.Nat.{ℕ, _+_, _*_, _≤_, _<_}
 use lib.Dec.{leb}
@@ -13,8 +12,8 @@ use Rattle.model.specs.Causes.{_if_}
 use Rattle.model.specs.Iteration.{at}
 use Rattle.rows.specs.Sides.{changeOf}
 use Rattle.lanes.specs.declared.Plan.{Plan}
-use Rattle.lanes.specs.Lanes.{inLane, Fits, laneRows}
-use Rattle.lane_triples.specs.Walk.{newRows, Walked}
+use Rattle.lanes.specs.Lanes.{Fits, laneRows}
+use Rattle.lane_triples.specs.Walk.{newRows, Walked, SameBeside}
 
 -- by the totals of lane l, "If neither total exceeds X, the run stops, settled": 1, otherwise 0
 abbrev pub settledIn : ℕ → List ℕ → List ℕ → ℕ → ℕ
@@ -54,6 +53,6 @@ pub record Counted (p : Plan) (ts counts : List ℕ) (i from to : ℕ) (w : List
   pub few : t ≤ p .triples
   pub fits : Fits p w′
   pub walked : (l : ℕ) → from ≤ l → l < to → Walked p ts counts i w l t w′
-  pub beside : (l j : ℕ) → l < p .lanes → (l < from) ⊎ (to ≤ l) → inLane (p .lanes) w′ l j ≡ inLane (p .lanes) w l j
+  pub beside : SameBeside p from to w w′
   pub of-multipliers : (l : ℕ) → from ≤ l → l < to → getD multipliers l 0 ≡ laneChanges (pos 1) p ts w l t
   pub of-slacks : (l : ℕ) → from ≤ l → l < to → getD slacks l 0 ≡ laneChanges (negsuc 0) p ts w l t

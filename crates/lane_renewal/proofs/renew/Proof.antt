@@ -1,6 +1,6 @@
 -- `lane_renewal::renew` meets its contract: the rows in two parts, and the totals of the first. Assumes nothing.
 use Rattle.integers.proofs.Prelude.{_≡_, _∙_, List, ℕ, _≤_, _<_, arith, needs, ℤ, length, getD}
-use Rattle.lane_triples.specs.Walk.{Due, Walked}
+use Rattle.lane_triples.specs.Walk.{Due, Walked, SameBeside}
 use Rattle.lane_renewal.specs.Counting.{Counted}
 use Rattle.lane_renewal.proofs.Totals.{cleared}
 use Rattle.lane_renewal.proofs.Walking.{settled}
@@ -64,6 +64,11 @@ renew-range-requires c κs =
     let z = s (begun r) in
     ((counted r .fits, z .pre .0 .1, z .pre .0 .2, counted r .few, omega arith), (z .pre .1 .0, (work r, walked r)))
 
+-- ---- and the second
+beside : (c : tie.After-renew-range) → let r = c .before .before .before .before .before .before .before in let a = s (begun r) .args in
+    SameBeside (a .p) (a .from) (a .to) (work r) (c .renew-range .last .1 .1 .1 .1 .1 .1 .1 .1 .1 .0)
+beside c l j h k = c .renew-range .ensures .1 .1 l j h k ∙ counted (c .before .before .before .before .before .before .before) .beside l j h k
+
 returns : tie.Need-returns
 returns c =
     let q = c .before .renew-range in
@@ -73,7 +78,7 @@ returns c =
       (
         q .ensures .1 .0 (work r) (walked r),
         (
-          λ l j h k. q .ensures .1 .1 l j h k ∙ counted r .beside l j h k,
+          beside (c .before),
           (
             settled (a .p) (a .triples .now) (a .counts .now) (a .i) (a .from) (a .to) (work r) (a .tolerance) (r .renew-counted .result) (a .running .now) (multipliers r) (slacks r) (new r) (counted r) (r .renew-counted .ensures .1),
             lengths r,
