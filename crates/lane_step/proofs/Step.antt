@@ -121,7 +121,7 @@ module _ {p : Plan} {counts : List ℕ} (o : Settings) {i : ℕ} (two : i ≤ 1)
   pub due : RowsWithin mostDone (laneRows p w l) → Due p (1 - i) w₁ l
   due within = record {
     within = rw rows-first within;
-    values = λ x h. rw (valued .values x h) (raised (c x) (value-small x) .1);
+    values = λ x h. rw (valued .values x h, lowered (c x) unit) (value-small x);
     cleared = valued .cleared;
   }
 
