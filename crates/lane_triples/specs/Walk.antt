@@ -1,10 +1,9 @@
 -- The walk through the triples in lanes. Definitions only.
-use mathlib.Core.Bool.{Bool, true}
 use mathlib.Core.List.{List}
 use mathlib.Core.Logic.{_⊎_}
 use mathlib.Core.Path.{_≡_}
 use Prim.Native.Nat.{ℕ, _+_, _-_, _*_, _≤_, _<_}
-use lib.IntN.{ℤ, pos, natAbs}
+use lib.IntN.{ℤ, pos, natAbs, _-ℤ_}
 use lib.ListN.{length, getD}
 use Rattle.lists.specs.Tabulated.{tab}
 use Rattle.quotient.specs.Quotient.{unit}
@@ -37,7 +36,7 @@ pub record Halves (p : Plan) (from to : ℕ) : Type 0 where
 -- lane l of w, before its rows are renewed: rows that may be renewed once more, values that are raised by U, and no sums yet in list i
 pub record Due (p : Plan) (i : ℕ) (w : List ℤ) (l : ℕ) : Type 0 where
   pub within : RowsWithin mostDone (laneRows p w l)
-  pub values : (v : ℕ) → v < p .variables → natAbs (inLane (p .lanes) w l (valuesAt p + v)) ≤ 2 * unit
+  pub values : (v : ℕ) → v < p .variables → natAbs (inLane (p .lanes) w l (valuesAt p + v) -ℤ pos unit) ≤ unit
   pub cleared : (j : ℕ) → j < p .variables + p .bits → inLane (p .lanes) w l (sumsAt p i + j) ≡ pos 0
 
 -- the rows of lane l of w, renewed
@@ -53,3 +52,25 @@ pub record Walked (p : Plan) (ts counts : List ℕ) (i : ℕ) (w : List ℤ) (l 
   pub kept : (v : ℕ) → v < p .variables → Kept (getD counts v 0) (occurrences ts t v) (lowPart p i w′ l v) (highPart p i w′ l v)
   pub others : (j : ℕ) → j < p .variables + p .bits → inLane (p .lanes) w′ l (sumsAt p (1 - i) + j) ≡ inLane (p .lanes) w l (sumsAt p (1 - i) + j)
   pub weighed : (b : ℕ) → b < p .bits → inLane (p .lanes) w′ l (weighedAt p + b) ≡ inLane (p .lanes) w l (weighedAt p + b)
+
+-- the lanes from..to, which stood in w, when t triples are done
+abbrev pub InWalk : Plan → List ℕ → List ℕ → ℕ → List ℤ → ℕ → ℕ → ℕ → List ℤ → Type 0
+InWalk p ts counts i w from to t w′ = (l : ℕ) → from ≤ l → l < to → Due p i w l × Walked p ts counts i w l t w′
+
+-- w′ is w in the other lanes
+abbrev pub SameBeside : Plan → ℕ → ℕ → List ℤ → List ℤ → Type 0
+SameBeside p from to w w′ = (l j : ℕ) → l < p .lanes → (l < from) ⊎ (to ≤ l) → inLane (p .lanes) w′ l j ≡ inLane (p .lanes) w l j
+
+-- what stays the same through a walk: `values` and `next` are where the values and list i of the sums begin
+pub record Course (p : Plan) (ts counts : List ℕ) (i values next : ℕ) : Type 0 where
+  pub tripled : Tripled p ts counts
+  pub list : i ≤ 1
+  pub at-values : values ≡ p .lanes * valuesAt p
+  pub at-sums : next ≡ p .lanes * sumsAt p i
+
+-- triples t to u are walked, in all of these lanes, from w₀ to w₁
+abbrev pub Begun : Plan → List ℕ → List ℕ → ℕ → ℕ → ℕ → ℕ → ℕ → List ℤ → Type 0
+Begun p ts counts values next from to t w₀ = (i : ℕ) × (w : List ℤ) × Course p ts counts i values next × InWalk p ts counts i w from to t w₀
+
+abbrev pub Walks : Plan → List ℕ → List ℕ → ℕ → ℕ → ℕ → ℕ → ℕ → ℕ → List ℤ → List ℤ → Type 0
+Walks p ts counts values next from to t u w₀ w₁ = (i : ℕ) (w : List ℤ) → Course p ts counts i values next → InWalk p ts counts i w from to t w₀ → InWalk p ts counts i w from to u w₁

@@ -1,16 +1,22 @@
 // The walk through the triples of a code, for all frames of a group at once: each triple's rows are renewed, and their shares are given to the sums of the
 // iteration to come.
 ghost use mathlib.Core.Path.{_≡_};
-ghost use mathlib.Core.Bool.{true};
+ghost use mathlib.Core.Bool.{true, false, cond};
 ghost use mathlib.Core.List.{List};
 ghost use mathlib.Core.Logic.{_⊎_};
-ghost use Prim.Native.Nat.{ℕ, _+_, _-_, _*_, _^_, _≤_, _<_};
-ghost use lib.IntN.{ℤ, pos, natAbs, _+ℤ_, _-ℤ_, _*ℤ_};
-ghost use lib.Dec.{leb};
-ghost use lib.ListN.{length, getD};
+ghost use Prim.Native.Nat.{ℕ, _+_, _*_, _^_, _≤_, _<_};
+ghost use lib.IntN.{ℤ, pos, natAbs};
+ghost use lib.Dec.{eqb, leb};
+ghost use lib.ListN.{length};
 ghost use Rattle.lists.specs.Entries.{every};
-ghost use Rattle.lanes.specs.Lanes.{inLane, valuesAt, sumsAt, Fits, mostNarrow};
-ghost use Rattle.lane_triples.specs.Walk.{Tripled, Narrow, Halves, Due, Walked};
+ghost use Rattle.lists.specs.Tabulated.{tab};
+ghost use Rattle.model.specs.Limits.{mostRow};
+ghost use Rattle.model.specs.Splitting.{blank};
+ghost use Rattle.model.specs.Iteration.{at};
+ghost use Rattle.layout.specs.Transposed.{cell};
+ghost use Rattle.lanes.specs.Lanes.{inLane, Fits, mostNarrow};
+ghost use Rattle.lane_triples.specs.Step.{MayGive, given, withRows, newRow, newShares, MayRenew, narrowPlaces, anyPlaces, isWide, after, MayStep};
+ghost use Rattle.lane_triples.specs.Walk.{Tripled, Narrow, Halves, Due, Walked, SameBeside, Begun, Walks};
 use lanes::Plan;
 use model::BLANK;
 
@@ -19,7 +25,30 @@ const MOST_NARROW: usize = 8;
 
 // ---- one triple, in four lanes
 
-// Its rows, of which the first stand at i, are renewed with c of its variables; what they then give them is told.
+// Its rows, of which the first stand at i and each of the others `lanes` further.
+fn load_rows(work: &[i32], lanes: usize, i: usize) -> [[i32; 4]; 4]
+    requires { ⌜ (i + 3 * lanes + 3 < length (now work)) × (length (now work) < 2 ^ 32) ⌝ }
+    ensures { λ q. ⌜ q ≡ tab 4 (λ r. tab 4 (λ k. at (now (work .entry)) (i + r * lanes + k))) ⌝ }
+{
+    [
+        fours::load(work, i),
+        fours::load(work, i + lanes),
+        fours::load(work, i + 2 * lanes),
+        fours::load(work, i + 3 * lanes),
+    ]
+}
+
+fn store_rows(work: &mut [i32], lanes: usize, i: usize, q: [[i32; 4]; 4])
+    requires { ⌜ (i + 3 * lanes + 3 < length (now work)) × (length (now work) < 2 ^ 32) × ((r k : ℕ) → natAbs (cell q r k) ≤ mostRow) ⌝ }
+    ensures { λ _. ⌜ now (work .exit) ≡ withRows lanes (now (work .entry)) i (cell q) ⌝ }
+{
+    fours::store(work, i, q[0]);
+    fours::store(work, i + lanes, q[1]);
+    fours::store(work, i + 2 * lanes, q[2]);
+    fours::store(work, i + 3 * lanes, q[3]);
+}
+
+// They are renewed with c of its variables, which is raised by U; what they then give them is told.
 fn renew_four(
     work: &mut [i32],
     lanes: usize,
@@ -27,18 +56,14 @@ fn renew_four(
     a: [i32; 4],
     b: [i32; 4],
     c: [i32; 4],
-) -> [[i32; 4]; 3] {
-    let old = [
-        fours::load(work, i),
-        fours::load(work, i + lanes),
-        fours::load(work, i + 2 * lanes),
-        fours::load(work, i + 3 * lanes),
-    ];
+) -> [[i32; 4]; 3]
+    requires { ⌜ MayRenew lanes (now work) i a b c × (length (now work) < 2 ^ 32) ⌝ }
+    ensures { λ x. ⌜ x ≡ tab 3 (newShares lanes (now (work .entry)) i a b c) ⌝ }
+    ensures { λ _. ⌜ now (work .exit) ≡ withRows lanes (now (work .entry)) i (newRow lanes (now (work .entry)) i a b c) ⌝ }
+{
+    let old = load_rows(work, lanes, i);
     let new = fours::renewed(old, a, b, c);
-    fours::store(work, i, new[0]);
-    fours::store(work, i + lanes, new[1]);
-    fours::store(work, i + 2 * lanes, new[2]);
-    fours::store(work, i + 3 * lanes, new[3]);
+    store_rows(work, lanes, i, new);
     fours::shares(new)
 }
 
@@ -52,7 +77,10 @@ fn renew_narrow(
     u: usize,
     v: usize,
     w: usize,
-) {
+)
+    requires { ⌜ MayStep lanes (now work) (narrowPlaces i values next u v w) ⌝ }
+    ensures { λ _. ⌜ now (work .exit) ≡ after lanes (now (work .entry)) (narrowPlaces i values next u v w) 3 ⌝ }
+{
     let a = fours::load(work, values + u);
     let b = fours::load(work, values + v);
     let c = fours::load(work, values + w);
@@ -65,8 +93,11 @@ fn renew_narrow(
 // ---- with the blank, and with variables in more triples
 
 // c of the third place, raised by U: the blank's is 0.
-fn third(work: &[i32], i: usize, blank: bool) -> [i32; 4] {
-    if blank {
+fn third(work: &[i32], i: usize, none: bool) -> [i32; 4]
+    requires { ⌜ (none ≡ false → i + 3 < length (now work)) × (length (now work) < 2 ^ 32) ⌝ }
+    ensures { λ q. ⌜ q ≡ tab 4 (λ k. cond none (pos 0) (at (now (work .entry)) (i + k))) ⌝ }
+{
+    if none {
         [0, 0, 0, 0]
     } else {
         fours::load(work, i)
@@ -76,12 +107,16 @@ fn third(work: &[i32], i: usize, blank: bool) -> [i32; 4] {
 // Whether the variable's sum has a high part.
 fn is_wide(counts: &[u16], v: usize) -> bool
     requires { ⌜ v < length (now counts) ⌝ }
+    ensures { λ r. ⌜ r ≡ isWide (now (counts .entry)) v ⌝ }
 {
     MOST_NARROW < slices::index(counts[v])
 }
 
 // x is added to the sum at i, in two parts where it is wide; the high part stands at j.
-fn give(work: &mut [i32], i: usize, j: usize, wide: bool, x: [i32; 4]) {
+fn give(work: &mut [i32], i: usize, j: usize, wide: bool, x: [i32; 4])
+    requires { ⌜ MayGive wide (now work) i j x × (length (now work) < 2 ^ 32) ⌝ }
+    ensures { λ _. ⌜ now (work .exit) ≡ given wide (now (work .entry)) i j x ⌝ }
+{
     if wide {
         fours::add_to(work, i, fours::lows(x));
         fours::add_to(work, j, fours::highs(x));
@@ -91,7 +126,10 @@ fn give(work: &mut [i32], i: usize, j: usize, wide: bool, x: [i32; 4]) {
 }
 
 // To the third place's variable, w; the blank is given nothing.
-fn give_third(counts: &[u16], work: &mut [i32], w: usize, i: usize, j: usize, x: [i32; 4]) {
+fn give_third(counts: &[u16], work: &mut [i32], w: usize, i: usize, j: usize, x: [i32; 4])
+    requires { ⌜ (eqb w blank ≡ false → (w < length (now counts)) × MayGive (isWide (now counts) w) (now work) i j x) × (length (now work) < 2 ^ 32) ⌝ }
+    ensures { λ _. ⌜ now (work .exit) ≡ cond (eqb w blank) (now (work .entry)) (given (isWide (now (counts .entry)) w) (now (work .entry)) i j x) ⌝ }
+{
     if w != BLANK {
         give(work, i, j, is_wide(counts, w), x);
     }
@@ -109,7 +147,12 @@ fn renew_any(
     u: usize,
     v: usize,
     w: usize,
-) {
+)
+    requires { ⌜ MayStep lanes (now work) (anyPlaces (now counts) lanes i values next apart u v w) ⌝ }
+    requires { ⌜ (u < length (now counts)) × (v < length (now counts)) × (eqb w blank ≡ false → w < length (now counts)) ⌝ }
+    requires { ⌜ (lanes * w < 2 ^ 32) × (values < 2 ^ 32) × (next < 2 ^ 32) × (apart < 2 ^ 32) ⌝ }
+    ensures { λ _. ⌜ now (work .exit) ≡ after lanes (now (work .entry)) (anyPlaces (now (counts .entry)) lanes i values next apart u v w) 3 ⌝ }
+{
     let a = fours::load(work, values + lanes * u);
     let b = fours::load(work, values + lanes * v);
     let c = third(work, values + lanes * w, w == BLANK);
@@ -134,7 +177,13 @@ fn walk_narrow(
     to: usize,
     t: usize,
     work: &mut [i32],
-) {
+)
+    requires { ⌜ Fits p (now work) × Halves p from to × (t < p .triples) ⌝ }
+    requires { ⌜ ((counts : List ℕ) × Narrow p (now triples) counts × Begun p (now triples) counts values next from to t (now work)) ⌝ }
+    ensures { λ _. ⌜ ((counts : List ℕ) → Narrow p (now (triples .entry)) counts
+        → Walks p (now (triples .entry)) counts values next from to t (t + 1) (now (work .entry)) (now (work .exit))) ⌝ }
+    ensures { λ _. ⌜ SameBeside p from to (now (work .entry)) (now (work .exit)) ⌝ }
+{
     let u = p.lanes * layout::variable(triples, t, 0);
     let v = p.lanes * layout::variable(triples, t, 1);
     let w = p.lanes * layout::variable(triples, t, 2);
@@ -165,7 +214,12 @@ fn walk_any(
     to: usize,
     t: usize,
     work: &mut [i32],
-) {
+)
+    requires { ⌜ Fits p (now work) × Halves p from to × (t < p .triples) ⌝ }
+    requires { ⌜ Begun p (now triples) (now counts) values next from to t (now work) ⌝ }
+    ensures { λ _. ⌜ Walks p (now (triples .entry)) (now (counts .entry)) values next from to t (t + 1) (now (work .entry)) (now (work .exit)) ⌝ }
+    ensures { λ _. ⌜ SameBeside p from to (now (work .entry)) (now (work .exit)) ⌝ }
+{
     let u = layout::variable(triples, t, 0);
     let v = layout::variable(triples, t, 1);
     let w = layout::variable(triples, t, 2);
@@ -199,7 +253,13 @@ fn walk_all_narrow(
     t: usize,
     end: usize,
     work: &mut [i32],
-) {
+)
+    requires { ⌜ Fits p (now work) × Halves p from to × (t ≤ end) × (end ≤ p .triples) ⌝ }
+    requires { ⌜ ((counts : List ℕ) × Narrow p (now triples) counts × Begun p (now triples) counts values next from to t (now work)) ⌝ }
+    ensures { λ _. ⌜ ((counts : List ℕ) → Narrow p (now (triples .entry)) counts
+        → Walks p (now (triples .entry)) counts values next from to t end (now (work .entry)) (now (work .exit))) ⌝ }
+    ensures { λ _. ⌜ SameBeside p from to (now (work .entry)) (now (work .exit)) ⌝ }
+{
     for i in t..end {
         walk_narrow(triples, p, values, next, from, to, i, work);
     }
@@ -217,7 +277,12 @@ fn walk_all(
     t: usize,
     end: usize,
     work: &mut [i32],
-) {
+)
+    requires { ⌜ Fits p (now work) × Halves p from to × (t ≤ end) × (end ≤ p .triples) ⌝ }
+    requires { ⌜ Begun p (now triples) (now counts) values next from to t (now work) ⌝ }
+    ensures { λ _. ⌜ Walks p (now (triples .entry)) (now (counts .entry)) values next from to t end (now (work .entry)) (now (work .exit)) ⌝ }
+    ensures { λ _. ⌜ SameBeside p from to (now (work .entry)) (now (work .exit)) ⌝ }
+{
     for i in t..end {
         walk_any(triples, counts, p, values, next, from, to, i, work);
     }

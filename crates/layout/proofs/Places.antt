@@ -1,25 +1,27 @@
 -- Where the rows stand. Assumes nothing.
 use Rattle.integers.proofs.Prelude.{_≡_, refl, ap, subst, _∙_, List, [], ℕ, suc, _+_, _-_, _*_, _/_, _%_, _≤_, _<_, arith, decLt, lt-ltb, le-ltb, ℤ, pos}
-use Rattle.integers.proofs.Prelude.{natAbs, length, getD, List·getD-eq-default, sets}
+use Rattle.integers.proofs.Prelude.{natAbs, length, List·getD-eq-default, sets}
 use Rattle.lists.specs.Tabulated.{tab, over}
 use Rattle.lists.proofs.Tabulated.{length-tab, getD-tab, tab-same, over-sets}
 use Rattle.model.specs.Limits.{mostSlack, mostMultiplier, mostRow}
 use Rattle.model.specs.Iteration.{at, row, slack, multiplier}
 use Rattle.model.specs.Bounds.{RowsWithin}
 use Rattle.model.proofs.Rows.{at-tab}
-use Rattle.rows.specs.Sides.{Rows}
-use Rattle.rows.proofs.Four.{rows-are}
+use Rattle.rows.proofs.Four.{small-are}
 use Rattle.layout.specs.Arranged.{Permutation}
 use Rattle.layout.specs.Transposed.{cell, Fours, stored, place, straight}
 use Rattle.layout.proofs.Arranged.{arranged-at, arranged-all, arranged-back}
 
--- ---- four fours by their cells
-pub fours-are : (f : ℕ → ℕ → ℤ) → ((k j : ℕ) → k < 4 → j < 4 → natAbs (f k j) ≤ mostRow) → Fours (tab 4 (λ k. tab 4 (f k)))
-fours-are f h k = by (decLt k 4)
+-- ---- fours by their cells
+pub cells-small : (n b : ℕ) (f : ℕ → ℕ → ℤ) {q : List (List ℤ)} → q ≡ tab n (λ k. tab 4 (f k)) → ((k j : ℕ) → k < n → j < 4 → natAbs (f k j) ≤ b) → (k j : ℕ) → natAbs (cell q k j) ≤ b
+cells-small n b f {q} e h k = rw e (by (decLt k n))
   where
-    by : Dec (k < 4) → Rows (getD (tab 4 (λ k. tab 4 (f k))) k [])
-    by (yes l) = rw (getD-tab 4 (λ k. tab 4 (f k)) k [] l) (rows-are (f k) (λ j. h k j l))
-    by (no l) = rw (List·getD-eq-default (tab 4 (λ k. tab 4 (f k))) [] {n = k} (omega (arith, length-tab 4 (λ k. tab 4 (f k))))) (λ _. omega arith)
+    by : Dec (k < n) → (j : ℕ) → natAbs (cell (tab n (λ k. tab 4 (f k))) k j) ≤ b
+    by (yes l) = rw (getD-tab n (λ k. tab 4 (f k)) k [] l) (small-are b (f k) refl (λ j. h k j l))
+    by (no l) = rw (List·getD-eq-default (tab n (λ k. tab 4 (f k))) [] {n = k} (omega (arith, length-tab n (λ k. tab 4 (f k))))) (λ _. omega arith)
+
+pub fours-are : (f : ℕ → ℕ → ℤ) → ((k j : ℕ) → k < 4 → j < 4 → natAbs (f k j) ≤ mostRow) → Fours (tab 4 (λ k. tab 4 (f k)))
+fours-are f = cells-small 4 mostRow f refl
 
 pub cell-is : (f : ℕ → ℕ → ℤ) (k j : ℕ) → k < 4 → j < 4 → cell (tab 4 (λ k. tab 4 (f k))) k j ≡ f k j
 cell-is f k j l m = ap (λ (q : List ℤ). at q j) (getD-tab 4 (λ k. tab 4 (f k)) k [] l) ∙ getD-tab 4 (f k) j (pos 0) m

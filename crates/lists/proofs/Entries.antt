@@ -2,7 +2,7 @@
 use Rattle.integers.proofs.Prelude.{_≡_, refl, sym, ap, ap₂, subst, _∙_, Bool, true, false, not, cond, _&&_, _||_, List, [], _∷_, _++_, map, ℕ, zero, suc, _+_}
 use Rattle.integers.proofs.Prelude.{_≤_, _<_, arith, add-one, ltb-true, ltb-false, T, ltb, length, getD, take, drop, length-map}
 use Rattle.integers.proofs.Prelude.{take-append-drop, drop-of-length-le, take-suc, drop-cons}
-use mathlib.Core.Bool.{or-assoc, or-false, and-assoc}
+use mathlib.Core.Bool.{or-assoc, or-false, and-assoc, and-true}
 use lib.ListN.{replicate}
 use Rattle.integers.specs.Sum.{sumℕ}
 use Rattle.integers.proofs.Sums.{sumℕ-first}
@@ -23,6 +23,17 @@ module _ {A : Type 0} (f : A → Bool) where
   every-end [] (suc i) h = refl
   every-end (x ∷ l) zero h = absurd (omega arith)
   every-end (x ∷ l) (suc i) h = every-end l i (omega arith)
+
+  -- of a loop that looks at each entry: whether all before i passed, and whether all from i on do, decide
+  abbrev pub Passed : List A → Bool → ℕ → Type 0
+  Passed l passed i = (passed && every f (drop i l)) ≡ every f l
+
+  pub passed-next : (l : List A) (passed : Bool) (i : ℕ) (d : A) → i < length l → Passed l passed i → Passed l (passed && f (getD l i d)) (i + 1)
+  passed-next l passed i d h e =
+      rw (add-one i) (and-assoc passed (f (getD l i d)) (every f (drop (suc i) l)) ∙ ap (λ (k : List A). passed && every f k) (sym (drop-cons l i d h)) ∙ e)
+
+  pub passed-end : (l : List A) (passed : Bool) (i : ℕ) → length l ≤ i → Passed l passed i → passed ≡ every f l
+  passed-end l passed i h e = sym (and-true passed) ∙ ap (λ (k : List A). passed && every f k) (sym (drop-of-length-le l h)) ∙ e
 
   -- what passed holds of each entry
   pub every-at : (l : List A) (i : ℕ) (d : A) → every f l ≡ true → i < length l → f (getD l i d) ≡ true

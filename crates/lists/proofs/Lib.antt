@@ -3,10 +3,11 @@
 --   `over i f old`, from the front, one store a turn            over-next, over-stored (start: refl; end: over-tab, over-map or over-all)
 --   `over n f old`, a store anywhere below n, f changing        over-set
 --   reading it again                                            over-in, over-out; its length: length-over
+--   reading after several stores side by side, anywhere         sets-at
 --   one loop after another over the same entries                over-over
 --
 -- A loop that tests the entries keeps `every f (drop i l) ≡ every f l` (every-next, every-stop, every-end), or, where it goes on after one
--- that passes, `Found f l found i` (start: refl; found-next, found-end). One that searches keeps `(j : ℕ) → j < i → f j ≡ false` (below-next,
+-- that fails or passes, `Passed f l passed i` or `Found f l found i` (start: refl; passed-next, passed-end; found-next, found-end). One that searches keeps `(j : ℕ) → j < i → f j ≡ false` (below-next,
 -- first-at, first-none). What a loan of `&s[k..]` or `&mut s[..n]` is: `Parts`, and there too, of a list in which parts of one size stand one behind the
 -- other:
 --

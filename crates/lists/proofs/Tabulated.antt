@@ -1,10 +1,10 @@
 -- Lists given by their entries. Assumes nothing.
-use Rattle.integers.proofs.Prelude.{_≡_, refl, sym, ap, ap₂, _∙_, List, [], _∷_, _++_, map, append-nil, ℕ, zero, suc, _+_, _-_, _≤_, _<_, arith, add-one, ℤ}
-use Rattle.integers.proofs.Prelude.{length, getD, take, drop, set, length-append, length-drop, length-map, drop-of-length-le, List·getD-append, sets, take-at, drop-at}
+use Rattle.integers.proofs.Prelude.{_≡_, refl, sym, ap, ap₂, _∙_, Bool, true, false, List, [], _∷_, _++_, map, append-nil, ℕ, zero, suc, _+_, _-_, _≤_, _<_, arith, add-one, eqb-true, eqb-false, eqb, ℤ}
+use Rattle.integers.proofs.Prelude.{length, getD, take, drop, set, length-append, length-drop, length-set, length-map, drop-of-length-le, List·getD-append, sets, take-at, drop-at}
 use Rattle.integers.proofs.Prelude.{getD-drop, getD-append-add, toZ, ofZ, toZ-ofZ}
 use mathlib.Core.Logic.{_≢_}
 use lib.ListN.{replicate}
-use lib.Seq.{set-append-left}
+use lib.Seq.{set-append-left, getD-set-same, getD-set-other}
 use mir.Syntax.{Width}
 use mir.Val.{SFits}
 use Rattle.lists.specs.Tabulated.{tab, over, written}
@@ -121,6 +121,22 @@ module _ {ℓ} {A : Type ℓ} where
 
   pub written-in : (l old : List A) (i : ℕ) (d : A) → i < length l → getD (written l old) i d ≡ getD l i d
   written-in l old i d h = List·getD-append l (drop (length l) old) d i h
+
+-- ---- entry j of a list in which k entries from n on became f's
+module _ {A : Type 0} (P : A → Type 0) (d : A) (j : ℕ) where
+  pub sets-at : (k n : ℕ) (f : ℕ → A) (l : List A) → n + k ≤ length l → ((i : ℕ) → i < k → j ≡ n + i → P (f i))
+      → (((i : ℕ) → i < k → j ≢ n + i) → P (getD l j d)) → P (getD (sets l n (tab k f)) j d)
+  sets-at zero n f l h new old = old (λ i m. absurd (omega arith))
+  sets-at (suc k) n f l h new old =
+      sets-at k (suc n) (λ i. f (suc i)) (set l n (f 0)) (omega (arith, length-set l n (f 0))) (λ i m e. new (suc i) (omega arith) (omega arith)) (λ out. by (eqb j n) refl out)
+    where
+      by : (t : Bool) → eqb j n ≡ t → ((i : ℕ) → i < k → j ≢ suc n + i) → P (getD (set l n (f 0)) j d)
+      by true e out =
+          let z = eqb-true j n e in
+          rw (z, getD-set-same l n (f 0) d (omega arith)) (new 0 (omega arith) (omega (arith, z)))
+      by false e out =
+          rw (getD-set-other l n j (f 0) d (eqb-false j n e))
+          (old (λ i. elim i [ zero ↦ λ m z. eqb-false j n e (omega (arith, z)) | suc i ↦ λ m z. out i (omega arith) (omega (arith, z)) ]))
 
 -- ---- of signed numbers, which the code stores through their bits
 pub over-stored : (w : Width) (n : ℕ) (f : ℕ → ℤ) (old : List ℤ) (r : ℤ) → n < length old → SFits w r → r ≡ f n

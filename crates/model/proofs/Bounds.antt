@@ -6,21 +6,23 @@ use Rattle.integers.specs.Parts.{up, dn}
 use Rattle.integers.specs.Sum.{sumℕ, sumℤ}
 use Rattle.integers.proofs.Linear.{toℕ, about, about-sum, abs-neg, abs-add, abs-mul, abs-difference}
 use Rattle.integers.proofs.Sums.{sumℕ-same, sumℕ-scale, sumℕ-bound, sumℤ-bound}
+use Rattle.lists.specs.Tabulated.{tab}
+use Rattle.lists.proofs.Tabulated.{getD-tab}
 use Rattle.quotient.specs.Quotient.{unit, quotient}
 use Rattle.quotient.specs.Quotient.Laws.{quotient-range}
 use Rattle.model.specs.declared.Settings.{Settings}
 use Rattle.model.specs.Causes.{_if_}
-use Rattle.model.specs.Limits.{mostChecks, mostTriples, mostWeight, mostRatio, mostIterations, mostCost, mostSlack, mostMultiplier, mostRow, mostSum, mostNumerator}
+use Rattle.model.specs.Limits.{mostChecks, mostTriples, mostWeight, mostRatio, mostIterations, mostDone, mostCost, mostSlack, mostMultiplier, mostRow, mostSum, mostNumerator}
 use Rattle.model.specs.Code.{Code, triples, variables}
 use Rattle.model.specs.Sound.{Sound}
 use Rattle.model.specs.Calls.{outOfRange}
 use Rattle.model.specs.Splitting.{System, systemOf, member}
-use Rattle.model.specs.Iteration.{at, valueAt, row, sign, rowSum, sumAt, slack, multiplier, share, _when_, sumOf, occurrences, numerator, divisor, renewed, State, sumsOf, valueOf, valuesOf, rowsOf, iterate}
+use Rattle.model.specs.Iteration.{at, valueAt, row, sign, rowSum, sumAt, slack, multiplier, share, _when_, sumOf, occurrences, numerator, divisor, renewed, renewedAt, State, sumsOf, valueOf, valuesOf, rowsOf, iterate}
 use Rattle.model.specs.Run.{squareOfChange, changes, start, after}
 use Rattle.model.specs.Bounds.{RowsWithin, Ready, Bounds, Margins}
 use Rattle.model.proofs.Causes.{in-range, within}
 use Rattle.model.proofs.TripleRule.{occurs-some, occurs-few}
-use Rattle.model.proofs.Rows.{signed-abs, at-tab, none, row-renewed, value-small}
+use Rattle.model.proofs.Rows.{signed-abs, at-tab, none, renewed-at, value-small}
 
 -- ---- the four sums, and a row's renewal
 pub rowSum-bound : (r : ℕ) (a b c : ℤ) → r < 4 → natAbs a ≤ unit → natAbs b ≤ unit → natAbs c ≤ unit → natAbs (rowSum r a b c) ≤ 49152
@@ -48,6 +50,26 @@ module _ (s sum : ℤ) (small : natAbs sum ≤ 49152) where
   pub multiplier-change : natAbs (pos (multiplier (renewed s sum)) -ℤ pos (multiplier s)) ≤ 65536
   multiplier-change = abs-difference (multiplier (renewed s sum)) (multiplier s) 65536 (omega (arith, renewed-multiplier)) (omega (arith, parts, about sum))
 
+  pub renewed-small : multiplier s ≤ mostMultiplier mostDone → natAbs (renewed s sum) ≤ mostRow
+  renewed-small h = omega (arith, about (renewed s sum), renewed-multiplier, renewed-slack)
+
+-- ---- all rows, renewed with the values c
+module _ (ts : List ℕ) (c : List ℤ) (small : (v : ℕ) → natAbs (at c v) ≤ unit) where
+  pub sumAt-small : (t r : ℕ) → r < 4 → natAbs (sumAt ts c t r) ≤ 49152
+  sumAt-small t r h =
+      let of : (p : ℕ) → natAbs (valueAt c (member ts t p)) ≤ unit = λ p. value-small c (member ts t p) (small (member ts t p)) in
+      rowSum-bound r _ _ _ h (of 0) (of 1) (of 2)
+
+  pub renewed-within : (n T : ℕ) (s : List ℤ) → RowsWithin n s → RowsWithin (suc n) (tab (4 * T) (renewedAt ts s c))
+  renewed-within n T s within =
+      let sum : ℕ → ℤ = λ i. sumAt ts c (i / 4) (i % 4) in
+      let sum-small : (i : ℕ) → natAbs (sum i) ≤ 49152 = λ i. sumAt-small (i / 4) (i % 4) (omega arith) in
+      record {
+        multipliers = λ i. at-tab (λ z. multiplier z ≤ mostMultiplier (suc n)) (4 * T) (renewedAt ts s c) i
+            (λ _. omega (arith, renewed-multiplier (at s i) (sum i) (sum-small i), within .multipliers i)) (omega arith);
+        slacks = λ i. at-tab (λ z. slack z ≤ mostSlack) (4 * T) (renewedAt ts s c) i (λ _. renewed-slack (at s i) (sum i) (sum-small i)) (omega arith);
+      }
+
 -- ---- a total, where no part changes by more than 65,536
 square : (a b : ℕ) → natAbs (pos b -ℤ pos a) ≤ 65536 → squareOfChange a b ≤ 4294967296
 square a b h = mul-le-mul h h
@@ -68,6 +90,17 @@ divisor-above e A h k = simp toℕ (omega arith)
 pub divisor-below : (e A m : ℕ) → e ≤ m → divisor (4 * e) A ≤ℤ pos (1024 * m)
 divisor-below e A m h = simp toℕ (omega arith)
 
+-- ---- both totals of the changes of rows that are renewed with any values within U
+module _ (ts : List ℕ) (s c : List ℤ) (value : (v : ℕ) → natAbs (at c v) ≤ unit) where
+  pub totals-renewed : (T n : ℕ) → T ≤ mostTriples → RowsWithin n s → let new = tab (4 * T) (renewedAt ts s c) in (changes multiplier T s new ≤ 2 ^ 47) × (changes slack T s new ≤ 2 ^ 47)
+  totals-renewed T n few within =
+      let new = tab (4 * T) (renewedAt ts s c) in (
+        changes-bound multiplier T s new few (λ t r l k.
+            rw (getD-tab (4 * T) (renewedAt ts s c) (4 * t + r) (pos 0) (omega arith), renewed-at ts s c t r k) (multiplier-change (row s t r) (sumAt ts c t r) (sumAt-small ts c value t r k))),
+        changes-bound slack T s new few (λ t r l k.
+            abs-difference (slack (row new t r)) (slack (row s t r)) 65536 (omega (arith, renewed-within ts c value n T s within .slacks (4 * t + r))) (omega (arith, within .slacks (4 * t + r)))),
+      )
+
 -- ---- one iteration: the values and the rows, whatever the settings and costs
 module _ (g : System) (o : Settings) (costs : List ℤ) (a : State) where
   abbrev e : ℕ → ℕ
@@ -82,26 +115,9 @@ module _ (g : System) (o : Settings) (costs : List ℤ) (a : State) where
       at-tab (λ z. natAbs z ≤ unit) (g .variables) (valueOf quotient g o costs (b .sums)) v
       (λ _. quotient-range (numerator (o .weight) (at (b .sums) v) (at costs v)) (divisor (4 * e v) (o .ratio))) (omega arith)
 
-  row-sum-small : (t r : ℕ) → r < 4 → natAbs (sumAt (g .members) (b .values) t r) ≤ 49152
-  row-sum-small t r h =
-      let c : ℕ → ℤ = λ p. valueAt (b .values) (member (g .members) t p) in
-      let small : (p : ℕ) → natAbs (c p) ≤ unit = λ p. value-small (b .values) (member (g .members) t p) (values (member (g .members) t p)) in
-      rowSum-bound r (c 0) (c 1) (c 2) h (small 0) (small 1) (small 2)
-
-  -- a law of every new row
-  each-row : (P : ℤ → Type 0) → P (pos 0) → ((i : ℕ) → P (renewed (at (a .rows) i) (sumAt (g .members) (b .values) (i / 4) (i % 4)))) → (i : ℕ) → P (at (b .rows) i)
-  unfolding iterate rowsOf
-  each-row P z h i = at-tab P (4 * g .triples) (λ i. renewed (at (a .rows) i) (sumAt (g .members) (b .values) (i / 4) (i % 4))) i (λ _. h i) z
-
   pub rows : (n : ℕ) → RowsWithin n (a .rows) → RowsWithin (suc n) (b .rows)
-  rows n within =
-      let sum : ℕ → ℤ = λ i. sumAt (g .members) (b .values) (i / 4) (i % 4) in
-      let small : (i : ℕ) → natAbs (sum i) ≤ 49152 = λ i. row-sum-small (i / 4) (i % 4) (omega arith) in
-      record {
-        multipliers = each-row (λ s. multiplier s ≤ mostMultiplier (suc n)) (omega arith)
-            (λ i. omega (arith, renewed-multiplier (at (a .rows) i) (sum i) (small i), within .multipliers i));
-        slacks = each-row (λ s. slack s ≤ mostSlack) (omega arith) (λ i. renewed-slack (at (a .rows) i) (sum i) (small i));
-      }
+  unfolding iterate rowsOf
+  rows n within = renewed-within (g .members) (b .values) values n (g .triples) (a .rows) within
 
 -- ---- rows that a run reaches: how large s is, a position's share of a triple, and S of a variable
 pub row-small : (n : ℕ) (s : List ℤ) → n ≤ mostIterations → RowsWithin n s → (i : ℕ) → natAbs (at s i) ≤ mostRow
@@ -148,6 +164,10 @@ module _ (g : System) (o : Settings) (costs : List ℤ) (n : ℕ) (a : State) (r
       let m : natAbs (pos (o .weight) *ℤ y) ≤ mostWeight * mostCost = rw abs-mul (mul-le-mul (ready .weight) (ready .cost v)) in
       rw (abs-neg (pos 256 *ℤ x +ℤ pos (o .weight) *ℤ y)) (omega (arith, abs-add (pos 256 *ℤ x) (pos (o .weight) *ℤ y), abs-mul (pos 256) x, sums h v))
 
+  totals : (changes multiplier (g .triples) (a .rows) (b′ .rows) ≤ 2 ^ 47) × (changes slack (g .triples) (a .rows) (b′ .rows) ≤ 2 ^ 47)
+  unfolding iterate rowsOf
+  totals = totals-renewed (g .members) (a .rows) (b′ .values) (values g o costs a) (g .triples) n (ready .triples) within
+
   pub bounds : Bounds g o costs n a
   unfolding iterate
   bounds = record {
@@ -157,8 +177,8 @@ module _ (g : System) (o : Settings) (costs : List ℤ) (n : ℕ) (a : State) (r
     numerators = numerators;
     values = values g o costs a;
     rows = rows g o costs a n within;
-    multiplier-total = changes-bound multiplier (g .triples) (a .rows) (b′ .rows) (ready .triples) (λ t r l k. rw (row-renewed g (a .rows) (b′ .values) t r l k) (multiplier-change (row (a .rows) t r) (sumAt (g .members) (b′ .values) t r) (row-sum-small g o costs a t r k)));
-    slack-total = changes-bound slack (g .triples) (a .rows) (b′ .rows) (ready .triples) (λ t r l k. abs-difference (slack (row (b′ .rows) t r)) (slack (row (a .rows) t r)) 65536 (omega (arith, rows g o costs a n within .slacks (4 * t + r))) (omega (arith, within .slacks (4 * t + r))));
+    multiplier-total = totals .0;
+    slack-total = totals .1;
   }
 
 -- ---- after n iterations

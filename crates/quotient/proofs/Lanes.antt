@@ -1,12 +1,14 @@
 -- The divisors of lanes: a product at the scale of 2 ^ 42, and the dividend that is limited first. Assumes nothing.
-use Rattle.integers.proofs.Prelude.{_≡_, refl, sym, ap, ap₂, _∙_, ℕ, suc, _+_, _-_, _*_, _/_, _^_, _≤_, _<_, arith, decLt, ℤ, pos, negsuc, natAbs, negℤ, _+ℤ_, _-ℤ_, _*ℤ_}
+use Rattle.integers.proofs.Prelude.{_≡_, refl, sym, ap, _∙_, ℕ, suc, _+_, _-_, _*_, _/_, _^_, _≤_, _<_, arith, decLt, ℤ, pos, negsuc, natAbs, negℤ, _+ℤ_, _-ℤ_, _*ℤ_, w32, toZ, ofZ}
 use native.Mathlib.Omega.{by-contra}
-use native.Mathlib.Nat.{mod-lt, mul-le-mul, mul-le-mul-left, mul-le-mul-right}
-use lib.Signed.{mag, shrZ}
+use native.Mathlib.Nat.{mul-le-mul, mul-le-mul-left}
+use lib.Signed.{shrZ}
+use mir.Val.{SFits}
 use Rattle.integers.specs.Parts.{up, dn}
 use Rattle.integers.proofs.Linear.{toℕ, readℤ, make-≡, about, about-neg, about-sum, abs-difference}
+use Rattle.integers.proofs.Machine.{Worth, param}
 use Rattle.quotient.specs.Quotient.{unit, quotient}
-use Rattle.quotient.specs.Narrowed.{gapOf, restOf, Narrowed, narrow-by, narrow-of}
+use Rattle.quotient.specs.Narrowed.{restOf, dividendOf, Narrowed, narrow-by, narrow-of}
 use Rattle.quotient.proofs.Magnitudes.{divisor-is, limit-above, limit-below}
 use Rattle.quotient.proofs.Products.{inverseOf, whole, quotients}
 
@@ -93,57 +95,66 @@ module _ (w : ℤ) where
   pub rest-is : rest ≡ pos (restOf w)
   rest-is = make-≡ rest (pos (restOf w)) (omega (arith, rest-parts, floor-is w, about rest))
 
-  pub floor-within : natAbs w < 2 ^ 31 → (natAbs h ≤ 2 ^ 23) × (mag (pos 256 *ℤ h) < 2 ^ 31)
-  floor-within k = omega (arith, floor-is w, about w, about h, about (pos 256 *ℤ h), times-256 h)
+  -- of 32 bits
+  module _ (within : natAbs w < 2 ^ 31) where
+    pub w-is : Worth (toZ w32 (ofZ w32 w)) w (2 ^ 31 - 1)
+    w-is = param w32 w (2 ^ 31 - 1) tt (omega arith)
 
--- a sum and a cost, and the number by which the inverse is multiplied
+    pub shifted : Worth (shrZ (toZ w32 (ofZ w32 w)) 256) h (2 ^ 23)
+    shifted = record { is = ap (λ (z : ℤ). shrZ z 256) (w-is .is); within = omega (arith, floor-is w, about w, about h) }
+
+    -- the least number of the width among them
+    pub floor-fits : SFits w32 (pos 256 *ℤ h)
+    floor-fits = record { sfits = omega (arith, floor-is w, about w, about (pos 256 *ℤ h), times-256 h) }
+
+-- the divisor, a sum and a cost
 module _ (d : ℕ) (s w : ℤ) where
   abbrev n : ℕ
-  n = 256 * gapOf (64 * d) (s +ℤ h w) + (255 - restOf w)
+  n = dividendOf (64 * d) (s +ℤ h w) w
 
-  abbrev all : ℤ
-  all = pos 256 *ℤ s +ℤ w
+  abbrev total : ℤ
+  total = pos 256 *ℤ s +ℤ w
 
-  abbrev low : ℤ
-  low = pos n -ℤ pos (top d)
+  abbrev opposite : ℤ
+  opposite = pos n -ℤ pos (top d)
 
-  all-is : up all + (256 * dn s + dn w) ≡ 256 * up s + up w + dn all
-  all-is = omega (arith, about-sum (pos 256 *ℤ s) w, times-256 s)
+  total-is : up total + (256 * dn s + dn w) ≡ 256 * up s + up w + dn total
+  total-is = omega (arith, about-sum (pos 256 *ℤ s) w, times-256 s)
 
-  low-is : up low + top d ≡ n + dn low
-  low-is = omega (arith, about-sum (pos n) (negℤ (pos (top d))), about-neg (pos (top d)))
+  opposite-is : up opposite + top d ≡ n + dn opposite
+  opposite-is = omega (arith, about-sum (pos n) (negℤ (pos (top d))), about-neg (pos (top d)))
 
-  abbrev z : ℤ
-  z = s +ℤ h w +ℤ pos (64 * d)
+  abbrev lifted : ℤ
+  lifted = s +ℤ h w +ℤ pos (64 * d)
 
-  z-is : up z + (dn s + dn (h w)) ≡ up s + up (h w) + 64 * d + dn z
-  z-is = omega (arith, about-sum s (h w), about-sum (s +ℤ h w) (pos (64 * d)))
+  lifted-is : up lifted + (dn s + dn (h w)) ≡ up s + up (h w) + 64 * d + dn lifted
+  lifted-is = omega (arith, about-sum s (h w), about-sum (s +ℤ h w) (pos (64 * d)))
 
   pub n-most : n ≤ 2 * (unit * d) + 255
   n-most = omega arith
 
   -- the limit by itself, or the whole number
-  pub limited : 1025 ≤ d → quotient low (pos d) ≡ quotient (negℤ all) (pos d)
-  limited least = by (decLt 0 (dn z)) (decLt (2 * (64 * d)) (up z))
+  pub limited : 1025 ≤ d → quotient opposite (pos d) ≡ quotient (negℤ total) (pos d)
+  limited least = by (decLt 0 (dn lifted)) (decLt (2 * (64 * d)) (up lifted))
     where
-      by : Dec (0 < dn z) → Dec (2 * (64 * d) < up z) → quotient low (pos d) ≡ quotient (negℤ all) (pos d)
+      by : Dec (0 < dn lifted) → Dec (2 * (64 * d) < up lifted) → quotient opposite (pos d) ≡ quotient (negℤ total) (pos d)
       by (yes l) _ =
-          limit-above low d (omega arith) (omega (arith, low-is, about z, rest-most w))
-          ∙ sym (limit-above (negℤ all) d (omega arith) (omega (arith, all-is, about-neg all, z-is, about z, floor-is w)))
+          limit-above opposite d (omega arith) (omega (arith, opposite-is, about lifted, rest-most w))
+          ∙ sym (limit-above (negℤ total) d (omega arith) (omega (arith, total-is, about-neg total, lifted-is, about lifted, floor-is w)))
       by (no l) (yes k) =
-          limit-below low d (omega arith) (omega (arith, low-is))
-          ∙ sym (limit-below (negℤ all) d (omega arith) (omega (arith, all-is, about-neg all, z-is, about z, floor-is w)))
+          limit-below opposite d (omega arith) (omega (arith, opposite-is))
+          ∙ sym (limit-below (negℤ total) d (omega arith) (omega (arith, total-is, about-neg total, lifted-is, about lifted, floor-is w)))
       by (no l) (no k) =
           ap (λ (y : ℤ). quotient y (pos d))
-          (make-≡ low (negℤ all) (omega (arith, low-is, all-is, about-neg all, z-is, rest-parts w, rest-most w, about (rest w), floor-is w)))
+          (make-≡ opposite (negℤ total) (omega (arith, opposite-is, total-is, about-neg total, lifted-is, rest-parts w, rest-most w, about (rest w), floor-is w)))
 
 -- ---- both
 pub divides : {den limit : ℤ} {inverse raise : ℕ} → Narrowed den limit inverse raise → (s w : ℤ)
-    → pos (((256 * gapOf (natAbs limit) (s +ℤ shrZ w 256) + (255 - restOf w)) * inverse + raise) / 2 ^ 42) ≡ quotient (negℤ (pos 256 *ℤ s +ℤ w)) den +ℤ pos unit
+    → pos ((dividendOf (natAbs limit) (s +ℤ shrZ w 256) w * inverse + raise) / 2 ^ 42) ≡ quotient (negℤ (pos 256 *ℤ s +ℤ w)) den +ℤ pos unit
 divides {den} {limit} {inverse} {raise} p s w =
     let d = natAbs den in
     let b = divisor-is den 8192 (omega (arith, readℤ, p .least)) (p .most) in
     let k : 1025 ≤ d = omega (arith, readℤ, p .least, about den) in
     rw (p .limit-is)
     (narrow-of (p .stands) .quotients (n d s w) (n-most d s w)
-    ∙ ap (λ (q : ℤ). q +ℤ pos unit) (ap (quotient (low d s w)) (b .2) ∙ limited d s w k ∙ ap (quotient (negℤ (all d s w))) (sym (b .2))))
+    ∙ ap (λ (q : ℤ). q +ℤ pos unit) (ap (quotient (opposite d s w)) (b .2) ∙ limited d s w k ∙ ap (quotient (negℤ (total d s w))) (sym (b .2))))

@@ -86,13 +86,13 @@ module _ (half : ℕ) where
 
 -- ---- the scale of 2 ^ 47
 module _ (d : ℕ) (least : 0 < d) (most : d ≤ 64512) where
-  fits : (x : ℤ) → natAbs x < unit * d → natAbs (x *ℤ pos (inverseOf (2 ^ 47) d)) ≤ 2 ^ 61 + 2 ^ 30
-  fits x h =
+  prepared-fits : (x : ℤ) → natAbs x < unit * d → natAbs (x *ℤ pos (inverseOf (2 ^ 47) d)) ≤ 2 ^ 61 + 2 ^ 30
+  prepared-fits x h =
       let t : natAbs x * inverseOf (2 ^ 47) d ≤ unit * d * inverseOf (2 ^ 47) d = mul-le-mul-right (inverseOf (2 ^ 47) d) (omega arith) in
       rw (abs-mul x (pos (inverseOf (2 ^ 47) d))) (omega (arith, whole (2 ^ 46) d least))
 
-  quotients-47 : (x : ℤ) → natAbs x < unit * d → shrZ (pos (2 ^ 46) -ℤ x *ℤ pos (inverseOf (2 ^ 47) d)) (2 ^ 47) ≡ quotient (negℤ x) (pos d)
-  quotients-47 x h =
+  prepared-quotients : (x : ℤ) → natAbs x < unit * d → shrZ (pos (2 ^ 46) -ℤ x *ℤ pos (inverseOf (2 ^ 47) d)) (2 ^ 47) ≡ quotient (negℤ x) (pos d)
+  prepared-quotients x h =
       let a : natAbs x * d ≤ unit * d * d = mul-le-mul-right d (omega arith) in
       let b : d * d ≤ 64512 * 64512 = mul-le-mul most most in
       quotients (2 ^ 46) d least x (omega arith) (omega arith)
@@ -100,4 +100,4 @@ module _ (d : ℕ) (least : 0 < d) (most : d ≤ 64512) where
   -- numbers that are these are made ready
   pub prepared-at : (den limit inverse : ℤ) → den ≡ pos d → limit ≡ pos (unit * d) → inverse ≡ pos (inverseOf (2 ^ 47) d) → Prepared den limit inverse
   prepared-at den limit inverse e f g =
-      rw (e, f, g) (record { above = omega (arith, readℤ); limit-is = refl; stands = inverse-by (record { fits = fits; quotients = quotients-47 }) })
+      rw (e, f, g) (record { above = omega (arith, readℤ); limit-is = refl; stands = inverse-by (record { fits = prepared-fits; quotients = prepared-quotients }) })

@@ -1,4 +1,4 @@
--- The three numbers that are made ready for a divisor of lanes: the limit of what is divided, cut by 256; an inverse of 32 bits; and what is added to a product.
+-- The three numbers that are made ready for a divisor of lanes: a 256th of the limit of what is divided by it, an inverse of 32 bits, and what is added to a product.
 -- `NarrowInverse` is shut, as `Inverse` is; the two laws are for the proofs of this crate.
 use mathlib.Core.Path.{_≡_}
 use Prim.Native.Nat.{ℕ, _+_, _-_, _*_, _/_, _^_, _≤_}
@@ -15,7 +15,11 @@ gapOf m x = 2 * m - up (x +ℤ pos m)
 abbrev pub restOf : ℤ → ℕ
 restOf w = up (w -ℤ pos 256 *ℤ shrZ w 256)
 
--- what is added is small; n being how far −x lies above the least number that is divided, the sum is the quotient of −x, raised by U, at the scale of 2 ^ 42
+-- 256 x and the rest of w, where x is limited to −m..m, counted down from 256 m + 255
+abbrev pub dividendOf : ℕ → ℤ → ℤ → ℕ
+dividendOf m x w = 256 * gapOf m x + (255 - restOf w)
+
+-- what is added fits; a product and it, divided at the scale of 2 ^ 42, are the quotient, raised by U, of n less the most
 pub record NarrowProduct (den : ℤ) (inverse raise : ℕ) : Type 0 where
   pub small : raise ≤ 2 ^ 41
   pub quotients : (n : ℕ) → n ≤ 2 * (unit * natAbs den) + 255

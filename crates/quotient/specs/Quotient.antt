@@ -19,7 +19,7 @@ mostDivisor = 1024 * 2048
 abbrev pub mostPrepared : ℕ
 mostPrepared = 1024 * 63
 
--- those of lanes: in 2 to 8 triples, A being at most 1,023
+-- those of lanes: in 2 to 8 triples
 abbrev pub leastNarrow : ℕ
 leastNarrow = 1025
 

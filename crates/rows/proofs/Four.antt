@@ -1,22 +1,29 @@
--- Four of a kind: an array by its entries, a sum, and the squares of changes. Assumes nothing.
-use Rattle.integers.proofs.Prelude.{_≡_, ap, _∙_, [], _∷_, ℕ, _+_, _*_, _≤_, _<_, arith, ℤ, pos, negsuc, natAbs, negℤ, _-ℤ_, _*ℤ_}
+-- Four of a kind, or three: an array by its entries, a sum, and the squares of changes. Assumes nothing.
+use Rattle.integers.proofs.Prelude.{_≡_, refl, ap, _∙_, List, [], _∷_, ℕ, _+_, _*_, _≤_, _<_, arith, ℤ, pos, negsuc, natAbs, negℤ, _-ℤ_, _*ℤ_}
 use native.Mathlib.Nat.{le-refl, mul-le-mul}
 use Rattle.integers.specs.Sum.{sumℕ}
 use Rattle.integers.proofs.Linear.{split, toℕ, about, about-neg, abs-mul, abs-difference}
 use Rattle.lists.specs.Tabulated.{tab}
 use Rattle.model.specs.Limits.{mostRow}
-use Rattle.model.specs.Iteration.{slack, multiplier}
+use Rattle.model.specs.Iteration.{at, slack, multiplier}
 use Rattle.model.proofs.Rows.{at-tab}
 use Rattle.rows.specs.Sides.{Rows, changeOf}
 
 pub four-are : {A : Type 0} (f : ℕ → A) (a b c d : A) → a ≡ f 0 → b ≡ f 1 → c ≡ f 2 → d ≡ f 3 → a ∷ b ∷ c ∷ d ∷ [] ≡ tab 4 f
 four-are f a b c d p q r s = rw (p, q, r, s)
 
+pub three-are : {A : Type 0} (f : ℕ → A) (a b c : A) → a ≡ f 0 → b ≡ f 1 → c ≡ f 2 → a ∷ b ∷ c ∷ [] ≡ tab 3 f
+three-are f a b c p q r = rw (p, q, r)
+
 pub sum-four : (f : ℕ → ℕ) (a b c d : ℕ) → a ≡ f 0 → b ≡ f 1 → c ≡ f 2 → d ≡ f 3 → a + b + c + d ≡ sumℕ 4 f
 sum-four f a b c d p q r s = omega (arith, p, q, r, s)
 
+-- none of four is larger than n
+pub small-are : (n : ℕ) (f : ℕ → ℤ) {l : List ℤ} → l ≡ tab 4 f → ((r : ℕ) → r < 4 → natAbs (f r) ≤ n) → (r : ℕ) → natAbs (at l r) ≤ n
+small-are n f e h r = rw e (at-tab (λ z. natAbs z ≤ n) 4 f r (h r) (omega arith))
+
 pub rows-are : (f : ℕ → ℤ) → ((r : ℕ) → r < 4 → natAbs (f r) ≤ mostRow) → Rows (tab 4 f)
-rows-are f h r = at-tab (λ z. natAbs z ≤ mostRow) 4 f r (h r) (omega arith)
+rows-are f = small-are mostRow f refl
 
 -- ---- the square of a change of one side of a row
 module _ (side : ℤ) (one : natAbs side ≤ 1) where

@@ -1,13 +1,13 @@
 -- The shares of triples, by the rows as they stand while a run goes. Assumes nothing.
-use Rattle.integers.proofs.Prelude.{_≡_, refl, sym, ap, _∙_, Bool, true, false, List, ℕ, zero, suc, _+_, _-_, _*_, _%_, _≤_, _<_, arith, ltb-true, ltb-false}
-use Rattle.integers.proofs.Prelude.{eqb-true, eqb-false, eqb, ltb, ℤ, pos, natAbs, _*ℤ_, length, getD, set, length-set, sets, w32, toZ, ofZ}
-use mathlib.Core.Logic.{_⊎_, inl, inr, _≢_}
-use lib.Seq.{length-sets, getD-set-same, getD-set-other}
+use Rattle.integers.proofs.Prelude.{_≡_, refl, sym, ap, _∙_, Bool, true, false, List, ℕ, suc, _+_, _-_, _*_, _%_, _≤_, _<_, arith, ltb-true, ltb-false}
+use Rattle.integers.proofs.Prelude.{ltb, ℤ, pos, natAbs, _*ℤ_, length, sets, w32, toZ, ofZ}
+use mathlib.Core.Logic.{_⊎_, inl, inr}
+use lib.Seq.{length-sets}
 use Rattle.integers.specs.Sum.{sumℤ}
 use Rattle.integers.proofs.Sums.{sumℤ-same}
 use Rattle.integers.proofs.Machine.{param}
 use Rattle.lists.specs.Tabulated.{tab}
-use Rattle.lists.proofs.Tabulated.{getD-tab, tab-same}
+use Rattle.lists.proofs.Tabulated.{getD-tab, tab-same, sets-at}
 use Rattle.model.specs.Limits.{mostDone, mostRow}
 use Rattle.model.specs.Splitting.{member}
 use Rattle.model.specs.Iteration.{at, row, sign, slack, multiplier, share}
@@ -56,22 +56,6 @@ module _ (s : List ℤ) (w : RowsWithin mostDone s) where
   four-small f q e r = rw e (at-tab (λ z. natAbs z ≤ mostRow) 4 (λ r. at s (f r)) r (λ _. reached s w (f r)) (omega arith))
 
 -- ---- the shares of four b of the triples from t on are stored, one position after the other
--- entry j of a list in which k entries from n on became f's
-module _ {A : Type 0} (P : A → Type 0) (d : A) (j : ℕ) where
-  sets-at : (k n : ℕ) (f : ℕ → A) (l : List A) → n + k ≤ length l → ((i : ℕ) → i < k → j ≡ n + i → P (f i))
-      → (((i : ℕ) → i < k → j ≢ n + i) → P (getD l j d)) → P (getD (sets l n (tab k f)) j d)
-  sets-at zero n f l h new old = old (λ i m. absurd (omega arith))
-  sets-at (suc k) n f l h new old =
-      sets-at k (suc n) (λ i. f (suc i)) (set l n (f 0)) (omega (arith, length-set l n (f 0))) (λ i m e. new (suc i) (omega arith) (omega arith)) (λ out. by (eqb j n) refl out)
-    where
-      by : (t : Bool) → eqb j n ≡ t → ((i : ℕ) → i < k → j ≢ suc n + i) → P (getD (set l n (f 0)) j d)
-      by true e out =
-          let z = eqb-true j n e in
-          rw (z, getD-set-same l n (f 0) d (omega arith)) (new 0 (omega arith) (omega (arith, z)))
-      by false e out =
-          rw (getD-set-other l n j (f 0) d (eqb-false j n e))
-          (old (λ i. elim i [ zero ↦ λ m z. eqb-false j n e (omega (arith, z)) | suc i ↦ λ m z. out i (omega arith) (omega (arith, z)) ]))
-
 -- those of the first r positions are stored
 abbrev Stored : List ℤ → ℕ → ℕ → ℕ → List ℤ → Type 0
 Stored s t b r q = (p i : ℕ) → p < 3 → i < 4 * (b + 1) → (p < r) ⊎ (i < 4 * b) → at q (32 * p + i) ≡ share s (t + i) p

@@ -1,5 +1,5 @@
 -- `quotient::gap` meets its contract. Assumes nothing.
-use Rattle.integers.proofs.Prelude.{_≡_, ap, _∙_, ℕ, _+_, _-_, _*_, _^_, _≤_, arith, needs, ℤ, pos, natAbs, negℤ, _+ℤ_, _-ℤ_, _*ℤ_, w32, toZ, ofZ}
+use Rattle.integers.proofs.Prelude.{_≡_, ap, _∙_, ℕ, _+_, _-_, _*_, _^_, arith, needs, ℤ, pos, natAbs, negℤ, _+ℤ_, _-ℤ_, _*ℤ_, w32, toZ, ofZ}
 use Rattle.integers.specs.Parts.{up}
 use Rattle.integers.proofs.Linear.{readℤ, above-abs, false-ltZ, about, about-neg, about-sum}
 use Rattle.integers.proofs.Machine.{Worth, param, literal, local, also, plus, minus, times, fits, stored, read-back}

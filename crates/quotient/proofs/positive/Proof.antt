@@ -1,5 +1,5 @@
 -- `quotient::positive` meets its contract. Assumes nothing.
-use Rattle.integers.proofs.Prelude.{_≡_, refl, ap, _∙_, arith, pos, w32, toZ, ofZ, toZ-ofZ}
+use Rattle.integers.proofs.Prelude.{_≡_, _∙_, arith, pos, w32, toZ, ofZ, toZ-ofZ}
 use Rattle.integers.specs.Parts.{up}
 use Rattle.integers.proofs.Linear.{make-≡, ltZ-true, ltZ-false, about}
 use Rattle.quotient.proofs.positive.Statement.{statement}

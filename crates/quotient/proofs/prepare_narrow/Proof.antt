@@ -48,7 +48,7 @@ cast-limit : tie.Need-cast-t6
 cast-limit c = record { sfits = omega (arith, d-is c .1) }
 
 cast-inverse : tie.Need-cast-t7
-cast-inverse c = record { fits = inverse-is c }
+cast-inverse c = record { fits = omega (arith, inverse-is c) }
 
 mul-most : tie.Need-mul-t5
 mul-most c = record { fits = omega (arith, d-is c .1) }
@@ -59,10 +59,13 @@ add-most c = record { fits = omega (arith, d-is c .1) }
 mul-product : tie.Need-mul-t9
 mul-product c = record { fits = omega (arith, product-is c) }
 
+sub-raise : tie.Need-sub-t10
+sub-raise c = omega (arith, product-is c)
+
 returns : tie.Need-returns
 unfolding inverseOf raiseOf
 returns c = narrowed-at (d c) (d-is c .0) (d-is c .1) (c .args .den) _ (d-is c .2) (limit-is c .is)
 
 pub prepare-narrow-spec : {M : Type 1} → statement M
 prepare-narrow-spec =
-    tie.close (tie.spec cast-divisor mul-limit div-inverse add-inverse cast-limit cast-inverse mul-most add-most mul-product product-is returns)
+    tie.close (tie.spec cast-divisor mul-limit div-inverse add-inverse cast-limit cast-inverse mul-most add-most mul-product sub-raise returns)

@@ -1,9 +1,8 @@
 -- `quotient::scaled` meets its contract. Assumes nothing.
-use Rattle.integers.proofs.Prelude.{_≡_, ap, _∙_, ℕ, _+_, _*_, _/_, _^_, _≤_, _<_, arith, needs, pos, natAbs, w32, toZ, ofZ}
+use Rattle.integers.proofs.Prelude.{ℕ, _+_, _*_, _/_, _^_, _≤_, arith, needs, pos, natAbs, w32, toZ, ofZ}
 use native.Mathlib.Nat.{mul-le-mul}
 use lib.Signed.{yes-nonNeg}
-use Rattle.integers.proofs.Linear.{readℤ}
-use Rattle.integers.proofs.Machine.{Worth, param, unsigned, fits, stored}
+use Rattle.integers.proofs.Machine.{Worth, param, unsigned}
 use Rattle.quotient.proofs.scaled.Statement.{statement}
 use Rattle.quotient.proofs.scaled.Tie as tie
 

@@ -1,11 +1,10 @@
 -- `rows::row_sums` meets its contract. Assumes nothing.
-use Rattle.integers.proofs.Prelude.{_≡_, sym, ap, ap₂, subst, _∙_, List, ℕ, _*_, _≤_, arith, needs, ℤ, natAbs, w32, toZ, ofZ, toZ-ofZ}
+use Rattle.integers.proofs.Prelude.{_≡_, ap, ap₂, _∙_, ℕ, _*_, needs, ℤ, w32, toZ, ofZ, toZ-ofZ}
 use Rattle.integers.proofs.Machine.{read-back}
 use Rattle.quotient.specs.Quotient.{unit}
-use Rattle.model.specs.Iteration.{at, rowSum}
-use Rattle.model.proofs.Rows.{at-tab}
+use Rattle.model.specs.Iteration.{rowSum}
 use Rattle.model.proofs.Bounds.{rowSum-bound}
-use Rattle.rows.proofs.Four.{four-are}
+use Rattle.rows.proofs.Four.{four-are, small-are}
 use Rattle.rows.proofs.row_sums.Statement.{statement}
 use Rattle.rows.proofs.row_sums.Tie as tie
 
@@ -24,7 +23,7 @@ returns c =
     (read-back w32 (c .before .before .row-sum2 .ok) (c .before .before .row-sum2 .ensures ∙ same s 1))
     (read-back w32 (c .before .row-sum3 .ok) (c .before .row-sum3 .ensures ∙ same s 2))
     (read-back w32 (c .row-sum4 .ok) (c .row-sum4 .ensures ∙ same s 3)) in
-    (e, λ r. subst (λ (l : List ℤ). natAbs (at l r) ≤ 3 * unit) (sym e) (at-tab (λ z. natAbs z ≤ 3 * unit) 4 of r (λ l. rowSum-bound r (a .a) (a .b) (a .c) l (s .pre .0) (s .pre .1) (s .pre .2)) (omega arith)))
+    (e, small-are (3 * unit) of e (λ r l. rowSum-bound r (a .a) (a .b) (a .c) l (s .pre .0) (s .pre .1) (s .pre .2)))
 
 pub row-sums-spec : {M : Type 1} → statement M
 row-sums-spec =

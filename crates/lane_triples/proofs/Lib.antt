@@ -1,0 +1,5 @@
+pub mod Stores
+pub mod Lane
+pub mod Step
+pub mod Calls
+pub mod Walks
