@@ -8,7 +8,8 @@ use Rattle.model.specs.Iteration.{at, divisor}
 use Rattle.lanes.specs.declared.Plan.{Plan}
 use Rattle.lanes.specs.Lanes.{inLane, sumsAt, weighedAt, lowPart, highPart, laneWeighed, Fits, SumsKept}
 use Rattle.lane_values.specs.Stored.{stored, Stored}
-use Rattle.lane_values.specs.Valued.{Counted, WeighedWithin, laneValue, bitValue, Entries}
+use Rattle.lane_values.specs.Valued.{Counted, WeighedWithin, laneValue}
+use Rattle.lane_values.specs.Places.{bitValue, Entries}
 use Rattle.lane_values.proofs.Bits.{some-lanes, variable-of}
 
 -- ---- entry k of a part that begins at L a, in its lane
@@ -28,8 +29,9 @@ same-lane-entry L j i l m h k e =
     omega arith
 
 -- what was stored in the parts that begin at `off` in each lane, for the variables from a to b
-module _ {m : ℕ} {parts : List ℕ} {f : ℕ → ℤ} {L from to : ℕ} (a b : ℕ) {w w′ : List ℤ} (off : ℕ → ℕ) (places : (q : ℕ) → q < m → getD parts q 0 ≡ L * off q)
-    (first : from ≡ L * a) (last : to ≡ L * b) (s : Stored m parts f from to w w′) (l : ℕ) (h : l < L) where
+module _ {m : ℕ} {parts : List ℕ} {f : ℕ → ℤ} {L from to : ℕ} (a b : ℕ) {w w′ : List ℤ} (off : ℕ → ℕ)
+    (places : (q : ℕ) → q < m → getD parts q 0 ≡ L * off q) (first : from ≡ L * a) (last : to ≡ L * b) (s : Stored m parts f from to w w′)
+    (l : ℕ) (h : l < L) where
   pub lane-new : (q v : ℕ) → q < m → a ≤ v → v < b → inLane L w′ l (off q + v) ≡ stored f q (L * v + l)
   lane-new q v hq ha hb =
       let e : L * (off q + v) + l ≡ getD parts q 0 + (L * v + l) = omega (arith, places q hq) in
@@ -56,7 +58,8 @@ module _ (p : Plan) (w : List ℤ) (k : ℕ) where
   module _ (bit : variable < p .bits) where
     high-is : (n : ℕ) → highPart p n w lane variable ≡ at w (p .lanes * sumsAt p n + p .lanes * p .variables + k)
     high-is n =
-        let e : p .lanes * (sumsAt p n + (p .variables + variable)) + lane ≡ p .lanes * sumsAt p n + p .lanes * p .variables + k = omega (arith, div-add-mod k (p .lanes)) in
+        let L = p .lanes in
+        let e : L * (sumsAt p n + (p .variables + variable)) + lane ≡ L * sumsAt p n + L * p .variables + k = omega (arith, div-add-mod k L) in
         rw (lt-ltb variable (p .bits) bit) (ap (at w) e)
 
     weighed-is : laneWeighed p w lane variable ≡ at w (p .lanes * weighedAt p + k)

@@ -1,6 +1,6 @@
 -- Parts of a list that loops read and write. Assumes nothing.
 -- A loop that stores entry i of the first parts at turn i keeps `Stored m parts f from i` (start: nothing-stored; store-next). What it reads at i or
--- later is still as it was (ahead), and so are the parts that are only read (only-read). One loop after another: stored-join.
+-- later is still as it was (ahead). One loop after another: stored-join.
 use Rattle.integers.proofs.Prelude.{_≡_, refl, sym, ap, _∙_, Bool, true, false, List, [], _∷_, ℕ, zero, suc, _+_, _≤_, _<_, arith, eqb-true, eqb-false, eqb}
 use Rattle.integers.proofs.Prelude.{ltb-true, ltb-false, ltb, ℤ, pos, length, getD, set, length-set}
 use mathlib.Core.Logic.{_≢_}
@@ -54,12 +54,6 @@ module _ {n size : ℕ} {parts : List ℕ} (a : Parts n size parts) where
     ahead s q i hq hm hn =
         s .old (getD parts q 0 + i) (λ r k hr hf hk e. let z = same-entry q r i k hq (omega arith) hn (omega arith) e in omega arith)
 
-    -- entries of parts that are only read
-    pub only-read : {from to : ℕ} {w w′ : List ℤ} → to ≤ n → Stored m parts f from to w w′ → (q i : ℕ) → m ≤ q → q < length parts → i < n
-        → at w′ (getD parts q 0 + i) ≡ at w (getD parts q 0 + i)
-    only-read l s q i hm hq hn =
-        s .old (getD parts q 0 + i) (λ r k hr hf hk e. apart-at n parts (a .apart) q r hq (omega arith) (λ z. omega arith) i k hn (omega arith) e)
-
 pub nothing-stored : {m : ℕ} {parts : List ℕ} {f : ℕ → ℤ} {from to : ℕ} {w : List ℤ} → to ≤ from → Stored m parts f from to w w
 nothing-stored h = record { long = refl; new = λ q i hq hf ht. absurd (omega arith); old = λ j out. refl }
 
@@ -72,7 +66,8 @@ stored-same {m} {parts} {f} {g} {from} {to} {w} {w′} e s = record { long = s .
     new zero i hq hf ht = s .new 0 i hq hf ht ∙ e i hf ht
     new (suc q) i hq hf ht = s .new (suc q) i hq hf ht
 
-module _ {n size : ℕ} {parts : List ℕ} (a : Parts n size parts) (f : ℕ → ℤ) (i : ℕ) (x : ℤ) (e : x ≡ f i) (below : i < n) (w : List ℤ) (long : length w ≡ size) where
+module _ {n size : ℕ} {parts : List ℕ} (a : Parts n size parts) (f : ℕ → ℤ) (i : ℕ) (x : ℤ) (e : x ≡ f i) (below : i < n) (w : List ℤ)
+    (long : length w ≡ size) where
   stored-turn : (m : ℕ) → m ≤ length parts → Stored m parts f i (i + 1) w (turned parts i x m w)
   stored-turn zero few = record { long = refl; new = λ q k hq. absurd (omega arith); old = λ j out. refl }
   stored-turn (suc m) few =

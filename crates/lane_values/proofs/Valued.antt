@@ -1,19 +1,20 @@
 -- All lanes after the bits, from w to w₁, and then the auxiliaries, from w₁ to w₂. Assumes nothing.
-use Rattle.integers.proofs.Prelude.{_≡_, refl, sym, ap, ap₂, _∙_, Bool, true, false, List, [], _∷_, ℕ, zero, suc, _+_, _-_, _*_, _/_, _%_, _≤_, _<_, arith, ltb-true, ltb-false, ltb}
-use Rattle.integers.proofs.Prelude.{ℤ, pos, natAbs, negℤ, _+ℤ_, _*ℤ_, length, getD}
+use Rattle.integers.proofs.Prelude.{_≡_, refl, sym, ap, ap₂, _∙_, Bool, true, false, List, [], _∷_, ℕ, zero, suc, _+_, _-_, _*_, _/_, _%_, _≤_, _<_, arith}
+use Rattle.integers.proofs.Prelude.{ltb-true, ltb-false, ltb, ℤ, pos, natAbs, negℤ, _+ℤ_, _*ℤ_, length, getD}
 use native.Mathlib.Nat.{mod-lt}
 use Rattle.quotient.specs.Quotient.{unit, quotient}
 use Rattle.model.specs.Iteration.{at, divisor}
 use Rattle.lanes.specs.declared.Plan.{Plan}
 use Rattle.lanes.specs.Lanes.{inLane, valuesAt, sumsAt, weighedAt, lowPart, Fits}
 use Rattle.lane_values.specs.Stored.{Parts, Stored}
-use Rattle.lane_values.specs.Valued.{Counted, laneValue, LaneValued, bitParts, auxiliaryValue, bitValue}
+use Rattle.lane_values.specs.Valued.{Counted, laneValue, LaneValued}
+use Rattle.lane_values.specs.Places.{bitParts, auxiliaryValue, bitValue}
 use Rattle.lane_values.proofs.Bits.{some-lanes, variable-of}
 use Rattle.lane_values.proofs.Lanes.{lane-of, lane-new, lane-old, low-is, bit-value-is, auxiliary-value-is}
 
 -- ---- where the parts begin
 -- in all lanes together, of the auxiliaries: c, the sums that come next and those that are read
-abbrev pub auxiliaryParts : Plan → ℕ → List ℕ
+abbrev auxiliaryParts : Plan → ℕ → List ℕ
 auxiliaryParts p i = let L = p .lanes in L * valuesAt p ∷ L * sumsAt p (1 - i) ∷ L * sumsAt p i ∷ []
 
 -- in a lane: those of c and of the sums that come next, low and high
@@ -31,7 +32,7 @@ auxiliary-places p i zero h = refl
 auxiliary-places p i (suc zero) h = refl
 auxiliary-places p i (suc (suc q)) h = absurd (omega arith)
 
-pub auxiliary-parts : {p : Plan} {w : List ℤ} → Fits p w → (i : ℕ) → i ≤ 1 → Parts (p .lanes * p .variables) (length w) (auxiliaryParts p i)
+auxiliary-parts : {p : Plan} {w : List ℤ} → Fits p w → (i : ℕ) → i ≤ 1 → Parts (p .lanes * p .variables) (length w) (auxiliaryParts p i)
 auxiliary-parts f zero h = record { ends = omega (arith, f .long); apart = omega arith }
 auxiliary-parts f (suc zero) h = record { ends = omega (arith, f .long); apart = omega arith }
 auxiliary-parts f (suc (suc i)) h = absurd (omega arith)
@@ -74,11 +75,11 @@ module _ {p : Plan} (counts : List ℕ) (A : ℕ) {i : ℕ} {w w₁ : List ℤ} 
 
 module _ {p : Plan} {counts : List ℕ} (A : ℕ) {i : ℕ} {w w₁ w₂ : List ℤ} (f : Fits p w) (list : i ≤ 1) (counted : Counted p counts)
     (bits : Stored 3 (bitParts p i) (bitValue p counts A i w) 0 (p .lanes * p .bits) w w₁)
-    (others : Stored 2 (auxiliaryParts p i) (auxiliaryValue w₁ (p .lanes * sumsAt p i) (divisor (4 * 2) A)) (p .lanes * p .bits) (p .lanes * p .variables) w₁ w₂)
-    (l : ℕ) (h : l < p .lanes) where
+    (others : let f = auxiliaryValue w₁ (p .lanes * sumsAt p i) (divisor (4 * 2) A) in
+    Stored 2 (auxiliaryParts p i) f (p .lanes * p .bits) (p .lanes * p .variables) w₁ w₂) (l : ℕ) (h : l < p .lanes) where
   -- ---- what stays
-  others-leave : (j : ℕ) → ((v : ℕ) → p .bits ≤ v → v < p .variables → j ≡ valuesAt p + v → ⊥) → ((v : ℕ) → p .bits ≤ v → v < p .variables → j ≡ sumsAt p (1 - i) + v → ⊥)
-      → inLane (p .lanes) w₂ l j ≡ inLane (p .lanes) w₁ l j
+  others-leave : (j : ℕ) → ((v : ℕ) → p .bits ≤ v → v < p .variables → j ≡ valuesAt p + v → ⊥)
+      → ((v : ℕ) → p .bits ≤ v → v < p .variables → j ≡ sumsAt p (1 - i) + v → ⊥) → inLane (p .lanes) w₂ l j ≡ inLane (p .lanes) w₁ l j
   others-leave j x y = lane-old (p .bits) (p .variables) (begins p i) (auxiliary-places p i) refl refl others l h j out
     where
       out : (q v : ℕ) → q < 2 → p .bits ≤ v → v < p .variables → j ≡ begins p i q + v → ⊥
@@ -107,7 +108,8 @@ module _ {p : Plan} {counts : List ℕ} (A : ℕ) {i : ℕ} {w w₁ w₂ : List 
       ∙ ap (λ (z : ℤ). quotient (negℤ (pos 256 *ℤ z +ℤ pos 0)) (divisor (4 * 2) A) +ℤ pos unit) sum
       ∙ ap (λ (z : ℤ). z +ℤ pos unit) (auxiliary-value-is counted w A i l v m k)
 
-  written : (v : ℕ) → v < p .variables → (t : Bool) → ltb v (p .bits) ≡ t → inLane (p .lanes) w₂ l (valuesAt p + v) ≡ laneValue p counts A i w l v +ℤ pos unit
+  written : (v : ℕ) → v < p .variables → (t : Bool) → ltb v (p .bits) ≡ t
+      → inLane (p .lanes) w₂ l (valuesAt p + v) ≡ laneValue p counts A i w l v +ℤ pos unit
   written v k true e = bit-written v (ltb-true v (p .bits) e)
   written v k false e = auxiliary-written v (ltb-false v (p .bits) e) k
 
@@ -123,10 +125,12 @@ module _ {p : Plan} {counts : List ℕ} (A : ℕ) {i : ℕ} {w w₁ w₂ : List 
       others-leave (sumsAt p (1 - i) + j) (λ v a b c. omega arith) (λ v a b c. omega arith) ∙ ap (inLane (p .lanes) w₁ l) e
       ∙ lane-new 0 (p .bits) (begins p i) (bit-places p i) (omega arith) refl bits l h 2 (j - p .variables) (omega arith) (omega arith) (omega arith)
 
-  cleared : (j : ℕ) → j < p .variables + p .bits → (s t : Bool) → ltb j (p .bits) ≡ s → ltb j (p .variables) ≡ t → inLane (p .lanes) w₂ l (sumsAt p (1 - i) + j) ≡ pos 0
+  cleared : (j : ℕ) → j < p .variables + p .bits → (s t : Bool) → ltb j (p .bits) ≡ s → ltb j (p .variables) ≡ t
+      → inLane (p .lanes) w₂ l (sumsAt p (1 - i) + j) ≡ pos 0
   cleared j k true t e d = low-cleared j (ltb-true j (p .bits) e)
   cleared j k false true e d =
-      lane-new (p .bits) (p .variables) (begins p i) (auxiliary-places p i) refl refl others l h 1 j (omega arith) (ltb-false j (p .bits) e) (ltb-true j (p .variables) d)
+      lane-new (p .bits) (p .variables) (begins p i) (auxiliary-places p i) refl refl others l h 1 j (omega arith) (ltb-false j (p .bits) e)
+      (ltb-true j (p .variables) d)
   cleared j k false false e d = high-cleared j (ltb-false j (p .variables) d) k
 
   pub lane-valued : LaneValued p counts A i w w₂ l
@@ -140,7 +144,8 @@ module _ {p : Plan} {counts : List ℕ} (A : ℕ) {i : ℕ} {w w₁ w₂ : List 
       }
 
 -- ---- the places that the auxiliaries were handed
-module _ (p : Plan) (i : ℕ) {w : List ℤ} {values next sums : ℕ} (a : values ≡ p .lanes * valuesAt p) (b : next ≡ p .lanes * sumsAt p (1 - i)) (c : sums ≡ p .lanes * sumsAt p i) where
+module _ (p : Plan) (i : ℕ) {w : List ℤ} {values next sums : ℕ} (a : values ≡ p .lanes * valuesAt p) (b : next ≡ p .lanes * sumsAt p (1 - i))
+    (c : sums ≡ p .lanes * sumsAt p i) where
   pub handed-auxiliaries : Fits p w → i ≤ 1 → {size : ℕ} → size ≡ length w → Parts (p .lanes * p .variables) size (values ∷ next ∷ sums ∷ [])
   handed-auxiliaries f h e = rw (e, a, b, c) (auxiliary-parts f i h)
 

@@ -1,2 +1,3 @@
-pub mod Stored
 pub mod Valued
+pub mod Stored
+pub mod Places

@@ -13,7 +13,7 @@ ghost use Rattle.values.specs.Divisors.{Tables};
 ghost use Rattle.lanes.specs.Lanes.{Fits, SumsKept};
 ghost use Rattle.lane_values.specs.Stored.{Parts, Stored};
 ghost use Rattle.lane_values.specs.Valued.{NarrowTables, Counted, WeighedWithin, LaneValued};
-ghost use Rattle.lane_values.specs.Valued.{whole, wideValue, narrowValue, auxiliaryValue, wideParts, bitParts, bitValue, Entries};
+ghost use Rattle.lane_values.specs.Places.{whole, wideValue, narrowValue, auxiliaryValue, wideParts, bitParts, bitValue, Entries};
 use lanes::Plan;
 
 // Up to so many triples a sum and its divisor are narrow.

@@ -52,8 +52,9 @@ loop-again c =
       length-set (l .loop .limits) i limit ∙ l .loop .inv .2,
       length-set (l .loop .inverses) i (r .inverse) ∙ l .loop .inv .3,
       length-set (l .loop .raises) i (r .raise) ∙ l .loop .inv .4,
-      next-numbers (λ n. Narrowed (divisor (4 * n) (start (p .before) .args .ratio))) (l .loop .limits) (l .loop .inverses) (l .loop .raises) i limit (r .inverse) (r .raise)
-          (omega (arith, l .loop .inv .2)) (omega (arith, l .loop .inv .3)) (omega (arith, l .loop .inv .4)) (l .loop .inv .5) (rw limit-is here),
+      next-numbers (λ n. Narrowed (divisor (4 * n) (start (p .before) .args .ratio))) (l .loop .limits) (l .loop .inverses) (l .loop .raises) i limit
+          (r .inverse) (r .raise) (omega (arith, l .loop .inv .2)) (omega (arith, l .loop .inv .3)) (omega (arith, l .loop .inv .4)) (l .loop .inv .5)
+          (rw limit-is here),
     )
 
 pub prepare-spec : {M : Type 1} → statement M
@@ -61,10 +62,9 @@ prepare-spec =
     tie.close (tie.spec Inv-loop μ-loop
     (λ c. let s = c .before .before in (omega arith, omega arith, s .pre .1, s .pre .2, s .pre .3, λ n h k. absurd (omega arith)))
     (λ c. omega arith) (λ c. fits-one w64 (pos (1024 * count c)) (1024 * 8) (counted c .within) tt) (λ c. search needs) (λ c. fits (difference c) w64 tt)
-    prepare-narrow-requires
-    (λ c. omega arith) (λ c. omega (arith, turn (c .before .before) .loop .inv .2)) (λ c. omega arith) (λ c. omega (arith, turn (c .before .before) .loop .inv .3))
-    (λ c. omega arith) (λ c. omega (arith, turn (c .before .before) .loop .inv .4))
-    (λ c. omega arith) (λ c. omega arith) loop-again
+    prepare-narrow-requires (λ c. omega arith) (λ c. omega (arith, turn (c .before .before) .loop .inv .2))
+    (λ c. omega arith) (λ c. omega (arith, turn (c .before .before) .loop .inv .3))
+    (λ c. omega arith) (λ c. omega (arith, turn (c .before .before) .loop .inv .4)) (λ c. omega arith) (λ c. omega arith) loop-again
     (λ c. omega (arith, c .before .loop .inv .2, c .before .before .before .before .pre .1))
     (λ c. omega (arith, c .before .loop .inv .3, c .before .before .before .before .pre .2))
     (λ c. omega (arith, c .before .loop .inv .4, c .before .before .before .before .pre .3))

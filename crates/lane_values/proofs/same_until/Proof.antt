@@ -37,5 +37,5 @@ returns-2 c = let l = c .before in (omega arith, omega arith, λ k h m. l .loop 
 pub same-until-spec : {M : Type 1} → statement M
 same-until-spec =
     tie.close (tie.spec Inv-loop μ-loop (λ c. search needs) loop-holds mul-if1 (λ c. omega arith) mul-if1-2 (λ c. omega arith)
-    (λ c. let l = c .before .before .before .before in (l .loop .inv .0, l .loop .inv .1, λ k h m. l .loop .inv .2 k m h)) (λ c. search needs) (λ c. omega arith)
-    loop-again returns-2)
+    (λ c. let l = c .before .before .before .before in (l .loop .inv .0, l .loop .inv .1, λ k h m. l .loop .inv .2 k m h)) (λ c. search needs)
+    (λ c. omega arith) loop-again returns-2)

@@ -28,7 +28,9 @@ module _ (s : tie.Start) where
   weighted : Worth sum (pos 256 *ℤ (s .args .low +ℤ pos 16384 *ℤ s .args .high)) (256 * (2 ^ hbits w32 + 16384 * 2 ^ hbits w32))
   weighted = times (literal (pos 256)) (stored both w64 tt)
 
-  total : Worth (toZ w64 (ofZ w64 sum) +ℤ toZ w64 (ofZ w64 (toZ w32 (ofZ w32 (s .args .weighed))))) (pos 256 *ℤ (s .args .low +ℤ pos 16384 *ℤ s .args .high) +ℤ s .args .weighed) (256 * (2 ^ hbits w32 + 16384 * 2 ^ hbits w32) + 2 ^ hbits w32)
+  total : let a = s .args in
+      Worth (toZ w64 (ofZ w64 sum) +ℤ toZ w64 (ofZ w64 (toZ w32 (ofZ w32 (a .weighed))))) (pos 256 *ℤ (a .low +ℤ pos 16384 *ℤ a .high) +ℤ a .weighed)
+      (256 * (2 ^ hbits w32 + 16384 * 2 ^ hbits w32) + 2 ^ hbits w32)
   total = plus (stored weighted w64 tt) (widened (s .args .weighed) (s .fits .weighed))
 
 pub weighed-whole-spec : {M : Type 1} → statement M

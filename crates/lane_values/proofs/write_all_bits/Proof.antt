@@ -1,7 +1,7 @@
 -- `lane_values::write_all_bits` meets its contract: the bits below v are done. Assumes nothing.
 use Rattle.integers.proofs.Prelude.{_≡_, _-_, _*_, _≤_, arith}
 use Rattle.lane_values.specs.Stored.{Stored}
-use Rattle.lane_values.specs.Valued.{bitParts, bitValue}
+use Rattle.lane_values.specs.Places.{bitParts, bitValue}
 use Rattle.lane_values.proofs.Stored.{nothing-stored}
 use Rattle.lane_values.proofs.Bits.{still-fits, entries-later, bits-next}
 use Rattle.lane_values.proofs.write_all_bits.Statement.{statement}

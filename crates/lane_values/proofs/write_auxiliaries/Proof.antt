@@ -5,7 +5,7 @@ use Rattle.quotient.specs.Quotient.{unit, quotient}
 use Rattle.quotient.specs.Narrowed.{Narrowed}
 use Rattle.model.specs.Iteration.{at}
 use Rattle.lane_values.specs.Stored.{Parts, Stored}
-use Rattle.lane_values.specs.Valued.{auxiliaryValue}
+use Rattle.lane_values.specs.Places.{auxiliaryValue}
 use Rattle.lane_values.proofs.Stored.{nothing-stored, ahead, store-next}
 use Rattle.lane_values.proofs.write_auxiliaries.Statement.{statement}
 use Rattle.lane_values.proofs.write_auxiliaries.Tie as tie
@@ -91,5 +91,6 @@ write-auxiliaries-spec =
     (λ c. let h = places c .2 in search needs) (λ c. let h = places c .2 in search needs) (λ c. places c .2)
     divide-narrow-requires
     (λ c. let h = places (now (c .before)) .0 in search needs) (λ c. let h = places (now (c .before)) .0 in search needs) (λ c. places (now (c .before)) .0)
-    (λ c. let h = places (now (c .before)) .1 in search needs) (λ c. let h = places (now (c .before)) .1 in search needs) (λ c. let h = places (now (c .before)) .1 in search needs)
+    (λ c. let h = places (now (c .before)) .1 in search needs) (λ c. let h = places (now (c .before)) .1 in search needs)
+    (λ c. let h = places (now (c .before)) .1 in search needs)
     (λ c. omega arith) (λ c. omega arith) loop-again (λ c. long (c .before)) returns)

@@ -5,10 +5,9 @@ use mir.Val
 use Rattle.integers.proofs.Machine.{kept}
 use Rattle.lists.proofs.Tests.{and-left, and-right}
 use Rattle.quotient.specs.Narrowed.{Narrowed}
-use Rattle.model.specs.Limits.{mostTriples, mostVariables}
 use Rattle.model.specs.Iteration.{at, divisor}
 use Rattle.lanes.specs.Lanes.{mostNarrow, Fits}
-use Rattle.lane_values.proofs.Bits.{few-lanes, entries-below, narrow-sum, whole-within, narrow-parts}
+use Rattle.lane_values.proofs.Bits.{sizes, entries-below, narrow-sum, whole-within, narrow-parts}
 use Rattle.lane_values.proofs.Bits.{Handed, few-count, some-count, handed-parts, handed-entry, wide-bits, narrow-bits}
 use Rattle.lane_values.proofs.write_bits.Statement.{statement}
 use Rattle.lane_values.proofs.write_bits.Tie as tie
@@ -16,9 +15,6 @@ use Rattle.lane_values.proofs.write_bits.Tie as tie
 module _ (s : tie.Start) where
   sized : Fits (s .args .p) (s .args .work .now)
   sized = s .pre .0 .0
-
-  sizes : let p = s .args .p in (p .lanes ≤ 8) × (p .triples ≤ mostTriples) × (p .variables ≤ mostVariables) × (p .bits ≤ p .variables)
-  sizes = (few-lanes sized, sized .triples, sized .variables, sized .bits)
 
   products : (v : ℕ) → v ≤ s .args .p .bits → Val.Fits w64 (s .args .p .lanes * v)
   products v h = record { fits = entries-below sized (omega (arith, sized .bits)) }
@@ -93,7 +89,8 @@ write-wide-requires : tie.Need-write-wide-requires
 write-wide-requires c κs =
     let k = c .before .before .before in
     let h = handed k in
-    ((from-to k, handed-parts h), (λ j l m. whole-within (handed-entry h j l m) (few-count h), (some-count h, few-count h, start k .pre .0 .2, start k .pre .1 .1 .0 .1)))
+    let p = start k .pre in
+    ((from-to k, handed-parts h), (λ j l m. whole-within (handed-entry h j l m) (few-count h), (some-count h, few-count h, p .0 .2, p .1 .1 .0 .1)))
 
 returns-2 : tie.Need-returns-2
 returns-2 c = let k = c .before .before .before .before .before in wide-bits (handed k) (start k .args .ratio) (c .before .write-wide .ensures)
@@ -101,12 +98,12 @@ returns-2 c = let k = c .before .before .before .before .before in wide-bits (ha
 pub write-bits-spec : {M : Type 1} → statement M
 write-bits-spec =
     tie.close (tie.spec (λ c. search needs) (λ c. search needs) (λ c κs. search needs)
-    (λ c κs. sizes (c .before .before .before .before .before))
-    (λ c κs. let s = c .before .before .before .before .before .before in (sizes s .0, sizes s .1, sizes s .2, sizes s .3, omega (arith, s .pre .0 .1)))
-    (λ c κs. let s = c .before .before .before .before .before .before .before in (sizes s .0, sizes s .1))
-    (λ c. search needs)
-    (λ c κs. let s = c .before .before .before .before .before .before .before .before in (sizes s .0, sizes s .1, sizes s .2, sizes s .3, omega arith))
-    (λ c. let s = c .before .before .before .before .before .before .before .before .before .before in products s (s .args .v) (omega (arith, s .pre .1 .1 .1 .0)))
+    (λ c κs. sizes (sized (c .before .before .before .before .before)))
+    (λ c κs. let s = c .before .before .before .before .before .before in let a = sizes (sized s) in (a .0, a .1, a .2, a .3, omega (arith, s .pre .0 .1)))
+    (λ c κs. let a = sizes (sized (c .before .before .before .before .before .before .before)) in (a .0, a .1)) (λ c. search needs)
+    (λ c κs. let a = sizes (sized (c .before .before .before .before .before .before .before .before)) in (a .0, a .1, a .2, a .3, omega arith))
+    (λ c. let s = c .before .before .before .before .before .before .before .before .before .before in
+    products s (s .args .v) (omega (arith, s .pre .1 .1 .1 .0)))
     (λ c. products (start c) (start c .args .end) (start c .pre .1 .1 .1 .0 .1))
     (λ c. search needs) (λ c. omega (arith, narrow (c .before), start (c .before .before) .pre .1 .0)) (λ c. search needs)
     (λ c. omega (arith, narrow (c .before .before .before), start (c .before .before .before .before) .pre .1 .0)) (λ c. search needs)

@@ -5,7 +5,7 @@ use Rattle.quotient.specs.Quotient.{unit, quotient}
 use Rattle.quotient.specs.Narrowed.{Narrowed}
 use Rattle.model.specs.Iteration.{at}
 use Rattle.lane_values.specs.Stored.{Parts, Stored}
-use Rattle.lane_values.specs.Valued.{narrowValue}
+use Rattle.lane_values.specs.Places.{narrowValue}
 use Rattle.lane_values.proofs.Stored.{nothing-stored, ahead, store-next}
 use Rattle.lane_values.proofs.write_narrow.Statement.{statement}
 use Rattle.lane_values.proofs.write_narrow.Tie as tie
@@ -13,7 +13,8 @@ use Rattle.lane_values.proofs.write_narrow.Tie as tie
 abbrev Inv-loop : tie.InvT-loop
 Inv-loop work₀ weighed sums values next from to limit inverse raise i₀ work i =
     (from ≤ i) × (i ≤ to)
-    × ((den : ℤ) → Narrowed den (toZ w32 limit) inverse raise → Stored 2 (values ∷ next ∷ sums ∷ weighed ∷ []) (narrowValue work₀ sums weighed den) from i work₀ work)
+    × ((den : ℤ) → Narrowed den (toZ w32 limit) inverse raise
+    → Stored 2 (values ∷ next ∷ sums ∷ weighed ∷ []) (narrowValue work₀ sums weighed den) from i work₀ work)
 
 abbrev μ-loop : tie.MeasureT-loop
 μ-loop work₀ weighed sums values next from to limit inverse raise i₀ work i = to - i
@@ -100,5 +101,6 @@ write-narrow-spec =
     (λ c. let h = places (c .before) .3 in search needs) (λ c. let h = places (c .before) .3 in search needs) (λ c. places (c .before) .3)
     divide-narrow-requires
     (λ c. let h = places (now (c .before)) .0 in search needs) (λ c. let h = places (now (c .before)) .0 in search needs) (λ c. places (now (c .before)) .0)
-    (λ c. let h = places (now (c .before)) .1 in search needs) (λ c. let h = places (now (c .before)) .1 in search needs) (λ c. let h = places (now (c .before)) .1 in search needs)
+    (λ c. let h = places (now (c .before)) .1 in search needs) (λ c. let h = places (now (c .before)) .1 in search needs)
+    (λ c. let h = places (now (c .before)) .1 in search needs)
     (λ c. omega arith) (λ c. omega arith) loop-again (λ c. long (c .before)) returns)

@@ -1,23 +1,18 @@
 -- `lane_values::write_values` meets its contract. Assumes nothing.
-use Rattle.integers.proofs.Prelude.{_∙_, _-_, _*_, _^_, _≤_, arith, needs, getD, w32, toZ, ofZ}
+use Rattle.integers.proofs.Prelude.{_∙_, _-_, _*_, _^_, arith, needs, getD, w32, toZ, ofZ}
 use native.Mathlib.Nat.{mul-le-mul-left}
 use Rattle.integers.proofs.Machine.{kept}
 use Rattle.quotient.specs.Narrowed.{Narrowed}
-use Rattle.model.specs.Limits.{mostTriples, mostVariables}
 use Rattle.model.specs.Iteration.{at, divisor}
 use Rattle.lanes.specs.Lanes.{Fits}
-use Rattle.lane_values.proofs.Bits.{few-lanes, still-fits}
+use Rattle.lane_values.proofs.Bits.{sizes, still-fits}
 use Rattle.lane_values.proofs.Lanes.{bit-entries, auxiliary-within}
 use Rattle.lane_values.proofs.Valued.{lane-valued, sums-left, handed-auxiliaries, stored-auxiliaries}
 use Rattle.lane_values.proofs.write_values.Statement.{statement}
 use Rattle.lane_values.proofs.write_values.Tie as tie
 
-module _ (s : tie.Start) where
-  sized : Fits (s .args .p) (s .args .work .now)
-  sized = s .pre .0 .0
-
-  sizes : let p = s .args .p in (p .lanes ≤ 8) × (p .triples ≤ mostTriples) × (p .variables ≤ mostVariables) × (p .bits ≤ p .variables)
-  sizes = (few-lanes sized, sized .triples, sized .variables, sized .bits)
+sized : (s : tie.Start) → Fits (s .args .p) (s .args .work .now)
+sized s = s .pre .0 .0
 
 write-all-bits-requires : tie.Need-write-all-bits-requires
 write-all-bits-requires c κs =
@@ -75,8 +70,9 @@ returns c =
 pub write-values-spec : {M : Type 1} → statement M
 write-values-spec =
     tie.close (tie.spec write-all-bits-requires
-    (λ c κs. let s = c .before .before .before .before .before .before .before in (sizes s .0, sizes s .1, sizes s .2, sizes s .3, omega (arith, s .pre .0 .1)))
-    (λ c κs. let s = c .before .before .before .before .before .before .before .before in (sizes s .0, sizes s .1))
-    (λ c. search needs)
-    (λ c κs. let s = c .before .before .before .before .before .before .before .before .before in (sizes s .0, sizes s .1, sizes s .2, sizes s .3, omega arith))
-    (λ c. search needs) (λ c. search needs) (λ c. search needs) (λ c. search needs) (λ c. search needs) write-auxiliaries-requires (λ c. search needs) returns)
+    (λ c κs. let s = c .before .before .before .before .before .before .before in
+    let a = sizes (sized s) in (a .0, a .1, a .2, a .3, omega (arith, s .pre .0 .1)))
+    (λ c κs. let a = sizes (sized (c .before .before .before .before .before .before .before .before)) in (a .0, a .1)) (λ c. search needs)
+    (λ c κs. let a = sizes (sized (c .before .before .before .before .before .before .before .before .before)) in (a .0, a .1, a .2, a .3, omega arith))
+    (λ c. search needs) (λ c. search needs) (λ c. search needs) (λ c. search needs) (λ c. search needs) write-auxiliaries-requires (λ c. search needs)
+    returns)

@@ -1,10 +1,11 @@
 -- `lane_values::write_wide` meets its contract: the entries below i are stored. Assumes nothing.
-use Rattle.integers.proofs.Prelude.{_≡_, ap, ap₂, _∙_, List, ℕ, _+_, _-_, _*_, _≤_, _<_, arith, needs, ℤ, pos, negℤ, _+ℤ_, _*ℤ_, length, getD, w16, w32, w64, toZ, ofZ}
+use Rattle.integers.proofs.Prelude.{_≡_, ap, ap₂, _∙_, List, ℕ, _+_, _-_, _*_, _≤_, _<_, arith, needs, ℤ, pos, negℤ, _+ℤ_, _*ℤ_, length, getD}
+use Rattle.integers.proofs.Prelude.{w16, w32, w64, toZ, ofZ}
 use Rattle.integers.proofs.Machine.{kept, read-back}
 use Rattle.quotient.specs.Quotient.{unit, quotient}
 use Rattle.model.specs.Iteration.{at, divisor}
 use Rattle.lane_values.specs.Stored.{Parts, Stored}
-use Rattle.lane_values.specs.Valued.{whole, wideValue, wideParts}
+use Rattle.lane_values.specs.Places.{whole, wideValue, wideParts}
 use Rattle.lane_values.proofs.Stored.{nothing-stored, ahead, store-next}
 use Rattle.lane_values.proofs.write_wide.Statement.{statement}
 use Rattle.lane_values.proofs.write_wide.Tie as tie
@@ -92,10 +93,12 @@ pub write-wide-spec : {M : Type 1} → statement M
 write-wide-spec =
     tie.close (tie.spec Inv-loop μ-loop (λ c. (omega arith, c .pre .0 .0, nothing-stored (omega arith)))
     (λ c. let h = places c .3 in search needs) (λ c. let h = places c .3 in search needs) (λ c. places c .3)
-    (λ c. let h = places (c .before) .4 in search needs) (λ c. let h = places (c .before) .4 in search needs) (λ c. let h = places (c .before) .4 in search needs) (λ c. places (c .before) .4)
-    (λ c. let h = places (c .before .before) .5 in search needs) (λ c. let h = places (c .before .before) .5 in search needs) (λ c. places (c .before .before) .5)
-    (λ c κs. tt) divide-requires (λ c κs. tt)
+    (λ c. let h = places (c .before) .4 in search needs) (λ c. let h = places (c .before) .4 in search needs)
+    (λ c. let h = places (c .before) .4 in search needs) (λ c. places (c .before) .4)
+    (λ c. let h = places (c .before .before) .5 in search needs) (λ c. let h = places (c .before .before) .5 in search needs)
+    (λ c. places (c .before .before) .5) (λ c κs. tt) divide-requires (λ c κs. tt)
     (λ c. let h = places (last c) .0 in search needs) (λ c. let h = places (last c) .0 in search needs) (λ c. places (last c) .0)
     (λ c. let h = places (last c) .1 in search needs) (λ c. let h = places (last c) .1 in search needs) (λ c. let h = places (last c) .1 in search needs)
-    (λ c. let h = places (last c) .2 in search needs) (λ c. let h = places (last c) .2 in search needs) (λ c. let h = places (last c) .2 in search needs) (λ c. let h = places (last c) .2 in search needs)
+    (λ c. let h = places (last c) .2 in search needs) (λ c. let h = places (last c) .2 in search needs)
+    (λ c. let h = places (last c) .2 in search needs) (λ c. let h = places (last c) .2 in search needs)
     (λ c. omega arith) (λ c. omega arith) loop-again (λ c. long (c .before)) returns)
