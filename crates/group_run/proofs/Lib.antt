@@ -1,2 +1,3 @@
 pub mod Running
 pub mod Costs
+pub mod Steps

@@ -1,5 +1,5 @@
 -- Which frames run, and how many. Assumes nothing.
-use Rattle.integers.proofs.Prelude.{_≡_, refl, ap, Bool, true, false, not, List, [], _∷_, ℕ, zero, suc, _+_, _≤_, _<_, arith, add-one, eqb, eq-eqb, ne-eqb, length, getD, take}
+use Rattle.integers.proofs.Prelude.{_≡_, refl, ap, Bool, true, false, not, List, [], _∷_, ℕ, zero, suc, _+_, _≤_, _<_, arith, add-one, eqb, eqb-false, eq-eqb, ne-eqb, not-true, length, getD, take}
 use Rattle.lists.specs.Entries.{total}
 use Rattle.lists.proofs.Entries.{total-next}
 use Rattle.model.specs.Causes.{_if_}
@@ -11,6 +11,9 @@ marked running f h = rw (ne-eqb (getD running f 0) 0 h)
 
 pub unmarked : (running : List ℕ) (f : ℕ) → getD running f 0 ≡ 0 → runs running f ≡ false
 unmarked running f h = rw (eq-eqb (getD running f 0) 0 h)
+
+pub mark-of : (running : List ℕ) (f : ℕ) → runs running f ≡ true → 0 < getD running f 0
+mark-of running f h = omega (arith, eqb-false (getD running f 0) 0 (not-true _ h))
 
 -- ---- how many of these marks are those of frames that run
 abbrev pub counted : List ℕ → ℕ
