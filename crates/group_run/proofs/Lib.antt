@@ -1,3 +1,5 @@
 pub mod Running
 pub mod Costs
 pub mod Steps
+pub mod Givens
+pub mod Begun
