@@ -3,3 +3,4 @@ pub mod Costs
 pub mod Steps
 pub mod Givens
 pub mod Begun
+pub mod Alone

@@ -1,201 +1,122 @@
-use borrow.Author.Needs.{needs}
+-- `group_run::run_frame` meets its contract: the parts that are lent hold the system, and come back. Assumes nothing.
+use Rattle.integers.proofs.Prelude.{_≡_, ap, ap₂, _∙_, List, ℕ, suc, _+_, _-_, _*_, _≤_, arith, needs, ℤ, length, take, drop}
+use Rattle.lists.specs.Tabulated.{part}
+use Rattle.lists.proofs.Parts.{length-part}
+use Rattle.quotient.specs.Quotient.{quotient}
+use Rattle.model.specs.Code.{Code}
+use Rattle.model.specs.Splitting.{System}
+use Rattle.model.specs.Run.{run}
+use Rattle.lanes.specs.declared.Plan.{Plan}
+use Rattle.group_run.proofs.Alone.{stops, ended-alone}
 use Rattle.group_run.proofs.run_frame.Statement.{statement}
 use Rattle.group_run.proofs.run_frame.Tie as tie
-use Rattle.group_run.proofs.run_frame.Reads as reads
-use Rattle.group_run.proofs.run_frame.Lts as lts
-use Rattle.run.proofs.run.Reads as run-reads
 
--- src/lib.rt:238:13
-mul-b : tie.Need-mul-b
-mul-b c = search needs
+-- how much of each list is lent
+module _ (s : tie.Start) where
+  abbrev p : Plan
+  p = s .args .p
 
--- src/lib.rt:239:17
-add-b-end : tie.Need-add-b-end
-add-b-end c = search needs
+  abbrev f : ℕ
+  f = s .args .f
 
--- src/lib.rt:240:13
-mul-v : tie.Need-mul-v
-mul-v c = search needs
+  -- from where on, and up to where
+  abbrev lent : ℕ → List ℤ → List ℤ
+  lent size l = take ((f * size + size) - f * size) (drop (f * size) l)
 
--- src/lib.rt:241:17
-add-v-end : tie.Need-add-v-end
-add-v-end c = ?
+  size-is : (size : ℕ) → (f * size + size) - f * size ≡ size
+  size-is size = omega arith
 
--- src/lib.rt:242:18
-mul-r : tie.Need-mul-r
-mul-r c = search needs
+  lent-is : (size : ℕ) (l : List ℤ) → lent size l ≡ part size f l
+  lent-is size l = ap (λ (m : ℕ). take m (drop (f * size) l)) (size-is size)
 
--- src/lib.rt:242:13
-mul-r-2 : tie.Need-mul-r-2
-mul-r-2 c = ?
+  lent-long : (size : ℕ) (l : List ℤ) → suc f * size ≤ length l → length (lent size l) ≡ size
+  lent-long size l h = ap length (lent-is size l) ∙ length-part size f l h
 
--- src/lib.rt:243:21
-mul-r-end : tie.Need-mul-r-end
-mul-r-end c = search needs
+-- ---- the place at which each part is lent
+abbrev at-v : tie.After-struct-known4 → tie.Start
+at-v c = c .before .before .before .before .before .before .before .before .before
 
--- src/lib.rt:243:17
-add-r-end : tie.Need-add-r-end
-add-r-end c = ?
+abbrev at-r : tie.After-struct-known5 → tie.Start
+at-r c = at-v (c .before)
 
--- src/lib.rt:248:9
-mul-run : tie.Need-mul-run
-mul-run c = search needs
+abbrev at-costs : tie.After-struct-known6 → tie.Start
+at-costs c = at-r (c .before)
 
--- src/lib.rt:248:9
-sub-run : tie.Need-sub-run
-sub-run c = search needs
+abbrev at-sums : tie.After-run-arg → tie.Start
+at-sums c = at-costs (c .before)
 
--- src/lib.rt:248:9
-part-run-start : tie.Need-part-run-start
-part-run-start c = search needs
+abbrev at-values : tie.After-run-arg2 → tie.Start
+at-values c = at-sums (c .before)
 
--- src/lib.rt:248:9
-part-run-end : tie.Need-part-run-end
-part-run-end c = search needs
+abbrev at-rows : tie.After-run-arg3 → tie.Start
+at-rows c = at-values (c .before)
 
--- src/lib.rt:250:9
-mul-run-2 : tie.Need-mul-run-2
-mul-run-2 c = ?
+abbrev at-run : tie.After-run-arg4 → tie.Start
+at-run c = at-rows (c .before)
 
--- src/lib.rt:250:9
-sub-run-2 : tie.Need-sub-run-2
-sub-run-2 c = search needs
+abbrev start : tie.After-rows → tie.Start
+start c = at-run (c .before .before .before .before)
 
--- src/lib.rt:250:9
-part-run-start-2 : tie.Need-part-run-start-2
-part-run-start-2 c = search needs
-
--- src/lib.rt:250:9
-part-run-end-2 : tie.Need-part-run-end-2
-part-run-end-2 c = search needs
-
--- src/lib.rt:251:9
-mul-run-3 : tie.Need-mul-run-3
-mul-run-3 c = ?
-
--- src/lib.rt:251:9
-sub-run-3 : tie.Need-sub-run-3
-sub-run-3 c = search needs
-
--- src/lib.rt:251:9
-part-run-start-3 : tie.Need-part-run-start-3
-part-run-start-3 c = search needs
-
--- src/lib.rt:251:9
-part-run-end-3 : tie.Need-part-run-end-3
-part-run-end-3 c = search needs
-
--- src/lib.rt:252:9
-mul-run-4 : tie.Need-mul-run-4
-mul-run-4 c = ?
-
--- src/lib.rt:252:9
-sub-run-4 : tie.Need-sub-run-4
-sub-run-4 c = search needs
-
--- src/lib.rt:252:9
-part-run-start-4 : tie.Need-part-run-start-4
-part-run-start-4 c = search needs
-
--- src/lib.rt:252:9
-part-run-end-4 : tie.Need-part-run-end-4
-part-run-end-4 c = search needs
-
--- src/lib.rt:244:9
 run-requires : tie.Need-run-requires
-run-requires c κs = ?
+run-requires c κs = let s = at-run c in rw (size-is s (p s .bits), size-is s (p s .variables), size-is s (4 * p s .triples)) (s .pre .1 .1)
 
--- src/lib.rt:254:5
-mul-running : tie.Need-mul-running
-mul-running c = ?
-
--- src/lib.rt:254:5
-slice-write-running : tie.Need-slice-write-running
-slice-write-running c = ?
-
--- src/lib.rt:255:5
-mul-ks : tie.Need-mul-ks
-mul-ks c = ?
-
--- src/lib.rt:255:5
-slice-write-ks : tie.Need-slice-write-ks
-slice-write-ks c = ?
-
--- src/lib.rt:256:5
-mul-settled : tie.Need-mul-settled
-mul-settled c = ?
-
--- src/lib.rt:256:5
-slice-write-settled : tie.Need-slice-write-settled
-slice-write-settled c = ?
-
--- src/lib.rt:212:1
-same-length : tie.Need-same-length
-same-length c = search needs
-
--- src/lib.rt:212:1
-same-length-2 : tie.Need-same-length-2
-same-length-2 c = search needs
-
--- src/lib.rt:212:1
-same-length-3 : tie.Need-same-length-3
-same-length-3 c = search needs
-
--- src/lib.rt:212:1
-same-length-4 : tie.Need-same-length-4
-same-length-4 c = search needs
-
--- src/lib.rt:212:1
-same-length-5 : tie.Need-same-length-5
-same-length-5 c = search needs
-
--- src/lib.rt:212:1
-same-length-6 : tie.Need-same-length-6
-same-length-6 c = search needs
-
--- src/lib.rt:212:1
 returns : tie.Need-returns
-returns c = ?
+returns c =
+    let r = c .before .before .before .run in
+    let s = start c in
+    let a = s .args in
+    let n = p s .variables in
+    let m = 4 * p s .triples in
+    let long = s .pre .0 in
+    let room = s .pre .1 .0 in
+    let system : Code → ℕ → System = λ k v. record { code = k; variables = v; triples = p s .triples; members = a .triples .now } in (
+      λ g k. ended-alone (p s) (f s) (a .ks .now) (a .settled .now) (a .sums .now) (a .values .now) (a .rows .now) (room .1) (room .2) (long .1) (long .2) (long .3)
+          _ _ _ _ (r .last .1 .1 .1 .1 .1 .0) (r .last .1 .1 .1 .1 .1 .1 .0) (r .last .1 .1 .1 .1 .1 .1 .1 .0) (size-is s n) (size-is s m)
+          (r .kept .1 .1 .1 .1 .1 .0 ∙ lent-long s n (a .sums .now) (long .1)) (r .kept .1 .1 .1 .1 .1 .1 .0 ∙ lent-long s n (a .values .now) (long .2))
+          (r .kept .1 .1 .1 .1 .1 .1 .1 .0 ∙ lent-long s m (a .rows .now) (long .3)) _
+          (r .ensures k ∙ ap₂ (λ (v : ℕ) (l : List ℤ). run quotient (system k v) (a .settings) l) (lent-long s n (a .values .now) (long .2)) (lent-is s (p s .bits) (a .costs .now))) g,
+      λ g. stops (a .running .now) (f s) (room .0) g,
+    )
 
 pub run-frame-spec : {M : Type 1} → statement M
 run-frame-spec =
     tie.close
     (tie.spec
-    mul-b
-    add-b-end
-    mul-v
-    add-v-end
-    mul-r
-    mul-r-2
-    mul-r-end
-    add-r-end
-    mul-run
-    sub-run
-    part-run-start
-    part-run-end
-    mul-run-2
-    sub-run-2
-    part-run-start-2
-    part-run-end-2
-    mul-run-3
-    sub-run-3
-    part-run-start-3
-    part-run-end-3
-    mul-run-4
-    sub-run-4
-    part-run-start-4
-    part-run-end-4
+    (λ c. search needs)
+    (λ c. search needs)
+    (λ c. search needs)
+    (λ c. (let s = at-v c in record { fits = omega (arith, s .pre .0 .1, s .good .1 .1 .1 .1 .1 .1 .1 .1 .1 .0) }))
+    (λ c. search needs)
+    (λ c. (let s = at-r c in record { fits = omega (arith, s .pre .0 .3, s .good .1 .1 .1 .1 .1 .1 .1 .1 .1 .1 .1 .0) }))
+    (λ c. search needs)
+    (λ c. (let s = at-costs c in record { fits = omega (arith, s .pre .0 .3, s .good .1 .1 .1 .1 .1 .1 .1 .1 .1 .1 .1 .0) }))
+    (λ c. search needs)
+    (λ c. search needs)
+    (λ c. search needs)
+    (λ c. search needs)
+    (λ c. (let s = at-sums c in record { fits = omega (arith, s .pre .0 .1, s .good .1 .1 .1 .1 .1 .1 .1 .1 .1 .0) }))
+    (λ c. search needs)
+    (λ c. search needs)
+    (λ c. search needs)
+    (λ c. (let s = at-values c in record { fits = omega (arith, s .pre .0 .2, s .good .1 .1 .1 .1 .1 .1 .1 .1 .1 .1 .0) }))
+    (λ c. search needs)
+    (λ c. search needs)
+    (λ c. search needs)
+    (λ c. (let s = at-rows c in record { fits = omega (arith, s .pre .0 .3, s .good .1 .1 .1 .1 .1 .1 .1 .1 .1 .1 .1 .0) }))
+    (λ c. search needs)
+    (λ c. search needs)
+    (λ c. search needs)
     run-requires
-    mul-running
-    slice-write-running
-    mul-ks
-    slice-write-ks
-    mul-settled
-    slice-write-settled
-    same-length
-    same-length-2
-    same-length-3
-    same-length-4
-    same-length-5
-    same-length-6
+    (λ c. (let s = start c in record { fits = omega (arith, s .pre .1 .0 .0, s .good .1 .1 .1 .1 .1 .1 .0) }))
+    (λ c. start c .pre .1 .0 .0)
+    (λ c. (let s = start c in record { fits = omega (arith, s .pre .1 .0 .1, s .good .1 .1 .1 .1 .1 .1 .1 .0) }))
+    (λ c. start c .pre .1 .0 .1)
+    (λ c. (let s = start c in record { fits = omega (arith, s .pre .1 .0 .2, s .good .1 .1 .1 .1 .1 .1 .1 .1 .0) }))
+    (λ c. start c .pre .1 .0 .2)
+    (λ c. search needs)
+    (λ c. search needs)
+    (λ c. search needs)
+    (λ c. search needs)
+    (λ c. search needs)
+    (λ c. search needs)
     returns)
