@@ -4,3 +4,4 @@ pub mod Steps
 pub mod Givens
 pub mod Begun
 pub mod Alone
+pub mod Singles

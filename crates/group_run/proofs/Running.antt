@@ -1,9 +1,18 @@
--- Which frames run, and how many. Assumes nothing.
-use Rattle.integers.proofs.Prelude.{_≡_, refl, ap, Bool, true, false, not, List, [], _∷_, ℕ, zero, suc, _+_, _≤_, _<_, arith, add-one, eqb, eqb-false, eq-eqb, ne-eqb, not-true, length, getD, take}
+-- The lists of a group that tell how far its frames are; which frames run, and how many. Assumes nothing.
+use Rattle.integers.proofs.Prelude.{_≡_, refl, ap, Bool, true, false, not, List, [], _∷_, ℕ, zero, suc, _+_, _≤_, _<_, arith, add-one, eqb, eqb-false, eq-eqb, ne-eqb, not-true, ℤ, length, getD, take}
 use Rattle.lists.specs.Entries.{total}
 use Rattle.lists.proofs.Entries.{total-next}
 use Rattle.model.specs.Causes.{_if_}
 use Rattle.lane_step.specs.Step.{runs}
+
+-- the lists, by their names
+pub record Lists : Type 0 where
+  pub running : List ℕ
+  pub ks : List ℕ
+  pub settled : List ℕ
+  pub sums : List ℤ
+  pub values : List ℤ
+  pub rows : List ℤ
 
 -- ---- a frame, by its mark
 pub marked : (running : List ℕ) (f : ℕ) → (getD running f 0 ≡ 0 → ⊥) → runs running f ≡ true

@@ -11,49 +11,39 @@ use Rattle.lane_step.specs.Step.{runs, systemFor, Weighed, Summed, Small}
 use Rattle.group_step.specs.Frames.{endedIn, frameNow, Held, Marks}
 use Rattle.run.proofs.Remains.{any}
 use Rattle.group_run.specs.Course.{InLanes}
-use Rattle.group_run.proofs.Running.{mark-of}
-
--- the lists of a group, by their names
-pub record Lists : Type 0 where
-  pub work : List ℤ
-  pub running : List ℕ
-  pub ks : List ℕ
-  pub settled : List ℕ
-  pub sums : List ℤ
-  pub values : List ℤ
-  pub rows : List ℤ
+use Rattle.group_run.proofs.Running.{Lists, mark-of}
 
 module _ (p : Plan) (o : Settings) (ts counts : List ℕ) (F : ℕ) where
-  abbrev pub frame : ℕ → ℕ → Lists → ℕ → Frame
-  frame i k x f = frameNow p i k (x .work) (x .running) (x .ks) (x .settled) (x .sums) (x .values) (x .rows) f
+  abbrev pub frame : ℕ → ℕ → List ℤ → Lists → ℕ → Frame
+  frame i k w x f = frameNow p i k w (x .running) (x .ks) (x .settled) (x .sums) (x .values) (x .rows) f
 
-  -- the lists, which were x₀ at first, when k iterations are done and list i has the sums for one more
-  pub record Stepped (x₀ x : Lists) (i k : ℕ) : Type 0 where
+  -- the lanes and the lists, which were w₀ and x₀ at first, when k iterations are done and list i has the sums for one more
+  pub record Stepped (w₀ : List ℤ) (x₀ : Lists) (w : List ℤ) (x : Lists) (i k : ℕ) : Type 0 where
     pub two : i ≤ 1
-    pub lanes : InLanes p o ts counts i k (x .running) (x .work)
+    pub lanes : InLanes p o ts counts i k (x .running) w
     pub marks : Marks F (x .running) (x .ks) (x .settled)
     pub held : Held p F (x .sums) (x .values) (x .rows)
     pub ran : (f : ℕ) → runs (x .running) f ≡ true → runs (x₀ .running) f ≡ true
-    pub kept : (l v : ℕ) → l < p .lanes → laneWeighed p (x .work) l v ≡ laneWeighed p (x₀ .work) l v
-    pub rest : (f : ℕ) → f < F → (c : Code) (costs : List ℤ) → (runs (x₀ .running) f ≡ true → Weighed p (o .weight) costs (x₀ .work) f)
-        → endOf (systemFor c p ts) o costs (frame (1 - i) k x f) ≡ endOf (systemFor c p ts) o costs (frame 1 0 x₀ f)
+    pub kept : (l v : ℕ) → l < p .lanes → laneWeighed p w l v ≡ laneWeighed p w₀ l v
+    pub rest : (f : ℕ) → f < F → (c : Code) (costs : List ℤ) → (runs (x₀ .running) f ≡ true → Weighed p (o .weight) costs w₀ f)
+        → endOf (systemFor c p ts) o costs (frame (1 - i) k w x f) ≡ endOf (systemFor c p ts) o costs (frame 1 0 w₀ x₀ f)
 
-  -- one step more, to y
-  module _ {x₀ x y : Lists} {i k : ℕ} (room : F ≤ p .lanes) (r : Stepped x₀ x i k) (fits : Fits p (y .work)) (marks : Marks F (y .running) (y .ks) (y .settled))
+  -- one step more, to w′ and y
+  module _ {w₀ w w′ : List ℤ} {x₀ x y : Lists} {i k : ℕ} (room : F ≤ p .lanes) (r : Stepped w₀ x₀ w x i k) (fits : Fits p w′) (marks : Marks F (y .running) (y .ks) (y .settled))
       (held : Held p F (y .sums) (y .values) (y .rows))
-      (next : (f : ℕ) → f < F → (c : Code) (costs : List ℤ) → (runs (x .running) f ≡ true → Weighed p (o .weight) costs (x .work) f)
-          → frame i (suc k) y f ≡ onward (systemFor c p ts) o costs (frame (1 - i) k x f))
-      (small : (l : ℕ) → l < p .lanes → Small p counts (suc k) (y .work) l)
-      (same : (l v : ℕ) → l < p .lanes → laneWeighed p (y .work) l v ≡ laneWeighed p (x .work) l v)
-      (on : (f : ℕ) → runs (y .running) f ≡ true → (runs (x .running) f ≡ true) × Summed p ts (1 - i) (y .work) f) where
+      (next : (f : ℕ) → f < F → (c : Code) (costs : List ℤ) → (runs (x .running) f ≡ true → Weighed p (o .weight) costs w f)
+          → frame i (suc k) w′ y f ≡ onward (systemFor c p ts) o costs (frame (1 - i) k w x f))
+      (small : (l : ℕ) → l < p .lanes → Small p counts (suc k) w′ l)
+      (same : (l v : ℕ) → l < p .lanes → laneWeighed p w′ l v ≡ laneWeighed p w l v)
+      (on : (f : ℕ) → runs (y .running) f ≡ true → (runs (x .running) f ≡ true) × Summed p ts (1 - i) w′ f) where
     below : (f : ℕ) → runs (y .running) f ≡ true → f < F
     below f h = marks .below f (mark-of (y .running) f h)
 
     -- where a frame runs there is an iteration to come: before the step,
-    goes : (f : ℕ) → Going o (frame (1 - i) k x f)
+    goes : (f : ℕ) → Going o (frame (1 - i) k w x f)
     goes f = by (runs (x .running) f) refl
       where
-        by : (t : Bool) → runs (x .running) f ≡ t → Going o (frame (1 - i) k x f)
+        by : (t : Bool) → runs (x .running) f ≡ t → Going o (frame (1 - i) k w x f)
         by true e = rw e (λ _. r .lanes .more f e)
         by false e = rw e (λ h. absurd (subst T (sym h) tt))
 
@@ -62,25 +52,25 @@ module _ (p : Plan) (o : Settings) (ts counts : List ℕ) (F : ℕ) where
     more f h =
         let own = r .lanes .weighed f (on f h .0) in
         let g = systemFor any p ts in
-        let going : Going o (frame i (suc k) y f)
-        = subst (Going o) (sym (next f (below f h) any (own .0) (λ _. own .1))) (steps-are-runs g o (own .0) .going (frame (1 - i) k x f)) in
+        let going : Going o (frame i (suc k) w′ y f)
+        = subst (Going o) (sym (next f (below f h) any (own .0) (λ _. own .1))) (steps-are-runs g o (own .0) .going (frame (1 - i) k w x f)) in
         (rw h at going) refl
 
-    weighed : (f : ℕ) → runs (y .running) f ≡ true → (costs : List ℤ) × Weighed p (o .weight) costs (y .work) f
+    weighed : (f : ℕ) → runs (y .running) f ≡ true → (costs : List ℤ) × Weighed p (o .weight) costs w′ f
     weighed f h =
         let own = r .lanes .weighed f (on f h .0) in
         let less = below f h in
         (own .0, λ v. same f v (omega arith) ∙ own .1 v)
 
-    rest : (f : ℕ) → f < F → (c : Code) (costs : List ℤ) → (runs (x₀ .running) f ≡ true → Weighed p (o .weight) costs (x₀ .work) f)
-        → endOf (systemFor c p ts) o costs (frame i (suc k) y f) ≡ endOf (systemFor c p ts) o costs (frame 1 0 x₀ f)
-    rest f h c costs w =
+    rest : (f : ℕ) → f < F → (c : Code) (costs : List ℤ) → (runs (x₀ .running) f ≡ true → Weighed p (o .weight) costs w₀ f)
+        → endOf (systemFor c p ts) o costs (frame i (suc k) w′ y f) ≡ endOf (systemFor c p ts) o costs (frame 1 0 w₀ x₀ f)
+    rest f h c costs own =
         let g = systemFor c p ts in
-        ap (endOf g o costs) (next f h c costs (λ t v. r .kept f v (omega arith) ∙ w (r .ran f t) v))
-        ∙ steps-are-runs g o costs .keeps (frame (1 - i) k x f) (goes f)
-        ∙ r .rest f h c costs w
+        ap (endOf g o costs) (next f h c costs (λ t v. r .kept f v (omega arith) ∙ own (r .ran f t) v))
+        ∙ steps-are-runs g o costs .keeps (frame (1 - i) k w x f) (goes f)
+        ∙ r .rest f h c costs own
 
-    pub stepped-next : Stepped x₀ y (1 - i) (k + 1)
+    pub stepped-next : Stepped w₀ x₀ w′ y (1 - i) (k + 1)
     stepped-next =
         let back : 1 - (1 - i) ≡ i = omega (arith, r .two) in
         rw (add-one k) (record {
@@ -94,7 +84,7 @@ module _ (p : Plan) (o : Settings) (ts counts : List ℕ) (F : ℕ) where
         })
 
   -- when no frame runs each has ended
-  pub stepped-end : {x₀ x : Lists} {i k : ℕ} → Stepped x₀ x i k → ((f : ℕ) → runs (x .running) f ≡ false) → (f : ℕ) → f < F → (c : Code) (costs : List ℤ)
-      → (runs (x₀ .running) f ≡ true → Weighed p (o .weight) costs (x₀ .work) f)
-      → endedIn p (x .ks) (x .settled) (x .sums) (x .values) (x .rows) f ≡ endOf (systemFor c p ts) o costs (frame 1 0 x₀ f)
-  stepped-end r none f h c costs w = rw (none f) at (r .rest f h c costs w)
+  pub stepped-end : {w₀ w : List ℤ} {x₀ x : Lists} {i k : ℕ} → Stepped w₀ x₀ w x i k → ((f : ℕ) → runs (x .running) f ≡ false) → (f : ℕ) → f < F → (c : Code) (costs : List ℤ)
+      → (runs (x₀ .running) f ≡ true → Weighed p (o .weight) costs w₀ f)
+      → endedIn p (x .ks) (x .settled) (x .sums) (x .values) (x .rows) f ≡ endOf (systemFor c p ts) o costs (frame 1 0 w₀ x₀ f)
+  stepped-end r none f h c costs own = rw (none f) at (r .rest f h c costs own)

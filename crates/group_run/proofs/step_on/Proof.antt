@@ -1,16 +1,16 @@
 -- `group_run::step_on` meets its contract: what has been done and what remains is the whole, and at the end nothing remains. Assumes nothing.
 use Rattle.integers.proofs.Prelude.{_≡_, refl, sym, _∙_, true, false, List, ℕ, _-_, _≤_, _<_, arith, needs}
 use Rattle.lane_step.specs.Step.{runs}
-use Rattle.group_run.proofs.Running.{some-runs, none-runs}
-use Rattle.group_run.proofs.Steps.{Lists, Stepped, stepped-next, stepped-end}
+use Rattle.group_run.proofs.Running.{Lists, some-runs, none-runs}
+use Rattle.group_run.proofs.Steps.{Stepped, stepped-next, stepped-end}
 use Rattle.group_run.proofs.step_on.Statement.{statement}
 use Rattle.group_run.proofs.step_on.Tie as tie
 
 abbrev Inv-loop : tie.InvT-loop
 Inv-loop settings triples counts known bounds factors raises limits inverses p frames work₀ running₀ ks₀ settled₀ sums₀ values₀ rows₀ i₀ k₀ work running ks settled sums values rows i k =
     Stepped p settings triples counts frames
-    (record { work = work₀; running = running₀; ks = ks₀; settled = settled₀; sums = sums₀; values = values₀; rows = rows₀ })
-    (record { work = work; running = running; ks = ks; settled = settled; sums = sums; values = values; rows = rows }) i k
+    work₀ (record { running = running₀; ks = ks₀; settled = settled₀; sums = sums₀; values = values₀; rows = rows₀ })
+    work (record { running = running; ks = ks; settled = settled; sums = sums; values = values; rows = rows }) i k
 
 abbrev μ-loop : tie.MeasureT-loop
 μ-loop settings triples counts known bounds factors raises limits inverses p frames work₀ running₀ ks₀ settled₀ sums₀ values₀ rows₀ i₀ k₀ work running ks settled sums values rows i k =
