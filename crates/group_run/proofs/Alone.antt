@@ -1,10 +1,9 @@
 -- A frame that runs by itself, in its parts of the lists. Assumes nothing.
-use Rattle.integers.proofs.Prelude.{_≡_, refl, sym, ap, ap₂, _∙_, Bool, true, false, cond, List, ℕ, suc, _*_, _≤_, _<_, eqb, eqb-true, eqb-false, ℤ, length, getD, set}
+use Rattle.integers.proofs.Prelude.{_≡_, refl, ap, _∙_, Bool, true, false, cond, List, ℕ, suc, _*_, _≤_, _<_, eqb, eqb-true, eqb-false, ℤ, length, getD, set}
 use lib.Seq.{getD-set-same, getD-set-other}
 use borrow.Rule.Slice.PartMut.{putMid}
 use Rattle.lists.specs.Tabulated.{part}
 use Rattle.lists.proofs.Parts.{part-back, replaced-part}
-use Rattle.model.specs.Iteration.{State}
 use Rattle.model.specs.Run.{Ended}
 use Rattle.lanes.specs.declared.Plan.{Plan}
 use Rattle.lane_step.specs.Step.{runs}
@@ -40,8 +39,13 @@ module _ (p : Plan) (f : ℕ) (ks settled : List ℕ) (S c s : List ℤ) (k-room
       → endedIn p (set ks f k) (set settled f t) (putMid (f * p .variables) m S S′) (putMid (f * p .variables) m c c′) (putMid (f * (4 * p .triples)) n s s′) g
       ≡ cond (eqb g f) x (endedIn p ks settled S c s g)
   ended-alone x e g =
-      rw (stored ks f k k-room g, stored settled f t t-room g, returned (p .variables) f m S′ S m-is S-room S-long g,
-      returned (p .variables) f m c′ c m-is c-room c-long g, returned (4 * p .triples) f n s′ s n-is s-room s-long g) (by (eqb g f))
+      rw (
+        stored ks f k k-room g,
+        stored settled f t t-room g,
+        returned (p .variables) f m S′ S m-is S-room S-long g,
+        returned (p .variables) f m c′ c m-is c-room c-long g,
+        returned (4 * p .triples) f n s′ s n-is s-room s-long g,
+      ) (by (eqb g f))
     where
       by : (b : Bool) → _≡_ {A = Ended} (record {
         k = cond b k (getD ks g 0);

@@ -1,6 +1,6 @@
 -- Lanes as they begin, with the costs of their frames: rows, values and sums are those of the start. Assumes nothing.
-use Rattle.integers.proofs.Prelude.{_≡_, refl, sym, ap, ap₂, subst, _∙_, Bool, true, false, List, [], ℕ, zero, suc, _+_, _*_, _^_, _≤_, _<_, arith, eqb, ltb, lt-ltb, le-ltb, decLt}
-use Rattle.integers.proofs.Prelude.{ℤ, pos, natAbs, _+ℤ_, _-ℤ_, _*ℤ_, _≤ℤ_, getD}
+use Rattle.integers.proofs.Prelude.{_≡_, refl, sym, _∙_, Bool, true, false, List, [], ℕ, zero, suc, _+_, _*_, _≤_, _<_, arith, eqb, ltb, lt-ltb, le-ltb, decLt}
+use Rattle.integers.proofs.Prelude.{ℤ, pos, natAbs, _*ℤ_}
 use native.Mathlib.Nat.{mul-le-mul}
 use lib.IntN.{*ℤ-zero}
 use lib.ListN.{replicate}
@@ -13,16 +13,15 @@ use Rattle.model.specs.declared.Settings.{Settings}
 use Rattle.model.specs.Limits.{mostWeight, mostCost}
 use Rattle.model.specs.Code.{Code}
 use Rattle.model.specs.Splitting.{System, member}
-use Rattle.model.specs.Iteration.{at, _when_, row, sign, slack, multiplier, share, sumOf, State}
+use Rattle.model.specs.Iteration.{at, _when_, row, sign, slack, multiplier, share, sumOf}
 use Rattle.model.specs.Run.{start}
-use Rattle.model.specs.Bounds.{RowsWithin}
 use Rattle.model.specs.Group.{endOf}
 use Rattle.model.proofs.GroupSteps.{steps-are-runs}
 use Rattle.model.proofs.Rows.{none}
 use Rattle.model.proofs.Bounds.{start-within}
 use Rattle.lanes.specs.declared.Plan.{Plan}
-use Rattle.lanes.specs.Lanes.{inLane, valuesAt, sumsAt, weighedAt, Fits, laneRows, laneValues, laneSum, laneSums, lowPart, highPart, laneWeighed, laneState, Kept, SumsKept}
-use Rattle.lane_step.specs.Step.{runs, systemFor, Weighed, Summed, Small}
+use Rattle.lanes.specs.Lanes.{inLane, valuesAt, sumsAt, weighedAt, laneRows, laneValues, laneSum, laneSums, lowPart, highPart, laneWeighed, laneState, SumsKept}
+use Rattle.lane_step.specs.Step.{runs, systemFor, Summed, Small}
 use Rattle.group_step.specs.Frames.{frameNow}
 use Rattle.run.proofs.Remains.{any}
 use Rattle.group_run.specs.Given.{Given}

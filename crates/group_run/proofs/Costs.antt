@@ -1,10 +1,10 @@
 -- Lanes that get their frames' costs. Assumes nothing.
 use Rattle.integers.proofs.Prelude.{_≡_, refl, sym, ap, subst, _∙_, Bool, true, false, List, ℕ, _+_, _≤_, _<_, arith, decLt, eqb, eqb-true, eqb-false}
-use Rattle.integers.proofs.Prelude.{ltb, lt-ltb, le-ltb, T, ℤ, pos, _*ℤ_, length, List·getD-eq-default}
+use Rattle.integers.proofs.Prelude.{lt-ltb, le-ltb, T, ℤ, pos, _*ℤ_, length, List·getD-eq-default}
 use lib.IntN.{*ℤ-zero}
 use Rattle.lists.specs.Tabulated.{part}
 use Rattle.lists.proofs.Entries.{below-next}
-use Rattle.model.specs.Iteration.{at, _when_}
+use Rattle.model.specs.Iteration.{at}
 use Rattle.lanes.specs.declared.Plan.{Plan}
 use Rattle.lanes.specs.Lanes.{inLane, weighedAt, laneWeighed, Fits}
 use Rattle.lane_step.specs.Step.{runs, Weighed}

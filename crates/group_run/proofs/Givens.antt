@@ -1,7 +1,6 @@
 -- What follows from what a group runs with. Assumes nothing.
-use Rattle.integers.proofs.Prelude.{_≡_, refl, sym, ap, subst, _∙_, Bool, true, _&&_, List, ℕ, suc, _*_, _≤_, _<_, arith, leb, leb-true, ℤ, length, getD}
-use native.Mathlib.Nat.{mul-le-mul-right}
-use Rattle.lists.specs.Tabulated.{tab, part}
+use Rattle.integers.proofs.Prelude.{_≡_, sym, ap, _∙_, Bool, true, _&&_, List, ℕ, suc, _*_, _≤_, _<_, arith, leb, leb-true, ℤ, length, getD}
+use Rattle.lists.specs.Tabulated.{part}
 use Rattle.lists.specs.Entries.{every}
 use Rattle.lists.proofs.Tabulated.{length-tab, getD-tab}
 use Rattle.lists.proofs.Entries.{every-at}
@@ -9,7 +8,7 @@ use Rattle.lists.proofs.Parts.{length-part, part-end}
 use Rattle.lists.proofs.Tests.{and-left, and-right}
 use Rattle.model.specs.declared.Settings.{Settings}
 use Rattle.model.specs.Iteration.{occurrences}
-use Rattle.model.specs.Bounds.{Ready, Lent}
+use Rattle.model.specs.Bounds.{Lent}
 use Rattle.renewal.specs.InPlace.{withoutBlank}
 use Rattle.renewal.proofs.Renewal.{none-known}
 use Rattle.lanes.specs.declared.Plan.{Plan}

@@ -1,5 +1,5 @@
 -- Frames that run by themselves, one after the other. Assumes nothing.
-use Rattle.integers.proofs.Prelude.{_≡_, refl, sym, ap, subst, _∙_, Bool, true, false, cond, List, ℕ, _+_, _≤_, _<_, arith, T, eqb, eqb-true, eq-eqb, ℤ, length, getD}
+use Rattle.integers.proofs.Prelude.{_≡_, refl, sym, subst, _∙_, Bool, true, false, cond, List, ℕ, _+_, _≤_, _<_, arith, T, eqb, eqb-true, eq-eqb, ℤ, length}
 use Rattle.lists.specs.Tabulated.{part}
 use Rattle.lists.proofs.Entries.{below-next}
 use Rattle.quotient.specs.Quotient.{quotient}
@@ -72,7 +72,7 @@ module _ (p : Plan) (o : Settings) (ts counts : List ℕ) (costs : List ℤ) (F 
 
     pub done-next : Done x₀ y (n + 1)
     done-next = record {
-        given = given-still (y .running) fewer (d .given);
+      given = given-still (y .running) fewer (d .given);
       marks = record {
         running-long = running-long ∙ d .marks .running-long;
         ks-long = ks-long ∙ d .marks .ks-long;

@@ -1,5 +1,5 @@
 -- Group steps, one after the other: what has been done and what remains of each frame is the whole. Assumes nothing.
-use Rattle.integers.proofs.Prelude.{_≡_, refl, sym, ap, subst, _∙_, Bool, true, false, List, ℕ, suc, _+_, _-_, _≤_, _<_, arith, add-one, T, ℤ, getD}
+use Rattle.integers.proofs.Prelude.{_≡_, refl, sym, ap, subst, _∙_, Bool, true, false, List, ℕ, suc, _+_, _-_, _≤_, _<_, arith, add-one, T, ℤ}
 use Rattle.model.specs.declared.Settings.{Settings}
 use Rattle.model.specs.Code.{Code}
 use Rattle.model.specs.Group.{Frame, onward, endOf}
@@ -32,7 +32,7 @@ module _ (p : Plan) (o : Settings) (ts counts : List ℕ) (F : ℕ) where
   module _ {w₀ w w′ : List ℤ} {x₀ x y : Lists} {i k : ℕ} (room : F ≤ p .lanes) (r : Stepped w₀ x₀ w x i k) (fits : Fits p w′) (marks : Marks F (y .running) (y .ks) (y .settled))
       (held : Held p F (y .sums) (y .values) (y .rows))
       (next : (f : ℕ) → f < F → (c : Code) (costs : List ℤ) → (runs (x .running) f ≡ true → Weighed p (o .weight) costs w f)
-          → frame i (suc k) w′ y f ≡ onward (systemFor c p ts) o costs (frame (1 - i) k w x f))
+      → frame i (suc k) w′ y f ≡ onward (systemFor c p ts) o costs (frame (1 - i) k w x f))
       (small : (l : ℕ) → l < p .lanes → Small p counts (suc k) w′ l)
       (same : (l v : ℕ) → l < p .lanes → laneWeighed p w′ l v ≡ laneWeighed p w l v)
       (on : (f : ℕ) → runs (y .running) f ≡ true → (runs (x .running) f ≡ true) × Summed p ts (1 - i) w′ f) where

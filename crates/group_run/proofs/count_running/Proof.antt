@@ -1,6 +1,6 @@
 -- `group_run::count_running` meets its contract. Assumes nothing.
 use mathlib.Core.Logic.{⊎-elim}
-use Rattle.integers.proofs.Prelude.{_≡_, refl, sym, ap, _∙_, _+_, _-_, _≤_, arith, needs, length, take, take-all}
+use Rattle.integers.proofs.Prelude.{_≡_, refl, ap, _∙_, _-_, _≤_, arith, needs, length, take, take-all}
 use Rattle.group_run.proofs.Running.{marked, unmarked, counted, counted-next}
 use Rattle.group_run.proofs.count_running.Statement.{statement}
 use Rattle.group_run.proofs.count_running.Tie as tie

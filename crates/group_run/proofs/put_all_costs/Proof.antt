@@ -1,6 +1,6 @@
 -- `group_run::put_all_costs` meets its contract: the frames so far have their costs. Assumes nothing.
 use mathlib.Core.Logic.{⊎-elim}
-use Rattle.integers.proofs.Prelude.{_≡_, refl, sym, ap, subst, _∙_, List, ℕ, suc, _+_, _-_, _*_, _≤_, _<_, arith, needs, ℤ, length, take, drop}
+use Rattle.integers.proofs.Prelude.{_≡_, refl, sym, _∙_, ℕ, suc, _+_, _-_, _*_, _≤_, arith, needs, length}
 use native.Mathlib.Nat.{mul-le-mul-right}
 use Rattle.lists.specs.Tabulated.{part}
 use Rattle.lists.proofs.Parts.{length-part}
@@ -59,8 +59,8 @@ loop-again c =
     (λ w. (
       omega arith,
       let e = w .5 .ensures in
-      rw (w .7) (put-next (p i) (a .weight) (a .costs .now) (a .running .now) (f i) put (omega (arith, s i .pre .0 .1)) (marked (a .running .now) (f i) (w .0 .taken)) (costs-long i) _
-          (e .0) (rw (bits-is i) at (e .1 .0)) (e .1 .1 .0) (e .1 .1 .1))
+          rw (w .7) (put-next (p i) (a .weight) (a .costs .now) (a .running .now) (f i) put (omega (arith, s i .pre .0 .1)) (marked (a .running .now) (f i) (w .0 .taken)) (costs-long i) _
+          (e .0) (rw (bits-is i) at (e .1 .0)) (e .1 .1 .0) (e .1 .1 .1)),
     ))
     (λ w. (omega arith, rw (w .1) (put-none (p i) (a .weight) (a .costs .now) (a .running .now) (f i) put (unmarked (a .running .now) (f i) (w .0 .left)))))
     (c .if1 .came)

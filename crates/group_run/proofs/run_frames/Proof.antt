@@ -1,8 +1,8 @@
 -- `group_run::run_frames` meets its contract: the frames so far have ended as runs by themselves do. Assumes nothing.
 use mathlib.Core.Logic.{⊎-elim}
-use Rattle.integers.proofs.Prelude.{_≡_, refl, sym, _∙_, true, ℕ, _-_, _<_, arith, needs}
+use Rattle.integers.proofs.Prelude.{refl, sym, _∙_, ℕ, _-_, _<_, arith, needs}
 use Rattle.lane_step.specs.Step.{runs}
-use Rattle.group_run.proofs.Running.{Lists, marked, unmarked}
+use Rattle.group_run.proofs.Running.{marked, unmarked}
 use Rattle.group_run.proofs.Givens.{costs-end, sums-end, values-end, rows-end, lent}
 use Rattle.group_run.proofs.Singles.{Done, done-none, done-next, done-all}
 use Rattle.group_run.proofs.run_frames.Statement.{statement}
@@ -60,8 +60,8 @@ loop-again c =
     (λ w. rw (w .17, w .18, w .19, w .20, w .21, w .22)
     (let k = w .7 .kept in
     done-next (a .p) (a .settings) (a .triples .now) (a .counts .now) (a .costs .now) (a .frames) h (marked (l i .loop .running) (f i) (w .0 .taken)) x _
-        (w .7 .ensures .0) (w .7 .ensures .1) (k .1 .1 .1 .1 .1 .1 .0) (k .1 .1 .1 .1 .1 .1 .1 .0) (k .1 .1 .1 .1 .1 .1 .1 .1 .0)
-        (k .1 .1 .1 .1 .1 .1 .1 .1 .1 .0) (k .1 .1 .1 .1 .1 .1 .1 .1 .1 .1 .0) (k .1 .1 .1 .1 .1 .1 .1 .1 .1 .1 .1 .0)))
+    (w .7 .ensures .0) (w .7 .ensures .1) (k .1 .1 .1 .1 .1 .1 .0) (k .1 .1 .1 .1 .1 .1 .1 .0) (k .1 .1 .1 .1 .1 .1 .1 .1 .0)
+    (k .1 .1 .1 .1 .1 .1 .1 .1 .1 .0) (k .1 .1 .1 .1 .1 .1 .1 .1 .1 .1 .0) (k .1 .1 .1 .1 .1 .1 .1 .1 .1 .1 .1 .0)))
     (λ w. rw (w .1, w .2, w .3, w .4, w .5, w .6)
     (done-none (a .p) (a .settings) (a .triples .now) (a .counts .now) (a .costs .now) (a .frames) h (unmarked (l i .loop .running) (f i) (w .0 .left)) x))
     (c .if1 .came)

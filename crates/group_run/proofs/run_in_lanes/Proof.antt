@@ -1,5 +1,5 @@
 -- `group_run::run_in_lanes` meets its contract: the lanes begin at the start of each run, and the steps end it. Assumes nothing.
-use Rattle.integers.proofs.Prelude.{_≡_, refl, sym, _∙_, true, List, ℕ, _<_, arith, needs, ℤ}
+use Rattle.integers.proofs.Prelude.{_≡_, refl, _∙_, true, List, ℕ, _<_, arith, needs, ℤ}
 use Rattle.model.specs.Bounds.{Ready}
 use Rattle.lists.specs.Tabulated.{part}
 use Rattle.lane_step.specs.Step.{runs}
@@ -102,7 +102,7 @@ returns c =
     let y = b .begin .ensures in (
       x .0,
       λ f h k. x .1 f h k (part (a .p .bits) f (a .costs .now)) (m .put-all-costs .ensures .weighed f h)
-      ∙ from-start (s .pre .0 .1) (below s) (y .1 .0) (y .1 .1 .0) (y .1 .1 .1) (m .put-all-costs .ensures) k (a .ks .now) (a .settled .now) (a .sums .now) (a .values .now) (a .rows .now) f,
+          ∙ from-start (s .pre .0 .1) (below s) (y .1 .0) (y .1 .1 .0) (y .1 .1 .1) (m .put-all-costs .ensures) k (a .ks .now) (a .settled .now) (a .sums .now) (a .values .now) (a .rows .now) f,
     )
 
 pub run-in-lanes-spec : {M : Type 1} → statement M

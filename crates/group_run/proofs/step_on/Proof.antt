@@ -1,7 +1,7 @@
 -- `group_run::step_on` meets its contract: what has been done and what remains is the whole, and at the end nothing remains. Assumes nothing.
-use Rattle.integers.proofs.Prelude.{_≡_, refl, sym, _∙_, true, false, List, ℕ, _-_, _≤_, _<_, arith, needs}
+use Rattle.integers.proofs.Prelude.{_≡_, refl, sym, _∙_, true, ℕ, _-_, _<_, arith}
 use Rattle.lane_step.specs.Step.{runs}
-use Rattle.group_run.proofs.Running.{Lists, some-runs, none-runs}
+use Rattle.group_run.proofs.Running.{some-runs, none-runs}
 use Rattle.group_run.proofs.Steps.{Stepped, stepped-next, stepped-end}
 use Rattle.group_run.proofs.step_on.Statement.{statement}
 use Rattle.group_run.proofs.step_on.Tie as tie
