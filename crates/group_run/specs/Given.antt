@@ -12,7 +12,6 @@ use Rattle.model.specs.Splitting.{Members}
 use Rattle.model.specs.Iteration.{occurrences}
 use Rattle.model.specs.Bounds.{Ready}
 use Rattle.lanes.specs.declared.Plan.{Plan}
-use Rattle.lanes.specs.Lanes.{laneSize}
 use Rattle.lane_step.specs.Step.{runs}
 
 -- the triples of a code with the plan's sizes, their counts, and the costs of F frames, of which those that run have no false one

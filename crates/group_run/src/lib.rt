@@ -1,19 +1,29 @@
 // The run of a group (document 02, L7): group steps until no frame runs. One or two frames run by themselves: in lanes they would take longer.
 ghost use mathlib.Core.Path.{_≡_};
-ghost use mathlib.Core.Bool.{true, cond};
-ghost use Prim.Native.Nat.{ℕ, _+_, _*_, _≤_, _<_};
-ghost use lib.Dec.{ltb};
+ghost use mathlib.Core.Bool.{true, false, not, cond};
+ghost use mathlib.Core.List.{List};
+ghost use Prim.Native.Nat.{ℕ, suc, _*_, _≤_, _<_};
+ghost use lib.Dec.{eqb};
+ghost use lib.IntN.{ℤ, natAbs};
 ghost use lib.ListN.{length};
 ghost use Rattle.lists.specs.Tabulated.{part};
 ghost use Rattle.lists.specs.Entries.{total};
 ghost use Rattle.quotient.specs.Quotient.{quotient};
+ghost use Rattle.model.specs.Limits.{mostWeight, mostCost, mostRatio, mostIterations};
 ghost use Rattle.model.specs.Causes.{_if_};
 ghost use Rattle.model.specs.Code.{Code};
+ghost use Rattle.model.specs.Iteration.{at};
 ghost use Rattle.model.specs.Run as Run;
-ghost use Rattle.lanes.specs.Lanes.{laneSize, Fits};
-ghost use Rattle.lane_step.specs.Step.{runs, systemFor};
-ghost use Rattle.group_step.specs.Frames.{endedIn, Held, Marks};
+ghost use Rattle.model.specs.Bounds.{Lent};
+ghost use Rattle.model.specs.Group.{endOf};
+ghost use Rattle.values.specs.Divisors.{Tables};
+ghost use Rattle.lanes.specs.Lanes.{Fits};
+ghost use Rattle.lane_values.specs.Valued.{NarrowTables, Counted};
+ghost use Rattle.lane_triples.specs.Walk.{Tripled, Narrow};
+ghost use Rattle.lane_step.specs.Step.{runs, systemFor, Weighed};
+ghost use Rattle.group_step.specs.Frames.{endedIn, frameNow, Held, Marks};
 ghost use Rattle.group_run.specs.Given.{Given};
+ghost use Rattle.group_run.specs.Course.{ends, Put, InLanes};
 use lanes::Plan;
 use model::Settings;
 
@@ -22,7 +32,7 @@ use model::Settings;
 // How many frames run.
 fn count_running(running: &[u32]) -> usize
     requires { ⌜ length (now running) ≤ 8 ⌝ }
-    ensures { λ n. ⌜ n ≡ total (λ x. 1 if ltb 0 x) (now (running .entry)) ⌝ }
+    ensures { λ n. ⌜ n ≡ total (λ x. 1 if not (eqb x 0)) (now (running .entry)) ⌝ }
 {
     let mut n = 0;
     for f in 0..running.len() {
@@ -43,7 +53,12 @@ fn put_all_costs(
     frames: usize,
     running: &[u32],
     work: &mut [i32],
-) {
+)
+    requires { ⌜ Fits p (now work) × (frames ≤ p .lanes) × (frames ≤ length (now running)) × (length (now costs) ≡ frames * p .bits) ⌝ }
+    requires { ⌜ ((f : ℕ) → f < frames → runs (now running) f ≡ true
+        → (weight ≤ mostWeight) × ((b : ℕ) → natAbs (at (part (p .bits) f (now costs)) b) ≤ mostCost)) ⌝ }
+    ensures { λ _. ⌜ Put p weight (now (costs .entry)) (now (running .entry)) frames (now (work .entry)) (now (work .exit)) ⌝ }
+{
     for f in 0..frames {
         if running[f] != 0 {
             let from = f * p.bits;
@@ -73,7 +88,24 @@ fn step_on(
     sums: &mut [i64],
     values: &mut [i16],
     rows: &mut [i32],
-) {
+)
+    requires { ⌜ (settings .ratio ≤ mostRatio) × (settings .limit ≤ mostIterations) × Counted p (now counts) ⌝ }
+    requires { ⌜ Tripled p (now triples) (now counts) × (known ≡ true → Narrow p (now triples) (now counts)) ⌝ }
+    requires { ⌜ (length (now bounds) ≡ 9) × (length (now factors) ≡ 9) × (length (now raises) ≡ 9) ⌝ }
+    requires { ⌜ NarrowTables (settings .ratio) (now bounds) (now factors) (now raises)
+        × Tables (settings .ratio) (now limits) (now inverses) ⌝ }
+    requires { ⌜ (frames ≤ p .lanes) × Marks frames (now running) (now ks) (now settled)
+        × Held p frames (now sums) (now values) (now rows) ⌝ }
+    requires { ⌜ InLanes p settings (now triples) (now counts) 0 0 (now running) (now work) ⌝ }
+    ensures { λ _. ⌜ Marks frames (now (running .exit)) (now (ks .exit)) (now (settled .exit))
+        × Held p frames (now (sums .exit)) (now (values .exit)) (now (rows .exit)) ⌝ }
+    ensures { λ _. ⌜ ((f : ℕ) → f < frames → (c : Code) (costs : List ℤ)
+        → (runs (now (running .entry)) f ≡ true → Weighed p (settings .weight) costs (now (work .entry)) f)
+        → endedIn p (now (ks .exit)) (now (settled .exit)) (now (sums .exit)) (now (values .exit)) (now (rows .exit)) f
+        ≡ endOf (systemFor c p (now (triples .entry))) settings costs
+        (frameNow p 1 0 (now (work .entry)) (now (running .entry)) (now (ks .entry)) (now (settled .entry))
+        (now (sums .entry)) (now (values .entry)) (now (rows .entry)) f)) ⌝ }
+{
     let mut i = 0;
     let mut k: u32 = 0;
     while 0 < count_running(running) {
@@ -119,7 +151,17 @@ fn run_in_lanes(
     sums: &mut [i64],
     values: &mut [i16],
     rows: &mut [i32],
-) {
+)
+    requires { ⌜ Fits p (now work) × Given p frames settings (now triples) (now counts) (now costs) (now running) ⌝ }
+    requires { ⌜ Marks frames (now running) (now ks) (now settled) × Held p frames (now sums) (now values) (now rows) ⌝ }
+    requires { ⌜ ((f : ℕ) × (runs (now running) f ≡ true)) ⌝ }
+    ensures { λ _. ⌜ Marks frames (now (running .exit)) (now (ks .exit)) (now (settled .exit))
+        × Held p frames (now (sums .exit)) (now (values .exit)) (now (rows .exit)) ⌝ }
+    ensures { λ _. ⌜ ((f : ℕ) → f < frames → (c : Code)
+        → endedIn p (now (ks .exit)) (now (settled .exit)) (now (sums .exit)) (now (values .exit)) (now (rows .exit)) f
+        ≡ ends p settings c (now (triples .entry)) (now (costs .entry)) (now (running .entry)) (now (ks .entry)) (now (settled .entry))
+        (now (sums .entry)) (now (values .entry)) (now (rows .entry)) f) ⌝ }
+{
     lane_lists::begin(p, work);
     put_all_costs(costs, settings.weight, p, frames, running, work);
     let mut bounds = [0i32; 9];
@@ -169,7 +211,19 @@ fn run_frame(
     sums: &mut [i64],
     values: &mut [i16],
     rows: &mut [i32],
-) {
+)
+    requires { ⌜ (suc f * p .bits ≤ length (now costs)) × (suc f * p .variables ≤ length (now sums))
+        × (suc f * p .variables ≤ length (now values)) × (suc f * (4 * p .triples) ≤ length (now rows)) ⌝ }
+    requires { ⌜ (f < length (now running)) × (f < length (now ks)) × (f < length (now settled)) ⌝ }
+    requires { ⌜ Lent settings (now triples) (now counts) (part (p .bits) f (now costs)) (p .triples)
+        (part (p .variables) f (now sums)) (part (p .variables) f (now values)) (part (4 * p .triples) f (now rows)) ⌝ }
+    requires { ⌜ (1 ≤ settings .limit) × (settings .limit ≤ mostIterations) ⌝ }
+    ensures { λ _. ⌜ ((g : ℕ) (c : Code)
+        → endedIn p (now (ks .exit)) (now (settled .exit)) (now (sums .exit)) (now (values .exit)) (now (rows .exit)) g
+        ≡ cond (eqb g f) (Run.run quotient (systemFor c p (now (triples .entry))) settings (part (p .bits) f (now (costs .entry))))
+        (endedIn p (now (ks .entry)) (now (settled .entry)) (now (sums .entry)) (now (values .entry)) (now (rows .entry)) g)) ⌝ }
+    ensures { λ _. ⌜ ((g : ℕ) → runs (now (running .exit)) g ≡ cond (eqb g f) false (runs (now (running .entry)) g)) ⌝ }
+{
     let b = f * p.bits;
     let b_end = b + p.bits;
     let v = f * p.variables;
@@ -205,7 +259,16 @@ fn run_frames(
     sums: &mut [i64],
     values: &mut [i16],
     rows: &mut [i32],
-) {
+)
+    requires { ⌜ Given p frames settings (now triples) (now counts) (now costs) (now running) ⌝ }
+    requires { ⌜ Marks frames (now running) (now ks) (now settled) × Held p frames (now sums) (now values) (now rows) ⌝ }
+    ensures { λ _. ⌜ Marks frames (now (running .exit)) (now (ks .exit)) (now (settled .exit))
+        × Held p frames (now (sums .exit)) (now (values .exit)) (now (rows .exit)) ⌝ }
+    ensures { λ _. ⌜ ((f : ℕ) → f < frames → (c : Code)
+        → endedIn p (now (ks .exit)) (now (settled .exit)) (now (sums .exit)) (now (values .exit)) (now (rows .exit)) f
+        ≡ ends p settings c (now (triples .entry)) (now (costs .entry)) (now (running .entry)) (now (ks .entry)) (now (settled .entry))
+        (now (sums .entry)) (now (values .entry)) (now (rows .entry)) f) ⌝ }
+{
     for f in 0..frames {
         if running[f] != 0 {
             run_frame(
