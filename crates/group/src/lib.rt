@@ -52,7 +52,7 @@ struct Room {
 
 // How many lanes so many frames take.
 fn lanes_for(frames: usize) -> usize
-    ensures { λ n. ⌜ n ≡ Group.lanes frames ⌝ }
+    ensures { λ n. ⌜ (n ≡ Group.lanes frames) × (n ≤ 8) ⌝ }
 {
     if frames <= 4 { 4 } else { 8 }
 }

@@ -1,81 +1,28 @@
-use borrow.Author.Needs.{needs}
+-- `group::no_room` meets its contract: no product is too large. Assumes nothing.
+use Rattle.integers.proofs.Prelude.{_*_, arith, needs}
+use Rattle.group.proofs.Sizes.{product-fits}
 use Rattle.group.proofs.no_room.Statement.{statement}
 use Rattle.group.proofs.no_room.Tie as tie
-use Rattle.group.proofs.no_room.Reads as reads
-use Rattle.group.proofs.no_room.Lts as lts
-use Rattle.group.proofs.lanes_for.Reads as lanes-for-reads
 
--- src/lib.rt:65:16
-lanes-for-requires : tie.Need-lanes-for-requires
-lanes-for-requires c κs = search needs
-
--- src/lib.rt:65:37
-mul-work : tie.Need-mul-work
-mul-work c = search needs
-
--- src/lib.rt:65:49
-mul-work-2 : tie.Need-mul-work-2
-mul-work-2 c = search needs
-
--- src/lib.rt:65:37
-add-work : tie.Need-add-work
-add-work c = search needs
-
--- src/lib.rt:65:65
-mul-work-3 : tie.Need-mul-work-3
-mul-work-3 c = search needs
-
--- src/lib.rt:65:37
-add-work-2 : tie.Need-add-work-2
-add-work-2 c = search needs
-
--- src/lib.rt:65:16
 mul-work-4 : tie.Need-mul-work-4
-mul-work-4 c = ?
+mul-work-4 c = record { fits = product-fits (c .lanes-for .result) _ (c .lanes-for .ensures .1) (omega arith) }
 
--- src/lib.rt:66:21
-mul-result : tie.Need-mul-result
-mul-result c = search needs
-
--- src/lib.rt:68:29
 mul-result-2 : tie.Need-mul-result-2
-mul-result-2 c = ?
+mul-result-2 c = let s = c .before .before .before in record { fits = product-fits (s .args .frames) (s .args .variables) (s .pre .0) (omega (arith, s .pre)) }
 
--- src/lib.rt:69:35
 mul-result-3 : tie.Need-mul-result-3
-mul-result-3 c = ?
+mul-result-3 c = let s = c .before .before .before .before in record { fits = product-fits (s .args .frames) (s .args .variables) (s .pre .0) (omega (arith, s .pre)) }
 
--- src/lib.rt:70:47
-mul-result-4 : tie.Need-mul-result-4
-mul-result-4 c = search needs
-
--- src/lib.rt:70:37
 mul-result-5 : tie.Need-mul-result-5
-mul-result-5 c = ?
+mul-result-5 c = let s = c .before .before .before .before .before in record { fits = product-fits (s .args .frames) (4 * s .args .total) (s .pre .0) (omega (arith, s .pre)) }
 
--- src/lib.rt:71:41
 mul-result-6 : tie.Need-mul-result-6
-mul-result-6 c = ?
+mul-result-6 c = let s = c .before .before .before .before .before .before in record { fits = product-fits (s .args .frames) (s .args .bits) (s .pre .0) (omega (arith, s .pre)) }
 
--- src/lib.rt:61:1
 returns : tie.Need-returns
-returns c = ?
+returns c = rw (c .before .before .before .before .before .before .before .lanes-for .ensures .0)
 
 pub no-room-spec : {M : Type 1} → statement M
 no-room-spec =
-    tie.close
-    (tie.spec
-    lanes-for-requires
-    mul-work
-    mul-work-2
-    add-work
-    mul-work-3
-    add-work-2
-    mul-work-4
-    mul-result
-    mul-result-2
-    mul-result-3
-    mul-result-4
-    mul-result-5
-    mul-result-6
-    returns)
+    tie.close (tie.spec (λ c κs. search needs) (λ c. search needs) (λ c. search needs) (λ c. search needs) (λ c. search needs) (λ c. search needs) mul-work-4 (λ c. search needs)
+    mul-result-2 mul-result-3 (λ c. search needs) mul-result-5 mul-result-6 returns)

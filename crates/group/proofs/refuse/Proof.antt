@@ -1,17 +1,13 @@
-use borrow.Author.Needs.{needs}
+-- `group::refuse` meets its contract: nothing is told of any frame. Assumes nothing.
+use Rattle.integers.proofs.Prelude.{refl, ap, needs}
+use lib.ListN.{replicate}
+use Rattle.model.specs.Calls.{Answer}
+use Rattle.model.specs.Limits.{mostFrames}
 use Rattle.group.proofs.refuse.Statement.{statement}
 use Rattle.group.proofs.refuse.Tie as tie
-use Rattle.group.proofs.refuse.Reads as reads
-use Rattle.group.proofs.refuse.Lts as lts
-use Rattle.group.proofs.alone.Reads as alone-reads
 
--- src/lib.rt:385:18
-alone-requires : tie.Need-alone-requires
-alone-requires c κs = search needs
-
--- src/lib.rt:380:1
 returns : tie.Need-returns
-returns c = ?
+returns c = (refl, ap (λ (a : Answer). replicate mostFrames a) (c .alone .ensures))
 
 pub refuse-spec : {M : Type 1} → statement M
-refuse-spec = tie.close (tie.spec alone-requires returns)
+refuse-spec = tie.close (tie.spec (λ c κs. search needs) returns)
