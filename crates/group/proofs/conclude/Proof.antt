@@ -1,144 +1,118 @@
+-- `group::conclude` meets its contract: the answers and the words of the frames so far. Assumes nothing.
+use Rattle.integers.proofs.Prelude.{_≡_, refl, sym, ap, ap₂, _∙_, List, map, ℕ, suc, _+_, _-_, _*_, _≤_, _<_, arith, needs, add-one, ℤ, length, getD, take, drop}
+use lib.ListN.{replicate}
+use Rattle.lists.specs.Tabulated.{over, written, part, blocks}
+use Rattle.lists.proofs.Parts.{length-part, part-end}
+use Rattle.model.specs.Limits.{mostFrames}
+use Rattle.model.specs.Code.{Code, variables}
+use Rattle.model.specs.Records.{codeOf}
+use Rattle.model.specs.Calls.{Answer}
+use Rattle.model.specs.Group.{alone, frameTold}
+use Rattle.group.specs.Ends.{answerOf, wordLeft}
+use Rattle.group.proofs.Concluded.{next-told, all-told, left, words-long, next-part, next-word}
 use Rattle.group.proofs.conclude.Statement.{statement}
 use Rattle.group.proofs.conclude.Tie as tie
-use Rattle.group.proofs.conclude.Reads as reads
-use Rattle.group.proofs.conclude.Lts as lts
-use Rattle.group.proofs.alone.Reads as alone-reads
-use Rattle.group.proofs.conclude_frame.Reads as conclude-frame-reads
+
+-- what is told of frame f
+abbrev answered : List ℕ → ℕ → List ℤ → List ℕ → List ℕ → ℕ → Answer
+answered code size values ks settled f = answerOf (codeOf code) (getD ks f 0) (getD settled f 0) (part size f values)
+
+abbrev worded : List ℕ → ℕ → ℕ → List ℤ → List ℕ → List ℕ → ℕ → List ℕ
+worded code bits size values ks old f = wordLeft (codeOf code) (getD ks f 0) (part size f values) (part bits f old)
 
 abbrev Inv-loop : tie.InvT-loop
-Inv-loop code bits checks variables frames values ks settled word₀ told₀ f₀ word told f = ?
+Inv-loop code bits checks variables frames values ks settled word₀ told₀ f₀ word told f =
+    (f ≤ frames) × (map frameTold told ≡ over f (answered code variables values ks settled) (replicate mostFrames (alone 0)))
+    × (word ≡ written (blocks f (worded code bits variables values ks word₀)) word₀)
 
 abbrev μ-loop : tie.MeasureT-loop
-μ-loop code bits checks variables frames values ks settled word₀ told₀ f₀ word told f = ?
+μ-loop code bits checks variables frames values ks settled word₀ told₀ f₀ word told f = frames - f
 
--- src/lib.rt:299:21
-alone-requires : tie.Need-alone-requires Inv-loop μ-loop
-alone-requires c κs = ?
-
--- src/lib.rt:300:5
 loop-holds : tie.Need-loop-holds Inv-loop μ-loop
-loop-holds c = ?
+loop-holds c = (omega arith, ap (replicate mostFrames) (c .alone .ensures), refl)
 
--- src/lib.rt:301:17
-mul-v : tie.Need-mul-v Inv-loop μ-loop
-mul-v c = ?
+-- ---- the frame at hand
+module _ (i : tie.In-loop Inv-loop μ-loop) where
+  abbrev l : tie.At-loop Inv-loop μ-loop
+  l = i .before
 
--- src/lib.rt:302:21
-add-v-end : tie.Need-add-v-end Inv-loop μ-loop
-add-v-end c = ?
+  abbrev s : tie.Start Inv-loop μ-loop
+  s = l .before .before .before .before .before .before
 
--- src/lib.rt:303:17
-mul-b : tie.Need-mul-b Inv-loop μ-loop
-mul-b c = ?
+  abbrev f : ℕ
+  f = l .loop .f
 
--- src/lib.rt:304:21
-add-b-end : tie.Need-add-b-end Inv-loop μ-loop
-add-b-end c = ?
+  values-end : suc f * s .args .variables ≤ length (s .args .values .now)
+  values-end = omega (arith, part-end (s .args .variables) (s .args .frames) f (i .loop-test .taken), s .pre .1 .1 .0)
 
--- src/lib.rt:309:13
-mul-conclude-frame : tie.Need-mul-conclude-frame Inv-loop μ-loop
-mul-conclude-frame c = ?
+  word-end : suc f * s .args .bits ≤ length (s .args .word .now)
+  word-end = omega (arith, part-end (s .args .bits) (s .args .frames) f (i .loop-test .taken), s .pre .1 .1 .1)
 
--- src/lib.rt:309:13
-sub-conclude-frame : tie.Need-sub-conclude-frame Inv-loop μ-loop
-sub-conclude-frame c = ?
+  long : length (l .loop .word) ≡ length (s .args .word .now)
+  long = let a = s .args in words-long (codeOf (a .code .now)) (a .bits) (a .variables) (a .frames) (a .values .now) (a .ks .now) (a .word .now) (s .pre .0 .1) (s .pre .1 .1 .1) f (l .loop .inv .0) (l .loop .word) (l .loop .inv .2)
 
--- src/lib.rt:309:13
-part-conclude-frame-start : tie.Need-part-conclude-frame-start Inv-loop μ-loop
-part-conclude-frame-start c = ?
+  few : f < mostFrames
+  few = omega (arith, i .loop-test .taken, s .pre .1 .0 .0)
 
--- src/lib.rt:309:13
-part-conclude-frame-end : tie.Need-part-conclude-frame-end Inv-loop μ-loop
-part-conclude-frame-end c = ?
+  -- what is lent of both lists
+  values-size : f * s .args .variables + s .args .variables - f * s .args .variables ≡ s .args .variables
+  values-size = omega arith
 
--- src/lib.rt:310:13
-mul-conclude-frame-2 : tie.Need-mul-conclude-frame-2 Inv-loop μ-loop
-mul-conclude-frame-2 c = ?
+  word-size : f * s .args .bits + s .args .bits - f * s .args .bits ≡ s .args .bits
+  word-size = omega arith
 
--- src/lib.rt:310:13
-shared-slice-read-conclude-frame : tie.Need-shared-slice-read-conclude-frame Inv-loop μ-loop
-shared-slice-read-conclude-frame c = ?
+  values-long : length (take (f * s .args .variables + s .args .variables - f * s .args .variables) (drop (f * s .args .variables) (s .args .values .now))) ≡ s .args .variables
+  values-long = rw values-size (length-part (s .args .variables) f (s .args .values .now) values-end)
 
--- src/lib.rt:311:13
-mul-conclude-frame-3 : tie.Need-mul-conclude-frame-3 Inv-loop μ-loop
-mul-conclude-frame-3 c = ?
+  word-long : length (take (f * s .args .bits + s .args .bits - f * s .args .bits) (drop (f * s .args .bits) (l .loop .word))) ≡ s .args .bits
+  word-long = rw word-size (length-part (s .args .bits) f (l .loop .word) (omega (arith, long, word-end)))
 
--- src/lib.rt:311:13
-shared-slice-read-conclude-frame-2 : tie.Need-shared-slice-read-conclude-frame-2 Inv-loop μ-loop
-shared-slice-read-conclude-frame-2 c = ?
-
--- src/lib.rt:312:13
-sub-conclude-frame-2 : tie.Need-sub-conclude-frame-2 Inv-loop μ-loop
-sub-conclude-frame-2 c = ?
-
--- src/lib.rt:312:13
-part-conclude-frame-start-2 : tie.Need-part-conclude-frame-start-2 Inv-loop μ-loop
-part-conclude-frame-start-2 c = ?
-
--- src/lib.rt:312:13
-part-conclude-frame-end-2 : tie.Need-part-conclude-frame-end-2 Inv-loop μ-loop
-part-conclude-frame-end-2 c = ?
-
--- src/lib.rt:305:19
 conclude-frame-requires : tie.Need-conclude-frame-requires Inv-loop μ-loop
-conclude-frame-requires c κs = ?
+conclude-frame-requires c κs =
+    let i = c .before .before .before .before in
+    let p = s i .pre .0 in
+    ((p .0, p .1, p .2), (omega (arith, values-long i, p .1, p .3), omega (arith, word-long i)))
 
--- src/lib.rt:305:9
-mul-told : tie.Need-mul-told Inv-loop μ-loop
-mul-told c = ?
-
--- src/lib.rt:305:9
-array-set-from-told : tie.Need-array-set-from-told Inv-loop μ-loop
-array-set-from-told c = ?
-
--- src/lib.rt:300:9
-add-f : tie.Need-add-f Inv-loop μ-loop
-add-f c = ?
-
--- src/lib.rt:300:5
-loop-less : tie.Need-loop-less Inv-loop μ-loop
-loop-less c = ?
-
--- src/lib.rt:300:5
 loop-again : tie.Need-loop-again Inv-loop μ-loop
-loop-again c = ?
+loop-again c =
+    let d = c .before .before in
+    let i = d .before .before .before .before .before in
+    let a = s i .args in
+    let k = codeOf (a .code .now) in
+    let told = d .conclude-frame .ensures in
+    let still = next-part k (a .bits) (a .variables) (a .frames) (a .values .now) (a .ks .now) (a .word .now) (s i .pre .0 .1) (s i .pre .1 .1 .1) (f i) (l i .loop .inv .0) (l i .loop .word) (l i .loop .inv .2) in (
+      omega arith,
+      rw (add-one (f i)) (next-told frameTold (f i) (answered (a .code .now) (a .variables) (a .values .now) (a .ks .now) (a .settled .now)) (replicate mostFrames (alone 0)) (l i .loop .told)
+          (d .conclude-frame .result) (few i) (l i .loop .inv .1) (rw (values-size i) at (sym (told .0)))),
+      rw (add-one (f i)) (next-word k (a .bits) (a .variables) (a .frames) (a .values .now) (a .ks .now) (a .word .now) (s i .pre .0 .1) (s i .pre .1 .1 .1) (f i) (l i .loop .inv .0)
+          (l i .loop .word) (l i .loop .inv .2) (i .loop-test .taken) _ _ (word-size i)
+          ((rw (values-size i, word-size i) at (told .1)) ∙ ap (wordLeft k (getD (a .ks .now) (f i) 0) (part (a .variables) (f i) (a .values .now))) still)),
+    )
 
--- src/lib.rt:277:1
 same-length : tie.Need-same-length Inv-loop μ-loop
-same-length c = ?
+same-length c =
+    let l = c .before in
+    let s = l .before .before .before .before .before .before in
+    let a = s .args in
+    words-long (codeOf (a .code .now)) (a .bits) (a .variables) (a .frames) (a .values .now) (a .ks .now) (a .word .now) (s .pre .0 .1) (s .pre .1 .1 .1) (l .loop .f) (l .loop .inv .0)
+    (l .loop .word) (l .loop .inv .2)
 
--- src/lib.rt:277:1
 returns : tie.Need-returns Inv-loop μ-loop
-returns c = ?
+returns c =
+    let l = c .before in
+    let s = l .before .before .before .before .before .before in
+    let a = s .args in
+    let e : l .loop .f ≡ a .frames = omega arith in (
+      l .loop .inv .1 ∙ rw e (all-told (a .frames) mostFrames (answered (a .code .now) (a .variables) (a .values .now) (a .ks .now) (a .settled .now)) (alone 0) (s .pre .1 .0 .0)),
+      l .loop .inv .2 ∙ rw e,
+    )
 
 pub conclude-spec : {M : Type 1} → statement M
 conclude-spec =
-    tie.close
-    (tie.spec
-    Inv-loop
-    μ-loop
-    alone-requires
-    loop-holds
-    mul-v
-    add-v-end
-    mul-b
-    add-b-end
-    mul-conclude-frame
-    sub-conclude-frame
-    part-conclude-frame-start
-    part-conclude-frame-end
-    mul-conclude-frame-2
-    shared-slice-read-conclude-frame
-    mul-conclude-frame-3
-    shared-slice-read-conclude-frame-2
-    sub-conclude-frame-2
-    part-conclude-frame-start-2
-    part-conclude-frame-end-2
-    conclude-frame-requires
-    mul-told
-    array-set-from-told
-    add-f
-    loop-less
-    loop-again
-    same-length
-    returns)
+    tie.close (tie.spec Inv-loop μ-loop (λ c κs. search needs) loop-holds (λ c. record { fits = omega (arith, values-end c) }) (λ c. record { fits = omega (arith, values-end c) })
+    (λ c. record { fits = omega (arith, word-end c) }) (λ c. record { fits = omega (arith, word-end c) }) (λ c. record { fits = omega (arith, values-end c) }) (λ c. omega arith) (λ c. omega arith)
+    (λ c. omega (arith, values-end c)) (λ c. record { fits = omega (arith, few (c .before)) }) (λ c. (let i = c .before .before in omega (arith, few i, s i .pre .1 .0 .1)))
+    (λ c. record { fits = omega (arith, few (c .before .before)) }) (λ c. (let i = c .before .before .before in omega (arith, few i, s i .pre .1 .0 .2)))
+    (λ c. omega arith) (λ c. omega arith) (λ c. (let i = c .before .before .before in omega (arith, word-end i, long i))) conclude-frame-requires
+    (λ c. record { fits = omega (arith, few (c .before .before .before .before .before .before .before)) }) (λ c. omega (arith, few (c .before .before .before .before .before .before .before)))
+    (λ c. record { fits = omega (arith, few (c .before .before .before .before .before .before .before)) }) (λ c. omega arith) loop-again same-length returns)
