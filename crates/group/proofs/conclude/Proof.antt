@@ -2,6 +2,7 @@
 use Rattle.integers.proofs.Prelude.{_≡_, refl, sym, ap, ap₂, _∙_, List, map, ℕ, suc, _+_, _-_, _*_, _≤_, _<_, arith, needs, add-one, ℤ, length, getD, take, drop}
 use lib.ListN.{replicate}
 use Rattle.lists.specs.Tabulated.{over, written, part, blocks}
+use Rattle.lists.proofs.Tabulated.{over-replicate, over-next-map}
 use Rattle.lists.proofs.Parts.{length-part, part-end}
 use Rattle.model.specs.Limits.{mostFrames}
 use Rattle.model.specs.Code.{Code, variables}
@@ -9,7 +10,7 @@ use Rattle.model.specs.Records.{codeOf}
 use Rattle.model.specs.Calls.{Answer}
 use Rattle.model.specs.Group.{alone, frameTold}
 use Rattle.group.specs.Ends.{answerOf, wordLeft}
-use Rattle.group.proofs.Concluded.{next-told, all-told, left, words-long, next-part, next-word}
+use Rattle.group.proofs.Concluded.{words-long, next-part, next-word}
 use Rattle.group.proofs.conclude.Statement.{statement}
 use Rattle.group.proofs.conclude.Tie as tie
 
@@ -82,7 +83,7 @@ loop-again c =
     let told = d .conclude-frame .ensures in
     let still = next-part k (a .bits) (a .variables) (a .frames) (a .values .now) (a .ks .now) (a .word .now) (s i .pre .0 .1) (s i .pre .1 .1 .1) (f i) (l i .loop .inv .0) (l i .loop .word) (l i .loop .inv .2) in (
       omega arith,
-      rw (add-one (f i)) (next-told frameTold (f i) (answered (a .code .now) (a .variables) (a .values .now) (a .ks .now) (a .settled .now)) (replicate mostFrames (alone 0)) (l i .loop .told)
+      rw (add-one (f i)) (over-next-map frameTold (f i) (answered (a .code .now) (a .variables) (a .values .now) (a .ks .now) (a .settled .now)) (replicate mostFrames (alone 0)) (l i .loop .told)
           (d .conclude-frame .result) (few i) (l i .loop .inv .1) (rw (values-size i) at (sym (told .0)))),
       rw (add-one (f i)) (next-word k (a .bits) (a .variables) (a .frames) (a .values .now) (a .ks .now) (a .word .now) (s i .pre .0 .1) (s i .pre .1 .1 .1) (f i) (l i .loop .inv .0)
           (l i .loop .word) (l i .loop .inv .2) (i .loop-test .taken) _ _ (word-size i)
@@ -103,7 +104,7 @@ returns c =
     let s = l .before .before .before .before .before .before in
     let a = s .args in
     let e : l .loop .f ≡ a .frames = omega arith in (
-      l .loop .inv .1 ∙ rw e (all-told (a .frames) mostFrames (answered (a .code .now) (a .variables) (a .values .now) (a .ks .now) (a .settled .now)) (alone 0) (s .pre .1 .0 .0)),
+      l .loop .inv .1 ∙ rw e (over-replicate (a .frames) mostFrames (answered (a .code .now) (a .variables) (a .values .now) (a .ks .now) (a .settled .now)) (alone 0) (s .pre .1 .0 .0)),
       l .loop .inv .2 ∙ rw e,
     )
 
