@@ -1,175 +1,126 @@
-use borrow.Author.Needs.{needs}
+-- `group::run_system` meets its contract: the parts that are lent hold the code's system, and the frames end as the run leaves them. Assumes nothing.
+use Rattle.integers.proofs.Prelude.{_≡_, sym, ap, _∙_, List, ℕ, _*_, _≤_, arith, needs, length, take, length-take-le}
+use Rattle.model.specs.Limits.{mostTriples, mostVariables}
+use Rattle.model.specs.Code.{Code}
+use Rattle.model.specs.Records.{codeOf}
+use Rattle.model.specs.Sound.{Sound}
+use Rattle.model.specs.Splitting.{systemOf}
+use Rattle.model.proofs.Accepted.{accepted}
+use Rattle.model.proofs.Sound.{variables-most}
+use Rattle.lanes.specs.declared.Plan.{Plan}
+use Rattle.lanes.specs.Lanes.{Fits}
+use Rattle.group.specs.Frames.{Held}
+use Rattle.group.specs.Ends.{planOf}
+use Rattle.group.proofs.Sizes.{product-fits}
+use Rattle.group.proofs.Runs.{Begun, all-marks, lent-long, counts-lent-long, work-room, work-fits, given, ran}
 use Rattle.group.proofs.run_system.Statement.{statement}
 use Rattle.group.proofs.run_system.Tie as tie
-use Rattle.group.proofs.run_system.Reads as reads
-use Rattle.group.proofs.run_system.Lts as lts
-use Rattle.group.proofs.lanes_for.Reads as lanes-for-reads
-use Rattle.group.proofs.mark_frames.Reads as mark-frames-reads
-use Rattle.group.proofs.run.Reads as run-reads
-use Rattle.lanes.proofs.size.Reads as size-reads
-use Rattle.triples.proofs.write_system.Reads as write-system-reads
 
--- src/lib.rt:186:5
 write-system-requires : tie.Need-write-system-requires
-write-system-requires c κs = ?
+unfolding systemOf
+write-system-requires c κs =
+    let s = c .before .before .before .before .before .before .before in
+    (s .pre .0 .0, ((s .pre .0 .2, s .pre .0 .3), (s .pre .1 .1 .0 .0, s .pre .1 .1 .0 .1)))
 
--- src/lib.rt:188:38
-slice-aggregate-mark-frames : tie.Need-slice-aggregate-mark-frames
-slice-aggregate-mark-frames c = search needs
+-- ---- before the run
+module _ (q : tie.After-lanes-for) where
+  abbrev m : tie.After-mark-frames
+  m = q .before .before
 
--- src/lib.rt:188:5
-mark-frames-requires : tie.Need-mark-frames-requires
-mark-frames-requires c κs = search needs
+  abbrev w : tie.After-write-system
+  w = m .before .before .before .before .before .before
 
--- src/lib.rt:190:16
-lanes-for-requires : tie.Need-lanes-for-requires
-lanes-for-requires c κs = search needs
+  abbrev s : tie.Start
+  s = w .before .before .before .before .before .before .before .before
 
--- src/lib.rt:195:9
+  abbrev k : Code
+  k = codeOf (s .args .code .now)
+
+  sound : Sound k
+  sound = accepted (s .args .code .now) (s .pre .0 .0)
+
+  abbrev p : Plan
+  p = record { lanes = q .lanes-for .result; triples = s .args .total; variables = s .args .variables; bits = s .args .bits }
+
+  begun : Begun k (s .args .settings) (s .args .frames) p (s .args .costs .now) (w .write-system .last .1 .1 .1 .0) (w .write-system .last .1 .1 .1 .1 .0) (m .mark-frames .last .1 .1 .1 .0)
+  begun = record {
+    sound = sound;
+    tame = s .pre .1 .0 .0;
+    few = s .pre .1 .0 .1;
+    plan = λ i. record { lanes = q .lanes-for .ensures .0 i; triples = s .pre .0 .2 i; variables = s .pre .0 .3 i; bits = s .pre .0 .1 i };
+    agree = s .pre .1 .0 .2;
+    ts₀ = s .args .triples .now;
+    triples = w .write-system .ensures .0;
+    cs₀ = s .args .counts .now;
+    counts = w .write-system .ensures .1;
+    marks-are = m .mark-frames .ensures .0;
+    small = m .mark-frames .ensures .1;
+  }
+
+  triples-few : s .args .total ≤ mostTriples
+  triples-few = omega (arith, s .pre .0 .2, sound .triples-most)
+
+  variables-few : s .args .variables ≤ mostVariables
+  variables-few = omega (arith, s .pre .0 .3, variables-most k sound, sound .bits-most, sound .triples-most)
+
+  -- the lists that are lent, of which only the frames' parts are
+  sums-long : length (take (s .args .frames * s .args .variables) (s .args .sums .now)) ≡ s .args .frames * s .args .variables
+  sums-long = length-take-le (s .args .frames * s .args .variables) (s .args .sums .now) (s .pre .1 .1 .1 .0 .0)
+
+  values-long : length (take (s .args .frames * s .args .variables) (s .args .values .now)) ≡ s .args .frames * s .args .variables
+  values-long = length-take-le (s .args .frames * s .args .variables) (s .args .values .now) (s .pre .1 .1 .1 .0 .1)
+
+  rows-long : length (take (s .args .frames * (4 * s .args .total)) (s .args .rows .now)) ≡ s .args .frames * (4 * s .args .total)
+  rows-long = length-take-le (s .args .frames * (4 * s .args .total)) (s .args .rows .now) (s .pre .1 .1 .1 .0 .2)
+
 size-requires : tie.Need-size-requires
-size-requires c κs = ?
+size-requires c κs = (c .lanes-for .ensures .1, triples-few c, variables-few c, omega (arith, s c .pre .0 .1, s c .pre .0 .3))
 
--- src/lib.rt:196:17
 mul-v-end : tie.Need-mul-v-end
-mul-v-end c = ?
+mul-v-end c = let q = c .before in record { fits = product-fits (s q .args .frames) (s q .args .variables) (s q .pre .1 .0 .1) (omega (arith, variables-few q)) }
 
--- src/lib.rt:197:27
 mul-r-end : tie.Need-mul-r-end
-mul-r-end c = ?
+mul-r-end c = record { fits = omega (arith, triples-few (c .before)) }
 
--- src/lib.rt:197:17
 mul-r-end-2 : tie.Need-mul-r-end-2
-mul-r-end-2 c = ?
+mul-r-end-2 c = let q = c .before in record { fits = product-fits (s q .args .frames) (4 * s q .args .total) (s q .pre .1 .0 .1) (omega (arith, triples-few q)) }
 
--- src/lib.rt:200:20
 mul-run : tie.Need-mul-run
-mul-run c = ?
+mul-run c = record { fits = omega (arith, triples-few (c .before)) }
 
--- src/lib.rt:200:9
-slice-reshare-prefix-run : tie.Need-slice-reshare-prefix-run
-slice-reshare-prefix-run c = search needs
+module _ (z : tie.After-size) where
+  long-enough : z .size .result ≤ length (s (z .before) .args .work .now)
+  long-enough = let q = z .before in work-room (begun q) (s q .args .work .now) (z .size .result) (z .size .ensures) (s q .pre .1 .1 .0 .2)
 
--- src/lib.rt:200:9
-slice-aggregate-run : tie.Need-slice-aggregate-run
-slice-aggregate-run c = ?
+  fits : Fits (p (z .before)) (take (z .size .result) (s (z .before) .args .work .now))
+  fits = let q = z .before in work-fits (begun q) (s q .args .work .now) (z .size .result) (z .size .ensures) (s q .pre .1 .1 .0 .2)
 
--- src/lib.rt:201:9
-slice-reshare-prefix-run-2 : tie.Need-slice-reshare-prefix-run-2
-slice-reshare-prefix-run-2 c = search needs
-
--- src/lib.rt:201:9
-slice-aggregate-run-2 : tie.Need-slice-aggregate-run-2
-slice-aggregate-run-2 c = ?
-
--- src/lib.rt:205:9
-slice-relend-prefix-run : tie.Need-slice-relend-prefix-run
-slice-relend-prefix-run c = ?
-
--- src/lib.rt:205:9
-slice-aggregate-run-3 : tie.Need-slice-aggregate-run-3
-slice-aggregate-run-3 c = ?
-
--- src/lib.rt:206:9
-slice-aggregate-run-4 : tie.Need-slice-aggregate-run-4
-slice-aggregate-run-4 c = search needs
-
--- src/lib.rt:209:9
-slice-relend-prefix-run-2 : tie.Need-slice-relend-prefix-run-2
-slice-relend-prefix-run-2 c = ?
-
--- src/lib.rt:209:9
-slice-aggregate-run-5 : tie.Need-slice-aggregate-run-5
-slice-aggregate-run-5 c = ?
-
--- src/lib.rt:210:9
-slice-relend-prefix-run-3 : tie.Need-slice-relend-prefix-run-3
-slice-relend-prefix-run-3 c = ?
-
--- src/lib.rt:210:9
-slice-aggregate-run-6 : tie.Need-slice-aggregate-run-6
-slice-aggregate-run-6 c = ?
-
--- src/lib.rt:211:9
-slice-relend-prefix-run-4 : tie.Need-slice-relend-prefix-run-4
-slice-relend-prefix-run-4 c = ?
-
--- src/lib.rt:211:9
-slice-aggregate-run-7 : tie.Need-slice-aggregate-run-7
-slice-aggregate-run-7 c = ?
-
--- src/lib.rt:198:5
 run-requires : tie.Need-run-requires
-run-requires c κs = ?
+run-requires c κs =
+    let z = c .before .before .before .before .before .before .before .before .before in
+    let q = z .before in
+    let held : Held (p q) (s q .args .frames) (take (s q .args .frames * s q .args .variables) (s q .args .sums .now)) (take (s q .args .frames * s q .args .variables) (s q .args .values .now))
+        (take (s q .args .frames * (4 * s q .args .total)) (s q .args .rows .now))
+    = record { sums-long = sums-long q; values-long = values-long q; rows-long = rows-long q } in
+    ((fits z, given (begun q)), (all-marks (s q .args .bits) (s q .args .frames) (s q .pre .1 .0 .1) (s q .args .costs .now) _ (begun q .marks-are) _ _ (s q .pre .1 .1 .1 .1 .0) (s q .pre .1 .1 .1 .1 .1), held))
 
--- src/lib.rt:158:1
-same-length : tie.Need-same-length
-same-length c = search needs
-
--- src/lib.rt:158:1
-same-length-2 : tie.Need-same-length-2
-same-length-2 c = search needs
-
--- src/lib.rt:158:1
-same-length-3 : tie.Need-same-length-3
-same-length-3 c = search needs
-
--- src/lib.rt:158:1
-same-length-4 : tie.Need-same-length-4
-same-length-4 c = search needs
-
--- src/lib.rt:158:1
-same-length-5 : tie.Need-same-length-5
-same-length-5 c = search needs
-
--- src/lib.rt:158:1
-same-length-6 : tie.Need-same-length-6
-same-length-6 c = search needs
-
--- src/lib.rt:158:1
-same-length-7 : tie.Need-same-length-7
-same-length-7 c = search needs
-
--- src/lib.rt:158:1
-same-length-8 : tie.Need-same-length-8
-same-length-8 c = search needs
-
--- src/lib.rt:158:1
 returns : tie.Need-returns
-returns c = ?
+returns c =
+    let r = c .before .before .before .before .before .before .before .before .before in
+    let q = r .before .before .before .before .before .before .before .before .before .before .before in
+    let a = s q .args in (
+      (w q .write-system .ensures .0, w q .write-system .ensures .1),
+      ran (begun q) (a .ks .now) (a .settled .now) _ _ (a .sums .now) (a .values .now) (a .rows .now) _ _ _ (s q .pre .1 .1 .1 .1 .0) (s q .pre .1 .1 .1 .1 .1)
+          (s q .pre .1 .1 .1 .0) (r .run .ensures .0 .1) (r .run .ensures .1),
+    )
 
 pub run-system-spec : {M : Type 1} → statement M
 run-system-spec =
-    tie.close
-    (tie.spec
-    write-system-requires
-    slice-aggregate-mark-frames
-    mark-frames-requires
-    lanes-for-requires
-    size-requires
-    mul-v-end
-    mul-r-end
-    mul-r-end-2
-    mul-run
-    slice-reshare-prefix-run
-    slice-aggregate-run
-    slice-reshare-prefix-run-2
-    slice-aggregate-run-2
-    slice-relend-prefix-run
-    slice-aggregate-run-3
-    slice-aggregate-run-4
-    slice-relend-prefix-run-2
-    slice-aggregate-run-5
-    slice-relend-prefix-run-3
-    slice-aggregate-run-6
-    slice-relend-prefix-run-4
-    slice-aggregate-run-7
-    run-requires
-    same-length
-    same-length-2
-    same-length-3
-    same-length-4
-    same-length-5
-    same-length-6
-    same-length-7
-    same-length-8
-    returns)
+    tie.close (tie.spec write-system-requires (λ c. search needs) (λ c κs. search needs) (λ c κs. search needs) size-requires
+    mul-v-end mul-r-end mul-r-end-2 mul-run (λ c. search needs)
+    (λ c. sym (lent-long (begun (c .before .before)))) (λ c. search needs) (λ c. sym (counts-lent-long (begun (c .before .before .before))))
+    (λ c. long-enough (c .before .before)) (λ c. (let z = c .before .before .before in z .size .ensures ∙ sym (fits z .long))) (λ c. search needs)
+    (λ c. s (c .before .before .before .before .before .before .before) .pre .1 .1 .1 .0 .0) (λ c. sym (sums-long (c .before .before .before .before .before .before .before .before)))
+    (λ c. s (c .before .before .before .before .before .before .before .before) .pre .1 .1 .1 .0 .1) (λ c. sym (values-long (c .before .before .before .before .before .before .before .before .before)))
+    (λ c. s (c .before .before .before .before .before .before .before .before .before) .pre .1 .1 .1 .0 .2) (λ c. sym (rows-long (c .before .before .before .before .before .before .before .before .before .before)))
+    run-requires (λ c. search needs) (λ c. search needs) (λ c. search needs) (λ c. search needs) (λ c. search needs) (λ c. search needs) (λ c. search needs) (λ c. search needs) returns)
