@@ -81,10 +81,11 @@ module _ (b : List ℕ) (o : Settings) (F : ℕ) (costs : List ℤ) (l : Lists) 
       (λ e. steps-range b o (part (k .bits) f costs) (frameLists k l f) (frame-cause b o F costs l work accepted f h ∙ rw e) .0)
       (part-short (variables k) f (l .sums)) (part-short (variables k) f (l .values)) (part-short (4 * triples k) f (l .rows))
 
-  module _ (ks settled : List ℕ) (m : Lists) (ran : Ran k o F costs ks settled (l .sums) (l .values) (l .rows) (m .sums) (m .values) (m .rows))
-      (answers : List Answer) (told : answers ≡ tab mostFrames (λ f. cond (ltb f F) (answerOf k (getD ks f 0) (getD settled f 0) (part (variables k) f (m .values))) (alone 0)))
+  -- n bits and v variables, which are the code's
+  module _ (n v : ℕ) (n-is : n ≡ k .bits) (v-is : v ≡ variables k) (ks settled : List ℕ) (m : Lists) (ran : Ran k o F costs ks settled (l .sums) (l .values) (l .rows) (m .sums) (m .values) (m .rows))
+      (answers : List Answer) (told : answers ≡ tab mostFrames (λ f. cond (ltb f F) (answerOf k (getD ks f 0) (getD settled f 0) (part v f (m .values))) (alone 0)))
       (ts : m .triples ≡ written (systemOf k .members) (l .triples)) (cs : m .counts ≡ written (countsOf (systemOf k)) (l .counts))
-      (words : m .word ≡ written (blocks F (λ f. wordLeft k (getD ks f 0) (part (variables k) f (m .values)) (part (k .bits) f (l .word)))) (l .word)) where
+      (words : m .word ≡ written (blocks F (λ f. wordLeft k (getD ks f 0) (part v f (m .values)) (part n f (l .word)))) (l .word)) where
     abbrev frame : ℕ → Decoded
     frame = frameOf k o costs l
 
@@ -111,12 +112,12 @@ module _ (b : List ℕ) (o : Settings) (F : ℕ) (costs : List ℤ) (l : Lists) 
 
     word-is : m .word ≡ written (blocks F (λ f. frame f .lists .word)) (l .word)
     word-is =
-        words
+        (rw (n-is, v-is) at words)
         ∙ ap (λ (x : List ℕ). written x (l .word))
         (blocks-same F _ (λ f. frame f .lists .word) (λ f h. by-end (λ x. wordLeft k (x .k) (x .last .values) (part (k .bits) f (l .word))) f h (each f h .word)))
 
     answers-are : answers ≡ tab mostFrames (λ f. cond (ltb f F) (frame f .answer) (alone 0))
-    answers-are = told ∙ tab-same mostFrames _ (λ f. cond (ltb f F) (frame f .answer) (alone 0)) (λ f _. by f (ltb f F) refl)
+    answers-are = (rw v-is at told) ∙ tab-same mostFrames _ (λ f. cond (ltb f F) (frame f .answer) (alone 0)) (λ f _. by f (ltb f F) refl)
       where
         by : (f : ℕ) (t : Bool) → ltb f F ≡ t
             → cond t (answerOf k (getD ks f 0) (getD settled f 0) (part (variables k) f (m .values))) (alone 0) ≡ cond t (frame f .answer) (alone 0)
