@@ -115,10 +115,10 @@ fn mark_frames(costs: &[i16], bits: usize, frames: usize, running: &mut [u32])
     ensures { λ _. ⌜ now (running .exit) ≡ over frames (λ f. 1 if not (some forbidden (part bits f (now (costs .entry))))) (now (running .entry)) ⌝ }
     ensures { λ _. ⌜ ((f : ℕ) → f < frames → some forbidden (part bits f (now (costs .entry))) ≡ false → Small (part bits f (now (costs .entry)))) ⌝ }
 {
-    for f in 0..frames {
-        let from = f * bits;
+    for i in 0..frames {
+        let from = i * bits;
         let to = from + bits;
-        running[f] = mark(&costs[from..to]);
+        running[i] = mark(&costs[from..to]);
     }
 }
 

@@ -16,12 +16,12 @@ abbrev marked : ℕ → List ℤ → ℕ → ℕ
 marked bits costs f = 1 if not (some forbidden (part bits f costs))
 
 abbrev Inv-loop : tie.InvT-loop
-Inv-loop costs bits frames running₀ f₀ running f =
-    (f ≤ frames) × (running ≡ over f (marked bits costs) running₀)
-    × ((g : ℕ) → g < f → some forbidden (part bits g costs) ≡ false → Small (part bits g costs))
+Inv-loop costs bits frames running₀ i₀ running i =
+    (i ≤ frames) × (running ≡ over i (marked bits costs) running₀)
+    × ((g : ℕ) → g < i → some forbidden (part bits g costs) ≡ false → Small (part bits g costs))
 
 abbrev μ-loop : tie.MeasureT-loop
-μ-loop costs bits frames running₀ f₀ running f = frames - f
+μ-loop costs bits frames running₀ i₀ running i = frames - i
 
 loop-holds : tie.Need-loop-holds Inv-loop μ-loop
 loop-holds c = (omega arith, refl, λ g h. absurd (omega arith))
@@ -34,24 +34,24 @@ module _ (i : tie.In-loop Inv-loop μ-loop) where
   abbrev s : tie.Start Inv-loop μ-loop
   s = l .before .before
 
-  costs-end : suc (l .loop .f) * s .args .bits ≤ length (s .args .costs .now)
-  costs-end = omega (arith, part-end (s .args .bits) (s .args .frames) (l .loop .f) (i .loop-test .taken), s .pre .0)
+  costs-end : suc (l .loop .i) * s .args .bits ≤ length (s .args .costs .now)
+  costs-end = omega (arith, part-end (s .args .bits) (s .args .frames) (l .loop .i) (i .loop-test .taken), s .pre .0)
 
   long : length (l .loop .running) ≡ length (s .args .running .now)
-  long = ap length (l .loop .inv .1) ∙ length-over (l .loop .f) (marked (s .args .bits) (s .args .costs .now)) (s .args .running .now) (omega (arith, i .loop-test .taken, s .pre .1))
+  long = ap length (l .loop .inv .1) ∙ length-over (l .loop .i) (marked (s .args .bits) (s .args .costs .now)) (s .args .running .now) (omega (arith, i .loop-test .taken, s .pre .1))
 
   -- what is lent of the costs
-  lent : take (l .loop .f * s .args .bits + s .args .bits - l .loop .f * s .args .bits) (drop (l .loop .f * s .args .bits) (s .args .costs .now))
-      ≡ part (s .args .bits) (l .loop .f) (s .args .costs .now)
+  lent : take (l .loop .i * s .args .bits + s .args .bits - l .loop .i * s .args .bits) (drop (l .loop .i * s .args .bits) (s .args .costs .now))
+      ≡ part (s .args .bits) (l .loop .i) (s .args .costs .now)
   lent =
-      let size : l .loop .f * s .args .bits + s .args .bits - l .loop .f * s .args .bits ≡ s .args .bits = omega arith in
-      ap (λ (n : ℕ). take n (drop (l .loop .f * s .args .bits) (s .args .costs .now))) size
+      let size : l .loop .i * s .args .bits + s .args .bits - l .loop .i * s .args .bits ≡ s .args .bits = omega arith in
+      ap (λ (n : ℕ). take n (drop (l .loop .i * s .args .bits) (s .args .costs .now))) size
 
 loop-again : tie.Need-loop-again Inv-loop μ-loop
 loop-again c =
     let i = c .before .before in
     let a = s i .args in
-    let f = l i .loop .f in
+    let f = l i .loop .i in
     let r = c .mark .ensures in (
       omega arith,
       ap (λ (x : List ℕ). set x f (c .mark .result)) (l i .loop .inv .1)
@@ -63,13 +63,13 @@ same-length : tie.Need-same-length Inv-loop μ-loop
 same-length c =
     let l = c .before in
     let s = l .before .before in
-    ap length (l .loop .inv .1) ∙ length-over (l .loop .f) (marked (s .args .bits) (s .args .costs .now)) (s .args .running .now) (omega (arith, l .loop .inv .0, s .pre .1))
+    ap length (l .loop .inv .1) ∙ length-over (l .loop .i) (marked (s .args .bits) (s .args .costs .now)) (s .args .running .now) (omega (arith, l .loop .inv .0, s .pre .1))
 
 returns : tie.Need-returns Inv-loop μ-loop
 returns c =
     let l = c .before in
     let a = l .before .before .args in
-    let e : l .loop .f ≡ a .frames = omega arith in
+    let e : l .loop .i ≡ a .frames = omega arith in
     (l .loop .inv .1 ∙ rw e, λ g h. l .loop .inv .2 g (omega arith))
 
 pub mark-frames-spec : {M : Type 1} → statement M
