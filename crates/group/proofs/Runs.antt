@@ -171,8 +171,8 @@ module _ {k : Code} {o : Settings} {F : ℕ} {p : Plan} {costs : List ℤ} {ts c
   module _ (ks settled ks′ settled′ : List ℕ) (S c s S′ c′ s′ : List ℤ) (ks-is : ks ≡ zeros mostFrames) (settled-is : settled ≡ zeros mostFrames)
       (room : (F * p .variables ≤ length S) × (F * p .variables ≤ length c) × (F * (4 * p .triples) ≤ length s)) (held : Held p F S′ c′ s′)
       (ended : (f : ℕ) → f < F → (c₁ : Code) → endedIn p ks′ settled′ S′ c′ s′ f
-          ≡ cond (runs marks f) (run quotient (systemFor c₁ p lent) o (part (p .bits) f costs))
-          (endedIn p ks settled (take (F * p .variables) S) (take (F * p .variables) c) (take (F * (4 * p .triples)) s) f)) where
+      ≡ cond (runs marks f) (run quotient (systemFor c₁ p lent) o (part (p .bits) f costs))
+      (endedIn p ks settled (take (F * p .variables) S) (take (F * p .variables) c) (take (F * (4 * p .triples)) s) f)) where
     abbrev n : ℕ
     n = F * p .variables
 

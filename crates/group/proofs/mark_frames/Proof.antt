@@ -55,7 +55,7 @@ loop-again c =
     let r = c .mark .ensures in (
       omega arith,
       ap (λ (x : List ℕ). set x f (c .mark .result)) (l i .loop .inv .1)
-      ∙ rw (add-one f) (over-next f (marked (a .bits) (a .costs .now)) (a .running .now) (c .mark .result) (omega (arith, i .loop-test .taken, s i .pre .1)) (rw (lent i) at (sym (r .0)))),
+          ∙ rw (add-one f) (over-next f (marked (a .bits) (a .costs .now)) (a .running .now) (c .mark .result) (omega (arith, i .loop-test .taken, s i .pre .1)) (rw (lent i) at (sym (r .0)))),
       below-next (λ g. some forbidden (part (a .bits) g (a .costs .now)) ≡ false → Small (part (a .bits) g (a .costs .now))) f (l i .loop .inv .2) (rw (lent i) at (r .1)),
     )
 

@@ -100,7 +100,7 @@ run-requires c κs =
     let z = c .before .before .before .before .before .before .before .before .before in
     let q = z .before in
     let held : Held (p q) (s q .args .frames) (take (s q .args .frames * s q .args .variables) (s q .args .sums .now)) (take (s q .args .frames * s q .args .variables) (s q .args .values .now))
-        (take (s q .args .frames * (4 * s q .args .total)) (s q .args .rows .now))
+    (take (s q .args .frames * (4 * s q .args .total)) (s q .args .rows .now))
     = record { sums-long = sums-long q; values-long = values-long q; rows-long = rows-long q } in
     ((fits z, given (begun q)), (all-marks (s q .args .bits) (s q .args .frames) (s q .pre .1 .0 .1) (s q .args .costs .now) _ (begun q .marks-are) _ _ (s q .pre .1 .1 .1 .1 .0) (s q .pre .1 .1 .1 .1 .1), held))
 
