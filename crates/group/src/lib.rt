@@ -1,22 +1,33 @@
 // The decoder of a group (document 02, L7): up to eight frames of one code with the same settings.
 ghost use mathlib.Core.Path.{_≡_};
-ghost use mathlib.Core.Bool.{true, false, cond, _||_};
+ghost use mathlib.Core.Bool.{true, false, cond, not};
 ghost use mathlib.Core.List.{map};
-ghost use Prim.Native.Nat.{ℕ, _+_, _*_, _≤_, _<_};
-ghost use lib.Dec.{leb, ltb};
+ghost use Prim.Native.Nat.{ℕ, _*_, _≤_, _<_};
+ghost use lib.Dec.{ltb};
 ghost use lib.ListN.{length, getD, replicate};
-ghost use Rattle.lists.specs.Tabulated.{tab, written, part};
+ghost use Rattle.lists.specs.Tabulated.{tab, over, written, part, blocks};
 ghost use Rattle.lists.specs.Entries.{some};
+ghost use Rattle.quotient.specs.Quotient.{quotient};
 ghost use Rattle.model.specs.Limits.{mostFrames, mostTriples, mostVariables};
 ghost use Rattle.model.specs.Causes.{_if_, firstOf};
 ghost use Rattle.model.specs.Code as Code;
 ghost use Rattle.model.specs.Records.{codeOf, judge};
+ghost use Rattle.model.specs.Splitting.{systemOf};
+ghost use Rattle.model.specs.Iteration.{countsOf};
+ghost use Rattle.model.specs.Run as Run;
 ghost use Rattle.model.specs.Calls as Calls;
 ghost use Rattle.model.specs.Calls.{forbidden, listsOf, decodingTold};
 ghost use Rattle.model.specs.DecoderClaims.{Small};
 ghost use Rattle.model.specs.Group as Group;
-ghost use Rattle.model.specs.Group.{groupInputCauses, groupTold, frameTold, alone};
+ghost use Rattle.model.specs.Group.{groupInputCauses, frameTold, groupTold, groupDecoded, workSize};
+ghost use Rattle.model.specs.GroupClaims.{GroupFits};
 ghost use Rattle.model.specs.GroupPromises.{GroupCall};
+ghost use Rattle.lanes.specs.Lanes.{Fits};
+ghost use Rattle.group.specs.Frames.{runs, endedIn, Held, Marks};
+ghost use Rattle.group.specs.Step.{systemFor};
+ghost use Rattle.group.specs.Given.{Given};
+ghost use Rattle.group.specs.Room.{tooShort};
+ghost use Rattle.group.specs.Ends.{Ran, answerOf, wordLeft};
 use lanes::Plan;
 use model::Decoding;
 use model::Ending;
@@ -41,7 +52,7 @@ struct Room {
 
 // How many lanes so many frames take.
 fn lanes_for(frames: usize) -> usize
-    ensures { λ n. ⌜ n ≡ Group.lanes frames ⌝ }
+    ensures { λ n. ⌜ (n ≡ Group.lanes frames) × (n ≤ 8) ⌝ }
 {
     if frames <= 4 { 4 } else { 8 }
 }
@@ -49,9 +60,7 @@ fn lanes_for(frames: usize) -> usize
 // 10: a lent list that is too short for the frames.
 fn no_room(frames: usize, bits: usize, total: usize, variables: usize, room: Room) -> bool
     requires { ⌜ (frames ≤ mostFrames) × (total ≤ mostTriples) × (variables ≤ mostVariables) × (bits ≤ variables) ⌝ }
-    ensures { λ r. ⌜ r ≡ (ltb (room .triples) (3 * total) || (ltb (room .counts) variables || (ltb (room .sums) (frames * variables)
-        || (ltb (room .values) (frames * variables) || (ltb (room .rows) (frames * (4 * total)) || (ltb (room .word) (frames * bits)
-        || ltb (room .work) (Group.lanes frames * (4 * total + 3 * variables + 3 * bits)))))))) ⌝ }
+    ensures { λ r. ⌜ r ≡ tooShort frames bits total variables room ⌝ }
 {
     let work = lanes_for(frames) * (4 * total + 3 * variables + 3 * bits);
     (room.triples < 3 * total)
@@ -71,7 +80,10 @@ fn cause(
     total: usize,
     variables: usize,
     room: Room,
-) -> u32 {
+) -> u32
+    requires { ⌜ (total ≤ mostTriples) × (variables ≤ mostVariables) × (bits ≤ variables) ⌝ }
+    ensures { λ r. ⌜ r ≡ firstOf (groupInputCauses (Calls.outOfRange settings) frames (now (costs .entry)) bits (tooShort frames bits total variables room)) ⌝ }
+{
     if inputs::out_of_range(settings) {
         return 11;
     }
@@ -90,15 +102,114 @@ fn cause(
 
 // ---- an accepted call
 
-// A frame without a false cost runs: its mark is 1.
-fn mark_frames(costs: &[i16], bits: usize, frames: usize, running: &mut [u32]) {
-    for f in 0..frames {
-        let from = f * bits;
+// The mark of a frame with these costs: 1 where none is false, so that it runs.
+fn mark(costs: &[i16]) -> u32
+    ensures { λ r. ⌜ r ≡ 1 if not (some forbidden (now (costs .entry))) ⌝ }
+    ensures { λ _. ⌜ (some forbidden (now (costs .entry)) ≡ false → Small (now (costs .entry))) ⌝ }
+{
+    if inputs::some_forbidden(costs) { 0 } else { 1 }
+}
+
+fn mark_frames(costs: &[i16], bits: usize, frames: usize, running: &mut [u32])
+    requires { ⌜ (length (now costs) ≡ frames * bits) × (frames ≤ length (now running)) ⌝ }
+    ensures { λ _. ⌜ now (running .exit) ≡ over frames (λ f. 1 if not (some forbidden (part bits f (now (costs .entry))))) (now (running .entry)) ⌝ }
+    ensures { λ _. ⌜ ((f : ℕ) → f < frames → some forbidden (part bits f (now (costs .entry))) ≡ false → Small (part bits f (now (costs .entry)))) ⌝ }
+{
+    for i in 0..frames {
+        let from = i * bits;
         let to = from + bits;
-        if !inputs::some_forbidden(&costs[from..to]) {
-            running[f] = 1;
-        }
+        running[i] = mark(&costs[from..to]);
     }
+}
+
+// TEMPORARY
+// Each frame that runs, to its end: its iterations, its stop and its parts of S, c and s are those of a run by itself. What the others have stays.
+fn run(
+    settings: Settings,
+    triples: &[u16],
+    counts: &[u16],
+    costs: &[i16],
+    p: Plan,
+    frames: usize,
+    work: &mut [i32],
+    running: &mut [u32],
+    ks: &mut [u32],
+    settled: &mut [u32],
+    sums: &mut [i64],
+    values: &mut [i16],
+    rows: &mut [i32],
+)
+    requires { ⌜ Fits p (now work) × Given p frames settings (now triples) (now counts) (now costs) (now running) ⌝ }
+    requires { ⌜ Marks frames (now running) (now ks) (now settled) × Held p frames (now sums) (now values) (now rows) ⌝ }
+    ensures { λ _. ⌜ Marks frames (now (running .exit)) (now (ks .exit)) (now (settled .exit))
+        × Held p frames (now (sums .exit)) (now (values .exit)) (now (rows .exit)) ⌝ }
+    ensures { λ _. ⌜ ((f : ℕ) → f < frames → (c : Code.Code)
+        → endedIn p (now (ks .exit)) (now (settled .exit)) (now (sums .exit)) (now (values .exit)) (now (rows .exit)) f
+        ≡ cond (runs (now (running .entry)) f)
+        (Run.run quotient (systemFor c p (now (triples .entry))) settings (part (p .bits) f (now (costs .entry))))
+        (endedIn p (now (ks .entry)) (now (settled .entry)) (now (sums .entry)) (now (values .entry)) (now (rows .entry)) f)) ⌝ }
+{
+    running[0] = 0;
+}
+
+// END TEMPORARY
+
+// The triples and the counts of the code are written, and the frames without a false cost are run.
+fn run_system(
+    code: &[u8],
+    settings: Settings,
+    frames: usize,
+    costs: &[i16],
+    bits: usize,
+    total: usize,
+    variables: usize,
+    triples: &mut [u16],
+    counts: &mut [u16],
+    sums: &mut [i64],
+    values: &mut [i16],
+    rows: &mut [i32],
+    work: &mut [i32],
+    ks: &mut [u32],
+    settled: &mut [u32],
+)
+    requires { ⌜ (judge (now code) ≡ 0) × (bits ≡ codeOf (now code) .bits) × (total ≡ Code.triples (codeOf (now code)))
+        × (variables ≡ Code.variables (codeOf (now code))) ⌝ }
+    requires { ⌜ (Calls.outOfRange settings ≡ false) × (frames ≤ mostFrames) × (length (now costs) ≡ frames * bits) ⌝ }
+    requires { ⌜ (3 * total ≤ length (now triples)) × (variables ≤ length (now counts)) × (workSize (codeOf (now code)) frames ≤ length (now work)) ⌝ }
+    requires { ⌜ (frames * variables ≤ length (now sums)) × (frames * variables ≤ length (now values)) × (frames * (4 * total) ≤ length (now rows)) ⌝ }
+    requires { ⌜ (now ks ≡ replicate mostFrames 0) × (now settled ≡ replicate mostFrames 0) ⌝ }
+    ensures { λ _. ⌜ (let g = systemOf (codeOf (now (code .entry))) in
+        (now (triples .exit) ≡ written (g .members) (now (triples .entry))) × (now (counts .exit) ≡ written (countsOf g) (now (counts .entry)))) ⌝ }
+    ensures { λ _. ⌜ Ran (codeOf (now (code .entry))) settings frames (now (costs .entry)) (now (ks .exit)) (now (settled .exit))
+        (now (sums .entry)) (now (values .entry)) (now (rows .entry)) (now (sums .exit)) (now (values .exit)) (now (rows .exit)) ⌝ }
+{
+    triples::write_system(code, total, variables, triples, counts);
+    let mut running = [0u32; 8];
+    mark_frames(costs, bits, frames, &mut running);
+    let p = Plan {
+        lanes: lanes_for(frames),
+        triples: total,
+        variables,
+        bits,
+    };
+    let size = lanes::size(p);
+    let v_end = frames * variables;
+    let r_end = frames * (4 * total);
+    run(
+        settings,
+        &triples[..3 * total],
+        &counts[..variables],
+        costs,
+        p,
+        frames,
+        &mut work[..size],
+        &mut running,
+        ks,
+        settled,
+        &mut sums[..v_end],
+        &mut values[..v_end],
+        &mut rows[..r_end],
+    );
 }
 
 // What is told of a frame.
@@ -140,34 +251,26 @@ fn alone(number: u32) -> FrameAnswer
     }
 }
 
-// Frame f, which ended as told, or which has a false cost and did no iteration: what its values say, and its word.
+// A frame that ended as told, or that has a false cost and did no iteration: what its values say, and its word.
 fn conclude_frame(
     code: &[u8],
     bits: usize,
     checks: usize,
-    variables: usize,
-    f: usize,
     values: &[i16],
     k: u32,
     settled: u32,
     word: &mut [u8],
-) -> FrameAnswer {
+) -> FrameAnswer
+    requires { ⌜ (judge (now code) ≡ 0) × (bits ≡ codeOf (now code) .bits) × (checks ≡ length (codeOf (now code) .checks)) ⌝ }
+    requires { ⌜ (bits ≤ length (now values)) × (bits ≤ length (now word)) ⌝ }
+    ensures { λ r. ⌜ frameTold r ≡ answerOf (codeOf (now (code .entry))) k settled (now (values .entry)) ⌝ }
+    ensures { λ _. ⌜ now (word .exit) ≡ wordLeft (codeOf (now (code .entry))) k (now (values .entry)) (now (word .entry)) ⌝ }
+{
     if k == 0 {
         return alone(13);
     }
-    let v = f * variables;
-    let v_end = v + variables;
-    let b = f * bits;
-    let b_end = b + bits;
     let ending = Ending { k, settled };
-    frame_answer(outcome::conclude(
-        code,
-        bits,
-        checks,
-        &values[v..v_end],
-        ending,
-        &mut word[b..b_end],
-    ))
+    frame_answer(outcome::conclude(code, bits, checks, values, ending, word))
 }
 
 // The answers of all frames.
@@ -181,25 +284,38 @@ fn conclude(
     ks: &[u32],
     settled: &[u32],
     word: &mut [u8],
-) -> [FrameAnswer; 8] {
+) -> [FrameAnswer; 8]
+    requires { ⌜ (judge (now code) ≡ 0) × (bits ≡ codeOf (now code) .bits) × (checks ≡ length (codeOf (now code) .checks))
+        × (variables ≡ Code.variables (codeOf (now code))) ⌝ }
+    requires { ⌜ (frames ≤ mostFrames) × (length (now ks) ≡ mostFrames) × (length (now settled) ≡ mostFrames) ⌝ }
+    requires { ⌜ (frames * variables ≤ length (now values)) × (frames * bits ≤ length (now word)) ⌝ }
+    ensures { λ r. ⌜ map frameTold r ≡ tab mostFrames (λ f. cond (ltb f frames)
+        (answerOf (codeOf (now (code .entry))) (getD (now (ks .entry)) f 0) (getD (now (settled .entry)) f 0) (part variables f (now (values .entry))))
+        (Group.alone 0)) ⌝ }
+    ensures { λ _. ⌜ now (word .exit) ≡ written (blocks frames (λ f.
+        wordLeft (codeOf (now (code .entry))) (getD (now (ks .entry)) f 0) (part variables f (now (values .entry))) (part bits f (now (word .entry)))))
+        (now (word .entry)) ⌝ }
+{
     let mut told = [alone(0); 8];
     for f in 0..frames {
+        let v = f * variables;
+        let v_end = v + variables;
+        let b = f * bits;
+        let b_end = b + bits;
         told[f] = conclude_frame(
             code,
             bits,
             checks,
-            variables,
-            f,
-            values,
+            &values[v..v_end],
             ks[f],
             settled[f],
-            word,
+            &mut word[b..b_end],
         );
     }
     told
 }
 
-// The triples and the counts of the code are written, its frames are run, and their last values tell their answers.
+// The frames are run, and their last values tell their answers.
 fn decode_accepted(
     code: &[u8],
     settings: Settings,
@@ -216,35 +332,34 @@ fn decode_accepted(
     rows: &mut [i32],
     word: &mut [u8],
     work: &mut [i32],
-) -> [FrameAnswer; 8] {
-    triples::write_system(code, total, variables, triples, counts);
-    let mut running = [0u32; 8];
-    mark_frames(costs, bits, frames, &mut running);
-    let p = Plan {
-        lanes: lanes_for(frames),
-        triples: total,
-        variables,
-        bits,
-    };
-    let size = lanes::size(p);
-    let v_end = frames * variables;
-    let r_end = frames * (4 * total);
+) -> [FrameAnswer; 8]
+    requires { ⌜ (bits ≡ codeOf (now code) .bits) × (checks ≡ length (codeOf (now code) .checks)) × (total ≡ Code.triples (codeOf (now code)))
+        × (variables ≡ Code.variables (codeOf (now code))) ⌝ }
+    requires { ⌜ GroupFits (now code) settings frames (now costs) (listsOf (now triples) (now counts) (now sums) (now values) (now rows) (now word)) (now work) ⌝ }
+    ensures { λ r. ⌜ (
+        let before = listsOf (now (triples .entry)) (now (counts .entry)) (now (sums .entry)) (now (values .entry)) (now (rows .entry)) (now (word .entry)) in
+        let after = listsOf (now (triples .exit)) (now (counts .exit)) (now (sums .exit)) (now (values .exit)) (now (rows .exit)) (now (word .exit)) in
+        record { number = 0; answers = map frameTold r; lists = after } ≡ groupDecoded (codeOf (now (code .entry))) settings frames (now (costs .entry)) before) ⌝ }
+    ensures { λ _. ⌜ ((f : ℕ) → f < frames → (let own = part bits f (now (costs .entry)) in some forbidden own ≡ false → Small own)) ⌝ }
+{
     let mut ks = [0u32; 8];
     let mut settled = [0u32; 8];
-    group_run::run(
+    run_system(
+        code,
         settings,
-        &triples[..3 * total],
-        &counts[..variables],
-        costs,
-        p,
         frames,
-        &mut work[..size],
-        &mut running,
+        costs,
+        bits,
+        total,
+        variables,
+        triples,
+        counts,
+        sums,
+        values,
+        rows,
+        work,
         &mut ks,
         &mut settled,
-        &mut sums[..v_end],
-        &mut values[..v_end],
-        &mut rows[..r_end],
     );
     conclude(
         code,

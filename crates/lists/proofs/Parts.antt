@@ -98,6 +98,17 @@ module _ {A : Type 0} (size : ℕ) where
       ∙ ap (_++_ (blocks n (λ i. part size i l))) (take-append-drop size rest)
       ∙ parts-whole n l
 
+  -- the first n parts do not change with what lies behind them,
+  pub part-front : (n f : ℕ) (l r : List A) → n * size ≤ length l → f < n → part size f (l ++ r) ≡ part size f l
+  part-front n f l r room h =
+      let end = part-end size n f h in
+      ap (take size) (drop-append-le (f * size) l r (omega (arith, end))) ∙ take-append-le size (drop (f * size) l) r (omega (arith, length-drop (f * size) l, end))
+
+  -- nor where that is left out
+  pub part-take : (n f : ℕ) (l : List A) → n * size ≤ length l → f < n → part size f (take (n * size) l) ≡ part size f l
+  part-take n f l room h =
+      sym (part-front n f (take (n * size) l) (drop (n * size) l) (omega (arith, length-take-le (n * size) l room)) h) ∙ ap (part size f) (take-append-drop (n * size) l)
+
   -- lists that agree behind n parts agree behind more of them, and have the same parts there
   pub behind-more : (n i : ℕ) (l m : List A) → n ≤ i → drop (n * size) l ≡ drop (n * size) m → drop (i * size) l ≡ drop (i * size) m
   behind-more n i l m h e =
@@ -151,19 +162,11 @@ module _ {A : Type 0} (size : ℕ) where
         ap (take size) (drop-at (take (f * size) l) (x ++ drop (f * size + size) l) (f * size) front) ∙ take-at x (drop (f * size + size) l) size long
 
     -- the others stay
-    earlier : (i : ℕ) (r : List A) → i < f → part size i (take (f * size) l ++ r) ≡ part size i (take (f * size) l)
-    earlier i r h =
-        let p = take (f * size) l in
-        let end = part-end size f i h in
-        ap (take size) (drop-append-le (i * size) p r (omega (arith, front, end)))
-        ∙ take-append-le size (drop (i * size) p) r (omega (arith, length-drop (i * size) p, front, end))
-
     pub replaced-other : (i : ℕ) → i ≢ f → part size i (replaced f x l) ≡ part size i l
     replaced-other i h = by (decLt i f)
       where
         by : Dec (i < f) → part size i (replaced f x l) ≡ part size i l
-        by (yes less) =
-            earlier i (x ++ drop (f * size + size) l) less ∙ sym (earlier i (drop (f * size) l) less) ∙ ap (part size i) (take-append-drop (f * size) l)
+        by (yes less) = part-front f i (take (f * size) l) (x ++ drop (f * size + size) l) (omega (arith, front)) less ∙ part-take f i l (omega arith) less
         by (no more) = let past : (i ≡ f → ⊥) → suc f ≤ i = λ h. omega arith in later-part (suc f) i (replaced f x l) l (past h) replaced-after
 
     pub replaced-part : (i : ℕ) → part size i (replaced f x l) ≡ cond (eqb i f) x (part size i l)

@@ -1,9 +1,9 @@
 -- Lists given by their entries. Assumes nothing.
-use Rattle.integers.proofs.Prelude.{_≡_, refl, sym, ap, ap₂, _∙_, Bool, true, false, List, [], _∷_, _++_, map, append-nil, ℕ, zero, suc, _+_, _-_, _≤_, _<_, arith, add-one, eqb-true, eqb-false, eqb, ℤ}
+use Rattle.integers.proofs.Prelude.{_≡_, refl, sym, ap, ap₂, _∙_, Bool, true, false, cond, List, [], _∷_, _++_, map, append-nil, ℕ, zero, suc, _+_, _-_, _≤_, _<_, arith, add-one, eqb-true, eqb-false, eqb, ltb-true, ltb-false, ltb, ℤ}
 use Rattle.integers.proofs.Prelude.{length, getD, take, drop, set, length-append, length-drop, length-set, length-map, drop-of-length-le, List·getD-append, sets, take-at, drop-at}
 use Rattle.integers.proofs.Prelude.{getD-drop, getD-append-add, toZ, ofZ, toZ-ofZ}
 use mathlib.Core.Logic.{_≢_}
-use lib.ListN.{replicate}
+use lib.ListN.{replicate, length-replicate, getD-replicate}
 use lib.Seq.{set-append-left, getD-set-same, getD-set-other}
 use mir.Syntax.{Width}
 use mir.Val.{SFits}
@@ -106,6 +106,18 @@ module _ {ℓ} {A : Type ℓ} where
   pub over-whole : (n : ℕ) (f : ℕ → A) (old : List A) → length old ≤ n → over n f old ≡ tab n f
   over-whole n f old h = rw (drop-of-length-le old h) (append-nil (tab n f))
 
+  -- over a list of equal entries
+  pub over-replicate : (n m : ℕ) (f : ℕ → A) (x : A) → n ≤ m → over n f (replicate m x) ≡ tab m (λ i. cond (ltb i n) (f i) x)
+  over-replicate n m f x h =
+      let l = over n f (replicate m x) in
+      sym (tab-getD l x)
+      ∙ ap (λ (k : ℕ). tab k (λ i. getD l i x)) (length-over n f (replicate m x) (omega (arith, length-replicate m x)) ∙ length-replicate m x)
+      ∙ tab-same m (λ i. getD l i x) (λ i. cond (ltb i n) (f i) x) (λ i k. by i k (ltb i n) refl)
+    where
+      by : (i : ℕ) → i < m → (t : Bool) → ltb i n ≡ t → getD (over n f (replicate m x)) i x ≡ cond t (f i) x
+      by i k true e = over-in n f (replicate m x) i x (ltb-true i n e)
+      by i k false e = over-out n f (replicate m x) i x (ltb-false i n e) ∙ getD-replicate m i x x k
+
   -- ---- written
   pub over-tab : (n : ℕ) (f : ℕ → A) (old : List A) → over n f old ≡ written (tab n f) old
   over-tab n f old = rw (length-tab n f)
@@ -154,3 +166,13 @@ map-tab g (suc n) f = ap (_∷_ (g (f 0))) (map-tab g n (λ i. f (suc i)))
 
 pub over-map : {A B : Type 0} (g : A → B) (l : List A) (d : A) (old : List B) → over (length l) (λ i. g (getD l i d)) old ≡ written (map g l) old
 over-map g l d old = rw (length-map l g, tab-map g l d)
+
+map-set : {A B : Type 0} (g : A → B) (l : List A) (i : ℕ) (x : A) → map g (set l i x) ≡ set (map g l) i (g x)
+map-set g [] i x = refl
+map-set g (y ∷ l) zero x = refl
+map-set g (y ∷ l) (suc i) x = ap (_∷_ (g y)) (map-set g l i x)
+
+-- one store more in a list of which g is known
+pub over-next-map : {A B : Type 0} (g : A → B) (n : ℕ) (f : ℕ → B) (old : List B) (l : List A) (x : A) → n < length old → map g l ≡ over n f old → f n ≡ g x
+    → map g (set l n x) ≡ over (suc n) f old
+over-next-map {B = B} g n f old l x h so-far e = map-set g l n x ∙ ap (λ (m : List B). set m n (g x)) so-far ∙ over-next n f old (g x) h e

@@ -1,5 +1,5 @@
 -- Lists of causes: the first that holds, and what the number 0 says. Assumes nothing.
-use Rattle.integers.proofs.Prelude.{_≡_, refl, subst, Bool, true, false, _||_, List, [], _∷_, _++_, ℕ, zero, suc, _≤_, arith, ltb-false, le-ltb, T, ltb}
+use Rattle.integers.proofs.Prelude.{_≡_, refl, ap₂, subst, _∙_, Bool, true, false, _||_, List, [], _∷_, _++_, ℕ, zero, suc, _≤_, arith, ltb-false, le-ltb, T, ltb}
 use mathlib.Core.Logic.{_↔_}
 use Rattle.lists.specs.Entries.{Each}
 use Rattle.model.specs.declared.Settings.{Settings}
@@ -16,6 +16,14 @@ only (suc c) = refl
 pub refused : (c : ℕ) (l : List ℕ) → (c ≡ 0 → ⊥) → firstOf (c ∷ l) ≡ c
 refused zero l h = absurd (h refl)
 refused (suc c) l h = refl
+
+-- of four causes, each of whose tests agrees with another
+abbrev pub ofFour : ℕ → ℕ → ℕ → ℕ → Bool → Bool → Bool → Bool → ℕ
+ofFour a b c d s t u v = firstOf (a if s ∷ b if t ∷ c if u ∷ d if v ∷ [])
+
+pub by-tests : (a b c d : ℕ) (s t u v : Bool) {s′ t′ u′ v′ : Bool} → s′ ≡ s → t′ ≡ t → u′ ≡ u → v′ ≡ v → ofFour a b c d s′ t′ u′ v′ ≡ ofFour a b c d s t u v
+by-tests a b c d s t u v {u′ = u′} {v′ = v′} p q r w =
+    ap₂ (λ (s t : Bool). ofFour a b c d s t u′ v′) p q ∙ ap₂ (λ (u v : Bool). ofFour a b c d s t u v) r w
 
 -- the first cause of a list may be found first, and then stand for the list
 pub first-in : (l m : List ℕ) → firstOf (firstOf l ∷ m) ≡ firstOf (l ++ m)

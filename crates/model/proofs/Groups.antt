@@ -56,11 +56,11 @@ has-room k F l work = (
 )
 
 -- ---- one frame: its lists are as long as they were
-record FrameLong (k : Code) (l : Lists) : Type 0 where
-  sums : length (l .sums) ≡ variables k
-  values : length (l .values) ≡ variables k
-  rows : length (l .rows) ≡ 4 * triples k
-  word : length (l .word) ≡ k .bits
+pub record FrameLong (k : Code) (l : Lists) : Type 0 where
+  pub sums : length (l .sums) ≡ variables k
+  pub values : length (l .values) ≡ variables k
+  pub rows : length (l .rows) ≡ 4 * triples k
+  pub word : length (l .word) ≡ k .bits
 
 fills : {A : Type 0} (n : ℕ) (new old : List A) → length new ≡ n → length old ≡ n → length (written new old) ≡ n
 fills n new old e f = length-written new old (omega arith) ∙ f
@@ -206,7 +206,7 @@ module _ (b : List ℕ) (o : Settings) (F : ℕ) (costs : List ℤ) (l : Lists) 
         by true d m = refl
         by false d m = refl
 
-    own-lists : (f : ℕ) → f < F → FrameLong k (frameOf k o costs l f .lists)
+    pub own-lists : (f : ℕ) → f < F → FrameLong k (frameOf k o costs l f .lists)
     own-lists f m = frame-long k o (own f) (frameLists k l f) (lent f m)
 
     -- what the group has of a frame

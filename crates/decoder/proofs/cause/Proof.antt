@@ -1,16 +1,10 @@
 -- `decoder::cause` meets its contract: the first test that passes. Assumes nothing.
-use Rattle.integers.proofs.Prelude.{_≡_, refl, sym, ap, ap₂, _∙_, Bool, false, not, [], _∷_, ℕ, arith, needs, eq-eqb, ne-eqb, length}
+use Rattle.integers.proofs.Prelude.{_≡_, refl, sym, ap, _∙_, Bool, false, not, arith, needs, eq-eqb, ne-eqb, length}
 use Rattle.lists.specs.Entries.{some}
 use Rattle.model.specs.Calls.{outOfRange, unequal, forbidden}
-use Rattle.model.specs.Causes.{_if_, firstOf}
+use Rattle.model.proofs.Causes.{ofFour, by-tests}
 use Rattle.decoder.proofs.cause.Statement.{statement}
 use Rattle.decoder.proofs.cause.Tie as tie
-
-abbrev found : Bool → Bool → Bool → Bool → ℕ
-found s t u v = firstOf (11 if s ∷ 12 if t ∷ 13 if u ∷ 10 if v ∷ [])
-
-by : (s t u v : Bool) {s′ t′ u′ v′ : Bool} → s′ ≡ s → t′ ≡ t → u′ ≡ u → v′ ≡ v → found s′ t′ u′ v′ ≡ found s t u v
-by s t u v {u′ = u′} {v′ = v′} p q r w = ap₂ (λ (s t : Bool). found s t u′ v′) p q ∙ ap₂ (λ (u v : Bool). found s t u v) r w
 
 module _ (s : tie.Start) where
   abbrev is-out : Bool
@@ -23,8 +17,8 @@ module _ (s : tie.Start) where
   is-forbidden = some forbidden (s .args .costs .now)
 
   right : {s′ t′ u′ v′ : Bool} → s′ ≡ is-out → t′ ≡ is-unequal → u′ ≡ is-forbidden → v′ ≡ s .args .short
-      → found s′ t′ u′ v′ ≡ found is-out is-unequal is-forbidden (s .args .short)
-  right = by is-out is-unequal is-forbidden (s .args .short)
+      → ofFour 11 12 13 10 s′ t′ u′ v′ ≡ ofFour 11 12 13 10 is-out is-unequal is-forbidden (s .args .short)
+  right = by-tests 11 12 13 10 is-out is-unequal is-forbidden (s .args .short)
 
 returns : tie.Need-returns
 returns c = (right (c .before .before) (sym (c .if1 .taken) ∙ c .before .out-of-range .ensures) refl refl refl, λ e. absurd (omega arith))

@@ -1,19 +1,15 @@
 -- `decoder::run_system` meets its contract: the parts that are lent hold the code's system. Assumes nothing.
-use Rattle.integers.proofs.Prelude.{_≡_, sym, ap, ap₂, subst, _∙_, List, ℕ, _*_, needs, length, take, length-take-le}
+use Rattle.integers.proofs.Prelude.{_≡_, sym, ap, _∙_, List, ℕ, _*_, needs, length, take, length-take-le}
 use Rattle.lists.proofs.Parts.{lent-back}
-use Rattle.lists.proofs.Tabulated.{length-tab, take-written}
 use Rattle.quotient.specs.Quotient.{quotient}
-use Rattle.model.specs.Iteration.{occurrences, countsOf}
 use Rattle.model.proofs.Accepted.{accepted}
 use Rattle.model.specs.Sound.{Sound}
 use Rattle.model.specs.Run.{Ended, run}
 use Rattle.model.specs.Records.{codeOf}
-use Rattle.model.specs.Bounds.{Ready}
-use Rattle.model.specs.Code.{Code, triples, variables}
-use Rattle.model.specs.Splitting.{System, systemOf, Members}
+use Rattle.model.specs.Code.{Code}
+use Rattle.model.specs.Splitting.{System, systemOf}
 use Rattle.model.proofs.Causes.{in-range}
-use Rattle.model.proofs.Bounds.{ready}
-use Rattle.model.proofs.TripleRule.{members-long, members}
+use Rattle.triples.proofs.Lent.{triples-long, system-lent, members-lent, ready-lent, counts-lent, counts-long}
 use Rattle.decoder.proofs.run_system.Statement.{statement}
 use Rattle.decoder.proofs.run_system.Tie as tie
 
@@ -33,39 +29,15 @@ module _ (w : tie.After-write-system) where
   sound = accepted (s .args .code .now) (s .pre .0 .0)
 
   abbrev ts : List ℕ
-  ts = take (3 * s .args .total) (w .write-system .last .1 .1 .1 .0)
+  ts = w .write-system .last .1 .1 .1 .0
 
-  abbrev cs : List ℕ
-  cs = take (s .args .variables) (w .write-system .last .1 .1 .1 .1 .0)
+  ts-long : length (take (3 * s .args .total) ts) ≡ 3 * s .args .total
+  ts-long = triples-long k sound (s .args .total) (s .args .variables) (s .pre .0 .1) (s .pre .0 .2) ts (s .args .triples .now) (w .write-system .ensures .0)
 
-  abbrev n : ℕ
-  n = length (take (s .args .variables) (s .args .values .now))
-
-  ts-is : ts ≡ systemOf k .members
-  ts-is =
-      ap (take (3 * s .args .total)) (w .write-system .ensures .0)
-      ∙ take-written (systemOf k .members) (s .args .triples .now) (3 * s .args .total) (members-long k sound ∙ ap (λ (t : ℕ). 3 * t) (sym (s .pre .0 .1)))
-
-  length-counts : length (countsOf (systemOf k)) ≡ s .args .variables
-  unfolding countsOf systemOf
-  length-counts = length-tab (variables k) (occurrences (systemOf k .members) (systemOf k .triples)) ∙ sym (s .pre .0 .2)
-
-  cs-is : cs ≡ countsOf (systemOf k)
-  cs-is =
-      ap (take (s .args .variables)) (w .write-system .ensures .1)
-      ∙ take-written (countsOf (systemOf k)) (s .args .counts .now) (s .args .variables) length-counts
-
-  n-is : n ≡ s .args .variables
-  n-is = length-take-le (s .args .variables) (s .args .values .now) (s .pre .1 .1 .1 .1)
-
-  system-is : record { code = k; variables = n; triples = s .args .total; members = ts } ≡ systemOf k
-  unfolding systemOf
-  system-is =
-      ap₂ (λ (n t : ℕ). record { code = k; variables = n; triples = t; members = ts }) (n-is ∙ s .pre .0 .2) (s .pre .0 .1)
-      ∙ ap (λ (l : List ℕ). record { code = k; variables = variables k; triples = triples k; members = l }) ts-is
-
-  ts-long : length ts ≡ 3 * s .args .total
-  ts-long = ap length ts-is ∙ members-long k sound ∙ ap (λ (t : ℕ). 3 * t) (sym (s .pre .0 .1))
+  cs-long : length (take (s .args .variables) (w .write-system .last .1 .1 .1 .1 .0)) ≡ s .args .variables
+  cs-long =
+      counts-long k sound (s .args .total) (s .args .variables) (s .pre .0 .1) (s .pre .0 .2) ts (s .args .triples .now) (w .write-system .ensures .0)
+      (w .write-system .last .1 .1 .1 .1 .0) (s .args .counts .now) (w .write-system .ensures .1)
 
   sums-long : length (take (s .args .variables) (s .args .sums .now)) ≡ s .args .variables
   sums-long = length-take-le (s .args .variables) (s .args .sums .now) (s .pre .1 .1 .1 .0)
@@ -73,21 +45,21 @@ module _ (w : tie.After-write-system) where
   rows-long : length (take (4 * s .args .total) (s .args .rows .now)) ≡ 4 * s .args .total
   rows-long = length-take-le (4 * s .args .total) (s .args .rows .now) (s .pre .1 .1 .1 .2)
 
-  members-below : Members ts n
-  members-below =
-      subst (Members ts) (sym (n-is ∙ s .pre .0 .2)) (subst (λ (l : List ℕ). Members l (variables k)) (sym ts-is) (members k sound))
+  -- the run counts the variables by the values
+  abbrev n : ℕ
+  n = length (take (s .args .variables) (s .args .values .now))
 
-  is-ready : Ready n ts (s .args .total) (s .args .settings) (s .args .costs .now)
-  unfolding systemOf
-  is-ready =
-      subst (λ (h : System). Ready (h .variables) (h .members) (h .triples) (s .args .settings) (s .args .costs .now)) (sym system-is)
-      (ready k sound (s .args .settings) (s .pre .1 .0 .0) (s .args .costs .now) (s .pre .1 .0 .1) (s .pre .1 .0 .2))
+  n-is : n ≡ s .args .variables
+  n-is = length-take-le (s .args .variables) (s .args .values .now) (s .pre .1 .1 .1 .1)
+
+  system-is : record { code = k; variables = n; triples = s .args .total; members = take (3 * s .args .total) ts } ≡ systemOf k
+  system-is = system-lent k sound (s .args .total) n (s .pre .0 .1) (n-is ∙ s .pre .0 .2) ts (s .args .triples .now) (w .write-system .ensures .0)
 
 slice-aggregate-run : tie.Need-slice-aggregate-run
 slice-aggregate-run c = sym (ts-long (c .before .before .before .before .before))
 
 slice-aggregate-run-2 : tie.Need-slice-aggregate-run-2
-slice-aggregate-run-2 c = let w = c .before .before .before .before .before .before in sym (ap length (cs-is w) ∙ length-counts w)
+slice-aggregate-run-2 c = sym (cs-long (c .before .before .before .before .before .before))
 
 slice-aggregate-run-3 : tie.Need-slice-aggregate-run-3
 slice-aggregate-run-3 c = sym (sums-long (c .before .before .before .before .before .before .before))
@@ -99,19 +71,22 @@ slice-aggregate-run-5 : tie.Need-slice-aggregate-run-5
 slice-aggregate-run-5 c = sym (rows-long (c .before .before .before .before .before .before .before .before .before))
 
 run-requires : tie.Need-run-requires
-unfolding countsOf
 run-requires c κs =
     let w = c .before .before .before .before .before .before .before .before .before in
+    let p = s w .pre in
     let a = s w .args in (
       record {
         members = sym (ts-long w);
         sums = sums-long w ∙ sym (n-is w);
         rows = sym (rows-long w);
-        below = members-below w;
-        counted = cs-is w ∙ ap countsOf (sym (system-is w));
-        ready = is-ready w;
+        below = members-lent (k w) (sound w) (a .total) (n w) (p .0 .1) (n-is w ∙ p .0 .2) (ts w) (a .triples .now) (w .write-system .ensures .0);
+        counted = ap (λ (n : ℕ). take n (w .write-system .last .1 .1 .1 .1 .0)) (sym (n-is w))
+            ∙ counts-lent (k w) (sound w) (a .total) (n w) (p .0 .1) (n-is w ∙ p .0 .2) (ts w) (a .triples .now) (w .write-system .ensures .0) _ (a .counts .now)
+            (w .write-system .ensures .1);
+        ready = ready-lent (k w) (sound w) (a .total) (n w) (p .0 .1) (n-is w ∙ p .0 .2) (ts w) (a .triples .now) (w .write-system .ensures .0) (a .settings) (p .1 .0 .0)
+            (a .costs .now) (p .1 .0 .1) (p .1 .0 .2);
       },
-      in-range (a .settings) .0 (s w .pre .1 .0 .0) .limit,
+      in-range (a .settings) .0 (p .1 .0 .0) .limit,
     )
 
 returns : tie.Need-returns
