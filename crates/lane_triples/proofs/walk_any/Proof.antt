@@ -1,8 +1,8 @@
 -- `lane_triples::walk_any` meets its contract: the lanes before l have the triple done, those from l on have not. Assumes nothing.
-use Rattle.integers.proofs.Prelude.{_≡_, ap, subst, _∙_, false, List, ℕ, suc, _+_, _-_, _*_, _^_, _≤_, _<_, arith, add-one, eqb-false, eqb, ℤ, length}
+use Rattle.integers.proofs.Prelude.{_≡_, ap, subst, _∙_, false, ℕ, suc, _+_, _-_, _*_, _≤_, _<_, arith, add-one, eqb-false, eqb, length}
 use Rattle.lists.proofs.Tabulated.{length-tab}
 use Rattle.model.specs.Limits.{mostTriples, mostVariables}
-use Rattle.model.specs.Splitting.{blank, member}
+use Rattle.model.specs.Splitting.{blank}
 use Rattle.model.specs.Iteration.{occurrences}
 use Rattle.lanes.specs.Lanes.{valuesAt, sumsAt}
 use Rattle.lane_triples.specs.Step.{Places, anyPlaces}
