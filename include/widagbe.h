@@ -6,7 +6,7 @@
  * Lists
  *   A list is a pointer and its number of entries, not of bytes. Code, text, costs, samples, words and messages are whole lists:
  *   their length is exact (else 12; for a code 1 or 9, for a text 18). Lists that a call fills may be longer than needed: the
- *   entries past those needed stay as they were. One that is too short is refused with 10.
+ *   entries past those needed stay as they were, but those of a group's work list. One that is too short is refused with 10.
  *
  *   The sizes of a code are n (bits), m (checks), T (triples: degree - 2 for each check, but 1 for a check of two bits) and V
  *   (variables):
@@ -17,9 +17,10 @@
  *   below are always enough.
  *
  * Answers
- *   Every call answers with a number: 0, or one of enum widagbe_number. A call refused with 1 to 15 or 18 to 20 leaves every list
+ *   Every call answers with a number: 0, or one of enum widagbe_number. A call refused with 1 to 15 or 18 to 21 leaves every list
  *   as it was, and all other fields of its answer are 0. Where more than one cause holds, the first in this order is told: 18,
- *   19, those of the records (1 to 6 as they are read, then 9, 7, 8), then 20, 11, 12, 13, 14, 15, 10, and last 16 and 17.
+ *   19, those of the records (1 to 6 as they are read, then 9, 7, 8), then 20, 11, 21, 12, 13, 14, 15, 10, and last 16 and 17.
+ *   Of a group of frames, 13, 16 and 17 belong to one frame and never to the group (widagbe_decode_group).
  *
  * What the caller owes
  *   - No pointer is null, also where the length is 0; each is aligned for its type.
@@ -28,7 +29,8 @@
  *   - Nothing else writes to any list of a call, or reads a list that it fills, until the call returns.
  *   No call keeps a pointer, allocates memory or has state of its own: calls in different threads do not disturb each other.
  *   A call needs less than 16 kilobytes of stack, but widagbe_import, which needs less than 272, widagbe_export and
- *   widagbe_export_size, which need less than 56, and the functions of the encoder, which need less than 80.
+ *   widagbe_export_size, which need less than 56, the functions of the encoder, which need less than 80, and
+ *   widagbe_decode_group, which needs less than 64 kilobytes.
  */
 #ifndef WIDAGBE_H
 #define WIDAGBE_H
@@ -55,6 +57,10 @@ extern "C" {
 /* The most bits of a code that the encoder takes. */
 #define WIDAGBE_MAX_ENCODED_BITS 256
 
+/* The most frames of a group, and entries of a work list that are enough for every group. */
+#define WIDAGBE_MAX_FRAMES 8
+#define WIDAGBE_MAX_WORK 655360
+
 enum widagbe_number {
     WIDAGBE_OK = 0,
     WIDAGBE_CUT = 1,              /* the bytes end inside a record */
@@ -76,7 +82,8 @@ enum widagbe_number {
     WIDAGBE_NOT_A_CODEWORD = 17,  /* a check has an odd sum */
     WIDAGBE_NOT_ALIST = 18,       /* a text that is no alist file */
     WIDAGBE_PLACES_DIFFER = 19,   /* columns and rows of a text do not name the same places, each equally often */
-    WIDAGBE_TOO_LONG = 20         /* a code of more than 256 bits, for the encoder */
+    WIDAGBE_TOO_LONG = 20,        /* a code of more than 256 bits, for the encoder */
+    WIDAGBE_FRAMES = 21           /* a group of no frames, or of more than 8 */
 };
 
 /*
@@ -322,6 +329,48 @@ widagbe_decode_answer widagbe_decode(const uint8_t *code, size_t code_len,
                                      int16_t *values, size_t values_len,
                                      int32_t *rows, size_t rows_len,
                                      uint8_t *word, size_t word_len);
+
+/*
+ * number 0: an answer for each frame of the group, 13 for one with a cost of -32768. The answers past the given frames, and all
+ * eight of a refused group, are 0 in every field.
+ */
+typedef struct {
+    uint32_t number;
+    widagbe_decode_answer frames[WIDAGBE_MAX_FRAMES];
+} widagbe_group_answer;
+
+/*
+ * Decodes up to eight frames of one code with the same settings: each walk through the code takes every frame that still runs one
+ * iteration on. A frame's answer and its parts of the lists are what widagbe_decode gives for its costs alone, whatever the other
+ * frames are. In each list that is kept per frame the frames stand one behind the other: of a list with size entries for each,
+ * those of frame f, from 0, begin at f * size.
+ *   weight, ratio, limit, tolerance  as widagbe_decode takes them, for all frames
+ *   frames     F, 1 to 8 (WIDAGBE_MAX_FRAMES): how many frames are given
+ *   costs      n F entries: n for each frame
+ *   triples    3T entries, as widagbe_split fills it, once for the group
+ *   counts     V entries, as widagbe_split fills it, once for the group
+ *   sums       V F entries: V for each frame
+ *   values     V F entries: V for each frame
+ *   rows       4T F entries: 4T for each frame
+ *   word       n F entries: n for each frame; a frame's part is written where its number is 0 only
+ *   work       L (4T + 3V + 3n) entries, where L is 4 for up to 4 frames and 8 for more; never above WIDAGBE_MAX_WORK. What it
+ *              held before does not matter, and what all of it holds after an accepted call is open
+ * A frame with a cost of -32768 gets the number 13 in its answer, and its parts of sums, values, rows and word stay as they were;
+ * the others are decoded. Triples and counts are filled and the group's number is 0, even if every frame has 13. A list that is
+ * too short, the work list too, refuses the group with 10, also where a cost is -32768.
+ * Numbers: 0 to 12, 21; 10 comes last of them. Numbers of a frame: 0, 13, 16, 17.
+ */
+widagbe_group_answer widagbe_decode_group(const uint8_t *code, size_t code_len,
+                                          uint32_t weight, uint32_t ratio, uint32_t limit, uint32_t tolerance,
+                                          size_t frames,
+                                          const int16_t *costs, size_t costs_len,
+                                          uint16_t *triples, size_t triples_len,
+                                          uint16_t *counts, size_t counts_len,
+                                          int64_t *sums, size_t sums_len,
+                                          int16_t *values, size_t values_len,
+                                          int32_t *rows, size_t rows_len,
+                                          uint8_t *word, size_t word_len,
+                                          int32_t *work, size_t work_len);
 
 #ifdef __cplusplus
 }

@@ -20,7 +20,7 @@ fn setting(x: usize) -> u32 {
     (x % 4294967296) as u32
 }
 
-fn settings(s: &[u8]) -> Settings {
+pub fn settings(s: &[u8]) -> Settings {
     let mut x = [0usize; 8];
     numbers(s, 10, &mut x);
     Settings {
@@ -157,7 +157,7 @@ fn decode(code: &[u8], settings: Settings, costs: &[i16], room: [usize; 8]) {
     each_list(lists, room);
 }
 
-fn each_list(lists: Lists, room: [usize; 8]) {
+pub fn each_list(lists: Lists, room: [usize; 8]) {
     list(b", triples", lists, Which::Triples, room[0]);
     list(b", counts", lists, Which::Counts, room[1]);
     list(b", S", lists, Which::Sums, room[2]);

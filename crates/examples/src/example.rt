@@ -4,6 +4,7 @@ use crate::code_calls;
 use crate::cost_calls;
 use crate::decoder_calls;
 use crate::encoder_calls;
+use crate::group_calls;
 use crate::show::text;
 use model::Channel;
 
@@ -52,6 +53,8 @@ pub enum Example {
     DecodingCode,
     // code, of three bits, settings, costs: counts, S and c in lists of 65,536 entries
     DecodingLong,
+    // settings, frames, their number and the room of all seven lists
+    Grouping,
 }
 
 pub fn run(label: &[u8], x: &[u8], y: &[u8], z: &[u8], u: &[u8], example: Example) {
@@ -82,6 +85,7 @@ pub fn run(label: &[u8], x: &[u8], y: &[u8], z: &[u8], u: &[u8], example: Exampl
         Example::Decoding(mark) => decoder_calls::decoding(x, y, z, mark),
         Example::DecodingCode => decoder_calls::decoding_code(x, y, z, u),
         Example::DecodingLong => decoder_calls::decoding_long(x, y, z),
+        Example::Grouping => group_calls::grouping(x, y, z),
     }
     text(b"\n");
 }

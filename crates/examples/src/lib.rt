@@ -5,6 +5,7 @@ mod cost_calls;
 mod decoder_calls;
 mod encoder_calls;
 mod example;
+mod group_calls;
 mod show;
 mod table;
 

@@ -4,6 +4,7 @@ mod codewords;
 mod decoding;
 mod encoding;
 mod front;
+mod groups;
 mod pairs;
 mod reader;
 mod reflection;
@@ -18,4 +19,5 @@ fn main() {
     encoding::run();
     decoding::run();
     pairs::run();
+    groups::run();
 }

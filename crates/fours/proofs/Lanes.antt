@@ -4,7 +4,11 @@ use Rattle.integers.proofs.Prelude.{List·getD-eq-default, w32}
 use native.Mathlib.Nat.{lt-of-le-of-lt}
 use lib.Dec.{ltb→lt}
 use lib.Signed.{mag}
-use mir.Val.{hbits}
+use mir.Val.{Val, hbits}
+use denote.Laws.{Is}
+use denote.Array.{Array}
+use denote.Signed.{SInt}
+use borrow.Kind.Array.{eSInt, good-length}
 use Rattle.integers.proofs.Linear.{abs-add, abs-sub}
 use Rattle.integers.proofs.Machine.{Worth, stored, read-back, param}
 use Rattle.lists.specs.Tabulated.{tab}
@@ -37,8 +41,15 @@ pub record Lanes (l : List ℤ) (f : ℕ → ℤ) (n : ℕ) : Type 0 where
   pub is : l ≡ tab 4 f
   pub within : (k : ℕ) → natAbs (at l k) ≤ n
 
-pub given : (l : List ℤ) (n : ℕ) → length l ≡ 4 → ((k : ℕ) → natAbs (at l k) ≤ n) → Lanes l (at l) n
-given l n e h = record { is = sym (tab-getD l (pos 0)) ∙ ap (λ (m : ℕ). tab m (at l)) e; within = h }
+-- a parameter, of which the toolchain knows that it is an array of four
+abbrev pub Parameter : List ℤ → List Val → Type 0
+Parameter l vs = Is (Array (SInt w32) 4) l vs
+
+long : (l : List ℤ) {vs : List Val} → Parameter l vs → length l ≡ 4
+long l {vs} = good-length (eSInt w32) 4 l vs
+
+pub given : (l : List ℤ) (n : ℕ) {vs : List Val} → Parameter l vs → ((k : ℕ) → natAbs (at l k) ≤ n) → Lanes l (at l) n
+given l n p h = record { is = sym (tab-getD l (pos 0)) ∙ ap (λ (m : ℕ). tab m (at l)) (long l p); within = h }
 
 pub told : {l : List ℤ} (f : ℕ → ℤ) (n : ℕ) → l ≡ tab 4 f → ((k : ℕ) → natAbs (f k) ≤ n) → Lanes l f n
 told f n e h = record { is = e; within = small-are n f e (λ k _. h k) }
@@ -49,13 +60,13 @@ module _ {a b : List ℤ} {f g : ℕ → ℤ} {m n : ℕ} (u : Lanes a f m) (v :
   room t k = lt-of-le-of-lt (omega (arith, u .within k, v .within k)) (ltb→lt (m + n) (2 ^ 31) t)
 
 -- and one of entries of a list, of which nothing is known but of these four: past them both are 0
-pub room-of : {a : List ℤ} (b : List ℤ) (f : ℕ → ℤ) → a ≡ tab 4 f → length b ≡ 4 → ((k : ℕ) → k < 4 → natAbs (f k) + natAbs (at b k) < 2 ^ 31)
+pub room-of : {a : List ℤ} (b : List ℤ) (f : ℕ → ℤ) {vs : List Val} → a ≡ tab 4 f → Parameter b vs → ((k : ℕ) → k < 4 → natAbs (f k) + natAbs (at b k) < 2 ^ 31)
     → (k : ℕ) → natAbs (at a k) + natAbs (at b k) < 2 ^ 31
-room-of b f e long h k = rw e (by (decLt k 4))
+room-of b f e p h k = rw e (by (decLt k 4))
   where
     by : Dec (k < 4) → natAbs (at (tab 4 f) k) + natAbs (at b k) < 2 ^ 31
     by (yes l) = rw (getD-tab 4 f k (pos 0) l) (h k l)
-    by (no l) = rw (List·getD-eq-default (tab 4 f) (pos 0) {n = k} (omega (arith, length-tab 4 f)), List·getD-eq-default b (pos 0) {n = k} (omega (arith, long))) (omega arith)
+    by (no l) = rw (List·getD-eq-default (tab 4 f) (pos 0) {n = k} (omega (arith, length-tab 4 f)), List·getD-eq-default b (pos 0) {n = k} (omega (arith, long b p))) (omega arith)
 
 -- ---- by an operation that is `_+ℤ_` or `_-ℤ_`
 module _ (op : ℤ → ℤ → ℤ) (small : (a b : ℤ) → natAbs (op a b) ≤ natAbs a + natAbs b) where

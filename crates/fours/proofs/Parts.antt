@@ -1,5 +1,5 @@
 -- The two parts of a number: x / 2^14, rounded down, and what x has more than 2^14 times that. Assumes nothing.
-use Rattle.integers.proofs.Prelude.{ℕ, _*_, _^_, _≤_, arith, ℤ, pos, negsuc, natAbs, _-ℤ_, _*ℤ_}
+use Rattle.integers.proofs.Prelude.{_*_, _^_, _≤_, arith, ℤ, pos, negsuc, natAbs, _-ℤ_, _*ℤ_}
 use lib.Signed.{shrZ}
 use Rattle.integers.proofs.Linear.{toℕ}
 use Rattle.model.specs.Limits.{mostRow}

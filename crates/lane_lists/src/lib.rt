@@ -67,7 +67,7 @@ pub fn take_rows(work: &[i32], p: Plan, l: usize, rows: &mut [i32])
 
 // A raised value, as it is.
 fn lowered(x: i32) -> i16
-    requires { ⌜ natAbs x ≤ 2 * unit × (pos 0 ≤ℤ x) ⌝ }
+    requires { ⌜ (pos 0 ≤ℤ x) × (natAbs x ≤ 2 * unit) ⌝ }
     ensures { λ c. ⌜ c ≡ x -ℤ pos unit ⌝ }
 {
     (x - 16384) as i16
@@ -87,7 +87,6 @@ pub fn take_values(work: &[i32], p: Plan, l: usize, values: &mut [i16])
 
 // S from its two parts.
 fn whole(low: i32, high: i32) -> i64
-    requires { ⌜ natAbs high ≤ 2 ^ 31 ⌝ }
     ensures { λ z. ⌜ z ≡ low +ℤ pos (2 ^ 14) *ℤ high ⌝ }
 {
     (low as i64) + 16384 * (high as i64)

@@ -1,1 +1,3 @@
 pub mod Valued
+pub mod Stored
+pub mod Places

@@ -5,7 +5,7 @@ use Prim.Native.Nat.{ℕ, _+_, _-_, _*_, _≤_, _<_}
 use lib.IntN.{ℤ, pos, negℤ, natAbs, _+ℤ_, _*ℤ_}
 use lib.ListN.{length, getD}
 use Rattle.quotient.specs.Quotient.{unit, quotient}
-use Rattle.quotient.specs.Prepared.{Narrowed}
+use Rattle.quotient.specs.Narrowed.{Narrowed}
 use Rattle.model.specs.Limits.{mostChecks, mostWeight, mostCost}
 use Rattle.model.specs.Iteration.{at, divisor}
 use Rattle.lanes.specs.declared.Plan.{Plan}

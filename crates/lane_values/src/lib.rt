@@ -1,17 +1,19 @@
 // c of all variables (document 01, 'One iteration') in all lanes of a group. Variables in 2 to 8 triples are divided by 32-bit factors; the others as in a single
 // run, one lane after the other.
+ghost use mathlib.Core.List.{[], _∷_};
 ghost use mathlib.Core.Path.{_≡_};
 ghost use Prim.Native.Nat.{ℕ, _+_, _-_, _*_, _^_, _≤_, _<_};
-ghost use lib.IntN.{ℤ, pos, negℤ, natAbs, _+ℤ_, _*ℤ_};
+ghost use lib.IntN.{ℤ, pos, natAbs, _+ℤ_, _*ℤ_};
 ghost use lib.ListN.{length, getD};
-ghost use lib.Signed.{_≤ℤ_};
-ghost use Rattle.quotient.specs.Quotient.{unit, quotient};
-ghost use Rattle.quotient.specs.Prepared.{Narrowed};
-ghost use Rattle.model.specs.Limits.{mostRatio, mostChecks};
+ghost use Rattle.quotient.specs.Quotient.{unit};
+ghost use Rattle.quotient.specs.Narrowed.{Narrowed};
+ghost use Rattle.model.specs.Limits.{mostChecks, mostWeight, mostRatio, mostCost, mostNumerator};
 ghost use Rattle.model.specs.Iteration.{at, divisor};
 ghost use Rattle.values.specs.Divisors.{Tables};
-ghost use Rattle.lanes.specs.Lanes.{Fits, SumsKept, mostNarrow};
+ghost use Rattle.lanes.specs.Lanes.{Fits, SumsKept};
+ghost use Rattle.lane_values.specs.Stored.{Parts, Stored};
 ghost use Rattle.lane_values.specs.Valued.{NarrowTables, Counted, WeighedWithin, LaneValued};
+ghost use Rattle.lane_values.specs.Places.{whole, wideValue, narrowValue, auxiliaryValue, wideParts, bitParts, bitValue, Entries};
 use lanes::Plan;
 
 // Up to so many triples a sum and its divisor are narrow.
@@ -45,7 +47,14 @@ fn write_narrow(
     limit: i32,
     inverse: u32,
     raise: u64,
-) {
+)
+    requires { ⌜ (from ≤ to) × Parts to (length (now work)) (values ∷ next ∷ sums ∷ weighed ∷ []) ⌝ }
+    requires { ⌜ ((i : ℕ) → from ≤ i → i < to
+        → (natAbs (at (now work) (sums + i)) ≤ 2 ^ 31 - 2 ^ 24) × (natAbs (at (now work) (weighed + i)) ≤ mostWeight * mostCost)) ⌝ }
+    requires { ⌜ ((den : ℤ) × Narrowed den limit inverse raise) ⌝ }
+    ensures { λ _. ⌜ ((den : ℤ) → Narrowed den limit inverse raise
+        → Stored 2 (values ∷ next ∷ sums ∷ weighed ∷ []) (narrowValue (now (work .entry)) sums weighed den) from to (now (work .entry)) (now (work .exit))) ⌝ }
+{
     for i in from..to {
         let s = work[sums + i];
         let w = work[weighed + i];
@@ -65,7 +74,13 @@ fn write_auxiliaries(
     limit: i32,
     inverse: u32,
     raise: u64,
-) {
+)
+    requires { ⌜ (from ≤ to) × Parts to (length (now work)) (values ∷ next ∷ sums ∷ []) ⌝ }
+    requires { ⌜ ((i : ℕ) → from ≤ i → i < to → natAbs (at (now work) (sums + i)) ≤ 2 ^ 31 - 2 ^ 24) ⌝ }
+    requires { ⌜ ((den : ℤ) × Narrowed den limit inverse raise) ⌝ }
+    ensures { λ _. ⌜ ((den : ℤ) → Narrowed den limit inverse raise
+        → Stored 2 (values ∷ next ∷ sums ∷ []) (auxiliaryValue (now (work .entry)) sums den) from to (now (work .entry)) (now (work .exit))) ⌝ }
+{
     for i in from..to {
         let s = work[sums + i];
         work[values + i] = quotient::divide_narrow(s, 0, limit, inverse, raise);
@@ -74,12 +89,16 @@ fn write_auxiliaries(
 }
 
 // "256 × S + W × L", of the two parts of S.
-fn weighed_whole(low: i32, high: i32, weighed: i32) -> i64 {
+fn weighed_whole(low: i32, high: i32, weighed: i32) -> i64
+    ensures { λ z. ⌜ z ≡ pos 256 *ℤ (low +ℤ pos (2 ^ 14) *ℤ high) +ℤ weighed ⌝ }
+{
     256 * ((low as i64) + 16384 * (high as i64)) + (weighed as i64)
 }
 
 // A value, raised by U.
-fn raised(c: i16) -> i32 {
+fn raised(c: i16) -> i32
+    ensures { λ r. ⌜ r ≡ c +ℤ pos unit ⌝ }
+{
     (c as i32) + 16384
 }
 
@@ -97,7 +116,13 @@ fn write_wide(
     ratio: u32,
     limits: &[i64],
     inverses: &[i64],
-) {
+)
+    requires { ⌜ (from ≤ to) × Parts to (length (now work)) (wideParts values next sums apart weighed) ⌝ }
+    requires { ⌜ ((i : ℕ) → from ≤ i → i < to → natAbs (whole (now work) sums (sums + apart) weighed i) ≤ mostNumerator) ⌝ }
+    requires { ⌜ (1 ≤ count) × (count ≤ mostChecks) × (ratio ≤ mostRatio) × Tables ratio (now limits) (now inverses) ⌝ }
+    ensures { λ _. ⌜ Stored 3 (wideParts values next sums apart weighed)
+        (wideValue (now (work .entry)) sums (sums + apart) weighed (divisor (4 * count) ratio)) from to (now (work .entry)) (now (work .exit)) ⌝ }
+{
     for i in from..to {
         let x = weighed_whole(work[sums + i], work[sums + apart + i], work[weighed + i]);
         work[values + i] = raised(values::divide(x, count, ratio, limits, inverses));
@@ -125,8 +150,8 @@ fn same_until(counts: &[u16], v: usize, end: usize) -> usize
 fn write_bits(
     counts: &[u16],
     ratio: u32,
-    narrow_limits: &[i32],
-    narrow_inverses: &[u32],
+    limits32: &[i32],
+    inverses32: &[u32],
     raises: &[u64],
     limits: &[i64],
     inverses: &[i64],
@@ -135,7 +160,15 @@ fn write_bits(
     v: usize,
     end: usize,
     work: &mut [i32],
-) {
+)
+    requires { ⌜ Fits p (now work) × (i ≤ 1) × (ratio ≤ mostRatio) × Counted p (now counts) ⌝ }
+    requires { ⌜ (length (now limits32) ≡ 9) × (length (now inverses32) ≡ 9) × (length (now raises) ≡ 9) ⌝ }
+    requires { ⌜ NarrowTables ratio (now limits32) (now inverses32) (now raises) × Tables ratio (now limits) (now inverses) ⌝ }
+    requires { ⌜ (v < end) × (end ≤ p .bits) × ((u : ℕ) → v ≤ u → u < end → getD (now counts) u 0 ≡ getD (now counts) v 0) ⌝ }
+    requires { ⌜ Entries p (now counts) i (now work) (p .lanes * v) (p .lanes * end) ⌝ }
+    ensures { λ _. ⌜ Stored 3 (bitParts p i) (bitValue p (now (counts .entry)) ratio i (now (work .entry))) (p .lanes * v) (p .lanes * end)
+        (now (work .entry)) (now (work .exit)) ⌝ }
+{
     let count = slices::index(counts[v]);
     let weighed = lanes::weighed_at(p);
     let sums = lanes::sums_at(p, i);
@@ -152,8 +185,8 @@ fn write_bits(
             next,
             from,
             to,
-            narrow_limits[count],
-            narrow_inverses[count],
+            limits32[count],
+            inverses32[count],
             raises[count],
         );
     } else {
@@ -178,23 +211,30 @@ fn write_bits(
 fn write_all_bits(
     counts: &[u16],
     ratio: u32,
-    narrow_limits: &[i32],
-    narrow_inverses: &[u32],
+    limits32: &[i32],
+    inverses32: &[u32],
     raises: &[u64],
     limits: &[i64],
     inverses: &[i64],
     p: Plan,
     i: usize,
     work: &mut [i32],
-) {
+)
+    requires { ⌜ Fits p (now work) × (i ≤ 1) × (ratio ≤ mostRatio) × Counted p (now counts) ⌝ }
+    requires { ⌜ (length (now limits32) ≡ 9) × (length (now inverses32) ≡ 9) × (length (now raises) ≡ 9) ⌝ }
+    requires { ⌜ NarrowTables ratio (now limits32) (now inverses32) (now raises) × Tables ratio (now limits) (now inverses) ⌝ }
+    requires { ⌜ Entries p (now counts) i (now work) 0 (p .lanes * p .bits) ⌝ }
+    ensures { λ _. ⌜ Stored 3 (bitParts p i) (bitValue p (now (counts .entry)) ratio i (now (work .entry))) 0 (p .lanes * p .bits)
+        (now (work .entry)) (now (work .exit)) ⌝ }
+{
     let mut v = 0;
     while v < p.bits {
         let end = same_until(counts, v, p.bits);
         write_bits(
             counts,
             ratio,
-            narrow_limits,
-            narrow_inverses,
+            limits32,
+            inverses32,
             raises,
             limits,
             inverses,
@@ -212,8 +252,8 @@ fn write_all_bits(
 pub fn write_values(
     counts: &[u16],
     ratio: u32,
-    narrow_limits: &[i32],
-    narrow_inverses: &[u32],
+    limits32: &[i32],
+    inverses32: &[u32],
     raises: &[u64],
     limits: &[i64],
     inverses: &[i64],
@@ -222,8 +262,8 @@ pub fn write_values(
     work: &mut [i32],
 )
     requires { ⌜ Fits p (now work) × (i ≤ 1) × (ratio ≤ mostRatio) × Counted p (now counts) ⌝ }
-    requires { ⌜ (length (now narrow_limits) ≡ 9) × (length (now narrow_inverses) ≡ 9) × (length (now raises) ≡ 9) ⌝ }
-    requires { ⌜ NarrowTables ratio (now narrow_limits) (now narrow_inverses) (now raises) × Tables ratio (now limits) (now inverses) ⌝ }
+    requires { ⌜ (length (now limits32) ≡ 9) × (length (now inverses32) ≡ 9) × (length (now raises) ≡ 9) ⌝ }
+    requires { ⌜ NarrowTables ratio (now limits32) (now inverses32) (now raises) × Tables ratio (now limits) (now inverses) ⌝ }
     requires { ⌜ ((l : ℕ) → l < p .lanes
         → SumsKept p (now counts) 0 (now work) l × SumsKept p (now counts) 1 (now work) l × WeighedWithin p (now work) l) ⌝ }
     ensures { λ _. ⌜ Fits p (now (work .exit)) ⌝ }
@@ -232,8 +272,8 @@ pub fn write_values(
     write_all_bits(
         counts,
         ratio,
-        narrow_limits,
-        narrow_inverses,
+        limits32,
+        inverses32,
         raises,
         limits,
         inverses,
@@ -248,8 +288,8 @@ pub fn write_values(
         lanes::sums_at(p, 1 - i),
         p.lanes * p.bits,
         p.lanes * p.variables,
-        narrow_limits[2],
-        narrow_inverses[2],
+        limits32[2],
+        inverses32[2],
         raises[2],
     );
 }

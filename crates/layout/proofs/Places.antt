@@ -1,6 +1,6 @@
 -- Where the rows stand. Assumes nothing.
 use Rattle.integers.proofs.Prelude.{_≡_, refl, ap, subst, _∙_, List, [], ℕ, suc, _+_, _-_, _*_, _/_, _%_, _≤_, _<_, arith, decLt, lt-ltb, le-ltb, ℤ, pos}
-use Rattle.integers.proofs.Prelude.{natAbs, length, getD, List·getD-eq-default, sets}
+use Rattle.integers.proofs.Prelude.{natAbs, length, List·getD-eq-default, sets}
 use Rattle.lists.specs.Tabulated.{tab, over}
 use Rattle.lists.proofs.Tabulated.{length-tab, getD-tab, tab-same, over-sets}
 use Rattle.model.specs.Limits.{mostSlack, mostMultiplier, mostRow}

@@ -7,6 +7,7 @@ use Rattle.integers.specs.Sum.{sumℕ, sumℤ}
 use Rattle.integers.proofs.Linear.{toℕ, about, about-sum, abs-neg, abs-add, abs-mul, abs-difference}
 use Rattle.integers.proofs.Sums.{sumℕ-same, sumℕ-scale, sumℕ-bound, sumℤ-bound}
 use Rattle.lists.specs.Tabulated.{tab}
+use Rattle.lists.proofs.Tabulated.{getD-tab}
 use Rattle.quotient.specs.Quotient.{unit, quotient}
 use Rattle.quotient.specs.Quotient.Laws.{quotient-range}
 use Rattle.model.specs.declared.Settings.{Settings}
@@ -21,7 +22,7 @@ use Rattle.model.specs.Run.{squareOfChange, changes, start, after}
 use Rattle.model.specs.Bounds.{RowsWithin, Ready, Bounds, Margins}
 use Rattle.model.proofs.Causes.{in-range, within}
 use Rattle.model.proofs.TripleRule.{occurs-some, occurs-few}
-use Rattle.model.proofs.Rows.{signed-abs, at-tab, none, row-renewed, value-small}
+use Rattle.model.proofs.Rows.{signed-abs, at-tab, none, renewed-at, value-small}
 
 -- ---- the four sums, and a row's renewal
 pub rowSum-bound : (r : ℕ) (a b c : ℤ) → r < 4 → natAbs a ≤ unit → natAbs b ≤ unit → natAbs c ≤ unit → natAbs (rowSum r a b c) ≤ 49152
@@ -89,6 +90,17 @@ divisor-above e A h k = simp toℕ (omega arith)
 pub divisor-below : (e A m : ℕ) → e ≤ m → divisor (4 * e) A ≤ℤ pos (1024 * m)
 divisor-below e A m h = simp toℕ (omega arith)
 
+-- ---- both totals of the changes of rows that are renewed with any values within U
+module _ (ts : List ℕ) (s c : List ℤ) (value : (v : ℕ) → natAbs (at c v) ≤ unit) where
+  pub totals-renewed : (T n : ℕ) → T ≤ mostTriples → RowsWithin n s → let new = tab (4 * T) (renewedAt ts s c) in (changes multiplier T s new ≤ 2 ^ 47) × (changes slack T s new ≤ 2 ^ 47)
+  totals-renewed T n few within =
+      let new = tab (4 * T) (renewedAt ts s c) in (
+        changes-bound multiplier T s new few (λ t r l k.
+            rw (getD-tab (4 * T) (renewedAt ts s c) (4 * t + r) (pos 0) (omega arith), renewed-at ts s c t r k) (multiplier-change (row s t r) (sumAt ts c t r) (sumAt-small ts c value t r k))),
+        changes-bound slack T s new few (λ t r l k.
+            abs-difference (slack (row new t r)) (slack (row s t r)) 65536 (omega (arith, renewed-within ts c value n T s within .slacks (4 * t + r))) (omega (arith, within .slacks (4 * t + r)))),
+      )
+
 -- ---- one iteration: the values and the rows, whatever the settings and costs
 module _ (g : System) (o : Settings) (costs : List ℤ) (a : State) where
   abbrev e : ℕ → ℕ
@@ -152,6 +164,10 @@ module _ (g : System) (o : Settings) (costs : List ℤ) (n : ℕ) (a : State) (r
       let m : natAbs (pos (o .weight) *ℤ y) ≤ mostWeight * mostCost = rw abs-mul (mul-le-mul (ready .weight) (ready .cost v)) in
       rw (abs-neg (pos 256 *ℤ x +ℤ pos (o .weight) *ℤ y)) (omega (arith, abs-add (pos 256 *ℤ x) (pos (o .weight) *ℤ y), abs-mul (pos 256) x, sums h v))
 
+  totals : (changes multiplier (g .triples) (a .rows) (b′ .rows) ≤ 2 ^ 47) × (changes slack (g .triples) (a .rows) (b′ .rows) ≤ 2 ^ 47)
+  unfolding iterate rowsOf
+  totals = totals-renewed (g .members) (a .rows) (b′ .values) (values g o costs a) (g .triples) n (ready .triples) within
+
   pub bounds : Bounds g o costs n a
   unfolding iterate
   bounds = record {
@@ -161,8 +177,8 @@ module _ (g : System) (o : Settings) (costs : List ℤ) (n : ℕ) (a : State) (r
     numerators = numerators;
     values = values g o costs a;
     rows = rows g o costs a n within;
-    multiplier-total = changes-bound multiplier (g .triples) (a .rows) (b′ .rows) (ready .triples) (λ t r l k. rw (row-renewed g (a .rows) (b′ .values) t r l k) (multiplier-change (row (a .rows) t r) (sumAt (g .members) (b′ .values) t r) (sumAt-small (g .members) (b′ .values) (values g o costs a) t r k)));
-    slack-total = changes-bound slack (g .triples) (a .rows) (b′ .rows) (ready .triples) (λ t r l k. abs-difference (slack (row (b′ .rows) t r)) (slack (row (a .rows) t r)) 65536 (omega (arith, rows g o costs a n within .slacks (4 * t + r))) (omega (arith, within .slacks (4 * t + r))));
+    multiplier-total = totals .0;
+    slack-total = totals .1;
   }
 
 -- ---- after n iterations

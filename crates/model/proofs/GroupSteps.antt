@@ -15,20 +15,20 @@ module _ (g : System) (o : Settings) (costs : List ℤ) where
   abbrev next : State → State
   next a = iterate quotient g o costs a
 
-  -- a frame that runs, after k iterations, and one that has stopped
-  abbrev runs : ℕ → ℕ → State → Frame
+  -- a frame that runs, with k iterations done, and one that has stopped
+  abbrev pub runs : ℕ → ℕ → State → Frame
   runs k s a = record { running = true; sofar = record { k = k; settled = s; last = a } }
 
-  abbrev stopped : Ended → Frame
+  abbrev pub stopped : Ended → Frame
   stopped e = record { running = false; sofar = e }
 
   -- ---- one step
-  onward-stopped : (x : Frame) → x .running ≡ false → onward g o costs x ≡ x
+  pub onward-stopped : (x : Frame) → x .running ≡ false → onward g o costs x ≡ x
   unfolding onward
   onward-stopped x h = rw h
 
   -- of a frame that runs: this iteration stops it, or is the last, or neither
-  onward-runs : (k s : ℕ) (a : State) (n : ℕ) → stop g o a (next a) ≡ n
+  pub onward-runs : (k s : ℕ) (a : State) (n : ℕ) → stop g o a (next a) ≡ n
       → onward g o costs (runs k s a) ≡ record { running = eqb n 0 && ltb (suc k) (o .limit); sofar = record { k = suc k; settled = n; last = next a } }
   unfolding onward
   onward-runs k s a n e = rw e
@@ -64,7 +64,7 @@ module _ (g : System) (o : Settings) (costs : List ℤ) where
       by : (t : Bool) → x .running ≡ t → endOf g o costs (onward g o costs x) ≡ endOf g o costs x
       by true e =
           let is : x ≡ runs (x .sofar .k) (x .sofar .settled) (x .sofar .last) = ap (λ (t : Bool). record { running = t; sofar = x .sofar }) e in
-          ap (λ (y : Frame). endOf g o costs (onward g o costs y)) is ∙ keeps-running (x .sofar .k) (x .sofar .settled) (x .sofar .last) (h .more e) ∙ ap (endOf g o costs) (sym is)
+          ap (λ (y : Frame). endOf g o costs (onward g o costs y)) is ∙ keeps-running (x .sofar .k) (x .sofar .settled) (x .sofar .last) (h e) ∙ ap (endOf g o costs) (sym is)
       by false e = ap (endOf g o costs) (onward-stopped x e)
 
   -- a frame that runs on has run, and has an iteration to come
@@ -94,11 +94,11 @@ module _ (g : System) (o : Settings) (costs : List ℤ) where
   all-steps zero x h enough = by (x .running) refl
     where
       by : (t : Bool) → x .running ≡ t → x ≡ stopped (endOf g o costs x)
-      by true e = absurd (omega (arith, h .more e, enough e))
+      by true e = absurd (omega (arith, h e, enough e))
       by false e = rw e
   all-steps (suc j) x h enough =
       let y = onward g o costs x in
-      all-steps j y (record { more = λ r. runs-on x r .more }) (λ r. (let on = runs-on x r in omega (arith, on .count, enough (on .ran))))
+      all-steps j y (λ r. runs-on x r .more) (λ r. (let on = runs-on x r in omega (arith, on .count, enough (on .ran))))
       ∙ ap stopped (keeps x h)
 
   still : (j : ℕ) (x : Frame) → x .running ≡ false → steps g o costs j x ≡ x
@@ -122,8 +122,8 @@ module _ (g : System) (o : Settings) (costs : List ℤ) where
     step = step;
     still = still;
     begins = begins;
-    going = λ x. record { more = λ r. runs-on x r .more };
+    going = λ x r. runs-on x r .more;
     keeps = keeps;
-    rest = λ x e h. all-steps (o .limit - x .sofar .k) x (record { more = λ _. h }) (λ _. omega arith) ∙ rw e;
-    ended = λ h. all-steps (o .limit) (begun g) (record { more = λ _. omega arith }) (λ _. omega arith) ∙ ap stopped begins;
+    rest = λ x e h. all-steps (o .limit - x .sofar .k) x (λ _. h) (λ _. omega arith) ∙ rw e;
+    ended = λ h. all-steps (o .limit) (begun g) (λ _. omega arith) (λ _. omega arith) ∙ ap stopped begins;
   }

@@ -36,6 +36,7 @@ pub mod DecoderCalls
 pub mod Courses
 pub mod BoundedCalls
 pub mod ReflectedCalls
+pub mod Groups
 pub mod GroupSteps
 pub mod Reduction
 pub mod Encoding
@@ -46,3 +47,5 @@ pub mod AlistCauses
 pub mod AlistText
 pub mod AlistPromises
 pub mod EncodingPromises
+pub mod GroupPromises
+pub mod WholeGroups

@@ -21,7 +21,7 @@ use Rattle.model.proofs.Causes.{in-range}
 use Rattle.model.proofs.Worked.{computes, quotient-computes}
 
 -- of a code of T triples, N variables and n bits
-room : (k : Code) (T N n : ℕ) (l : Lists) → triples k ≡ T → variables k ≡ N → k .bits ≡ n → HasRoom T N n l → noRoom k l ≡ false
+pub room : (k : Code) (T N n : ℕ) (l : Lists) → triples k ≡ T → variables k ≡ N → k .bits ≡ n → HasRoom T N n l → noRoom k l ≡ false
 room k T N n l t v b r =
     rw (
       t,

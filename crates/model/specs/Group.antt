@@ -20,8 +20,8 @@ use Rattle.model.specs.Iteration.{State, iterate, countsOf}
 use Rattle.model.specs.Run.{stop, start, Ended, runFrom, run}
 use Rattle.model.specs.Calls.{outOfRange, unequal, forbidden, Lists, Answer, Decoded, decodedBy}
 
--- ---- "In each list kept per frame the frames stand one behind the other, with room for all."
--- the lists of frame f by itself; triples and counts are the group's
+-- ---- the lists
+-- "In each list kept per frame the frames stand one behind the other": those of frame f by itself; triples and counts are the group's
 abbrev pub frameLists : Code → Lists → ℕ → Lists
 frameLists k l f = record {
   triples = l .triples;
@@ -32,15 +32,15 @@ frameLists k l f = record {
   word = part (k .bits) f (l .word);
 }
 
--- the frames that a list of work holds side by side, so that F have a place: four or eight
+-- a list of work, which the documents do not name: frames stand there side by side, in fours, so that F of them have one or two fours,
 abbrev pub lanes : ℕ → ℕ
 lanes F = cond (leb F 4) 4 8
 
--- its entries: for each such frame four for a triple, three for a variable and three for a bit
+-- and each has four entries for a triple, three for a variable and three for a bit
 abbrev pub workSize : Code → ℕ → ℕ
 workSize k F = lanes F * (4 * triples k + 3 * variables k + 3 * k .bits)
 
--- lists with room for F frames of a code
+-- "with room for all": for F frames
 pub record HasGroupRoom (k : Code) (F : ℕ) (l : Lists) (lent : List ℤ) : Type 0 where
   pub members : 3 * triples k ≤ length (l .triples)
   pub counts : variables k ≤ length (l .counts)
@@ -50,7 +50,7 @@ pub record HasGroupRoom (k : Code) (F : ℕ) (l : Lists) (lent : List ℤ) : Typ
   pub word : F * k .bits ≤ length (l .word)
   pub work : workSize k F ≤ length lent
 
--- 10: 3T, V, F × V, F × V, F × 4T and F × n entries, and those of the work
+-- 10: 3T, V, F × V, F × V, F × 4T and F × n entries, and those of the list of work
 abbrev pub noGroupRoom : Code → ℕ → Lists → List ℤ → Bool
 noGroupRoom k F l work =
     short (3 * triples k) (l .triples) || (short (variables k) (l .counts) || (short (F * variables k) (l .sums)
@@ -58,8 +58,8 @@ noGroupRoom k F l work =
     || short (workSize k F) work)))))
 
 -- ---- the causes
--- "13 belongs to its frame only …; the other causes refuse the group, 10 included, also where a cost is false. Refused: 21 where the given number of frames
--- is 0 or above 8, between 11 and 12": of settings that are out of range or not, of F frames of n bits, and of lists that are too short or not
+-- "the other causes [than 13] refuse the group, 10 included, also where a cost is false. Refused: 21 where the given number of frames is 0 or above 8, between
+-- 11 and 12": of settings that are out of range or not, of the costs of F frames of n bits, and of lists that are too short or not
 abbrev pub groupInputCauses : Bool → ℕ → List ℤ → ℕ → Bool → List ℕ
 groupInputCauses out F costs n tooShort = 11 if out ∷ 21 if outside 1 mostFrames F ∷ 12 if unequal costs (F * n) ∷ 10 if tooShort ∷ []
 
@@ -71,7 +71,7 @@ unfoldable pub groupCause : List ℕ → Settings → ℕ → List ℤ → Lists
 groupCause b o F costs l work = firstOf (judge b ∷ groupCauses (codeOf b) o F costs l work)
 
 -- ---- one frame
--- "Each new number … is returned alone" (L1)
+-- an answer with this number, where "result fields that a row does not name are 0"
 abbrev pub alone : ℕ → Answer
 alone c = record { number = c; place = 0; k = 0; settled = 0 }
 
@@ -84,7 +84,8 @@ frameDecoded k o costs l =
 abbrev pub frameOf : Code → Settings → List ℤ → Lists → ℕ → Decoded
 frameOf k o costs l f = frameDecoded k o (part (k .bits) f costs) (frameLists k l f)
 
--- ---- the group: its number, the answers of eight frames, of which those past the group's are 0, and the lists
+-- ---- the group
+-- its number, eight answers, of which the frames have the first, and the lists
 pub record Grouped : Type 0 where
   pub number : ℕ
   pub answers : List Answer
@@ -107,29 +108,30 @@ groupDecoded k o F costs l =
       };
     }
 
--- the call
+-- a call; "Each new number … is returned alone and leaves all lists as they were" (L1)
 unfoldable pub group : List ℕ → Settings → ℕ → List ℤ → Lists → List ℤ → Grouped
 group b o F costs l work =
     let c = groupCause b o F costs l work in
     accepted c (groupDecoded (codeOf b) o F costs l) (record { number = c; answers = replicate mostFrames (alone 0); lists = l })
 
--- what a group that gave g tells of frame f, and the frame's lists
+-- what a group that gave g has of frame f
 abbrev pub frameIn : Code → Grouped → ℕ → Decoded
 frameIn k g f = record { answer = getD (g .answers) f (alone 0); lists = frameLists k (g .lists) f }
 
 abbrev pub frameTold : FrameAnswer → Answer
 frameTold a = record { number = a .number; place = a .place; k = a .k; settled = a .settled }
 
--- what is told, with the lists as they are afterwards
+-- what is told of a group, with the lists as they are then
 abbrev pub groupTold : GroupAnswer → Lists → Grouped
 groupTold r l = record { number = r .number; answers = map frameTold (r .frames); lists = l }
 
 -- ---- the group step
--- "one group step goes through the code for all frames together and takes every running frame one iteration on": what frame f holds then
+-- "one group step goes through the code for all frames together and takes every running frame one iteration on": what frame f holds then, where a f is what it
+-- held
 abbrev pub stepped : System → Settings → (ℕ → List ℤ) → (ℕ → Bool) → (ℕ → State) → ℕ → State
 stepped g o costs running a f = cond (running f) (iterate quotient g o (costs f) (a f)) (a f)
 
--- a frame on its way: whether it runs, and how it would end where it stands
+-- a frame between two steps: whether it runs, and how far it is, which is how it ended where it does not run
 pub record Frame : Type 0 where
   pub running : Bool
   pub sofar : Ended
@@ -138,7 +140,7 @@ abbrev pub begun : System → Frame
 begun g = record { running = true; sofar = record { k = 0; settled = 0; last = start g } }
 
 module _ (g : System) (o : Settings) (costs : List ℤ) where
-  -- what a group step makes of it: it runs on unless this iteration stops it or is the last
+  -- after a step: a frame that runs has one iteration more, and runs on unless that stops it or is iteration K
   unfoldable pub onward : Frame → Frame
   onward x =
       let a = x .sofar .last in
@@ -146,11 +148,11 @@ module _ (g : System) (o : Settings) (costs : List ℤ) where
       let k = suc (x .sofar .k) in
       cond (x .running) (record { running = eqb (stop g o a b) 0 && ltb k (o .limit); sofar = record { k = k; settled = stop g o a b; last = b } }) x
 
-  -- and so many of them
+  -- after so many of them
   unfoldable pub steps : ℕ → Frame → Frame
   steps zero x = x
   steps (suc j) x = steps j (onward x)
 
-  -- how the frame ends: as it stands where it has stopped, otherwise with the rest of its run
+  -- how it ends: as it is where it has stopped, otherwise by the rest of its run
   abbrev pub endOf : Frame → Ended
   endOf x = cond (x .running) (runFrom quotient g o costs (o .limit - x .sofar .k) (x .sofar .k) (x .sofar .last)) (x .sofar)

@@ -3,9 +3,9 @@ use mathlib.Core.Path.{_≡_}
 use mathlib.Core.Bool.{true, false}
 use mathlib.Core.Logic.{_↔_}
 use mathlib.Core.List.{List}
-use Prim.Native.Nat.{ℕ, suc, _-_, _*_, _≤_, _<_}
+use Prim.Native.Nat.{ℕ, _-_, _*_, _≤_, _<_}
 use lib.IntN.{ℤ}
-use lib.ListN.{length, getD, drop, replicate}
+use lib.ListN.{length, getD, drop}
 use Rattle.lists.specs.Tabulated.{written, part}
 use Rattle.lists.specs.Entries.{some}
 use Rattle.quotient.specs.Quotient.{quotient}
@@ -18,7 +18,7 @@ use Rattle.model.specs.Splitting.{System, systemOf}
 use Rattle.model.specs.Iteration.{countsOf}
 use Rattle.model.specs.Run.{runFrom, run}
 use Rattle.model.specs.Calls.{InRange, outOfRange, unequal, forbidden, Lists, Decoded, decoder}
-use Rattle.model.specs.Group.{frameLists, HasGroupRoom, noGroupRoom, alone, Grouped, group, frameIn, stepped, Frame, begun, onward, steps, endOf}
+use Rattle.model.specs.Group.{frameLists, HasGroupRoom, noGroupRoom, alone, Grouped, frameIn, stepped, Frame, begun, onward, steps, endOf}
 
 -- ---- an accepted group
 -- "Each frame's answer, word and c, s and S lists are those of a run by itself": of frame f in a group that gave g, where a call by itself gave d
@@ -29,10 +29,10 @@ pub record FrameIs (k : Code) (f : ℕ) (g : Grouped) (d : Decoded) : Type 0 whe
   pub rows : part (4 * triples k) f (g .lists .rows) ≡ d .lists .rows
   pub word : part (k .bits) f (g .lists .word) ≡ d .lists .word
 
--- a group that gave g, with F frames in lists that were l
+-- a group of F frames, with lists that were l, that gave g
 pub record GroupIsSingles (b : List ℕ) (o : Settings) (F : ℕ) (costs : List ℤ) (l : Lists) (g : Grouped) : Type 0 where
-  -- each frame is a call of the decoder with its costs and its parts of the lists, "and a frame that stops or has a false cost leaves the others' results
-  -- untouched": that call knows of no other frame
+  -- each frame is a call of the decoder with its costs and its parts of the lists; "a frame that stops or has a false cost leaves the others' results
+  -- untouched", since that call has no other frame
   pub single : (f : ℕ) → f < F → FrameIs (codeOf b) f g (decoder b o (part (codeOf b .bits) f costs) (frameLists (codeOf b) l f))
   -- where no cost is false, triples and counts are that call's too
   pub whole : (f : ℕ) → f < F → some forbidden (part (codeOf b .bits) f costs) ≡ false
@@ -51,37 +51,39 @@ pub record GroupIsSingles (b : List ℕ) (o : Settings) (F : ℕ) (costs : List 
   pub rows-behind : drop (F * (4 * triples (codeOf b))) (g .lists .rows) ≡ drop (F * (4 * triples (codeOf b))) (l .rows)
   pub word-behind : drop (F * codeOf b .bits) (g .lists .word) ≡ drop (F * codeOf b .bits) (l .word)
 
--- ---- a refused group
-pub record GroupRefuses (b : List ℕ) (o : Settings) (F : ℕ) (costs : List ℤ) (l : Lists) (work : List ℤ) : Type 0 where
-  -- "Refused: 21 where the given number of frames is 0 or above 8, between 11 and 12"
-  pub settings : judge b ≡ 0 → outOfRange o ≡ true → group b o F costs l work .number ≡ 11
-  pub frames : judge b ≡ 0 → outOfRange o ≡ false → outside 1 mostFrames F ≡ true → group b o F costs l work .number ≡ 21
-  pub lengths : judge b ≡ 0 → outOfRange o ≡ false → outside 1 mostFrames F ≡ false → unequal costs (F * codeOf b .bits) ≡ true
-      → group b o F costs l work .number ≡ 12
+-- ---- which groups are accepted
+-- the room is that of F frames, and a cost may be false
+pub record GroupFits (b : List ℕ) (o : Settings) (F : ℕ) (costs : List ℤ) (l : Lists) (work : List ℤ) : Type 0 where
+  pub code : judge b ≡ 0
+  pub settings : InRange o
+  pub frames : (1 ≤ F) × (F ≤ mostFrames)
+  pub lengths : length costs ≡ F * codeOf b .bits
+  pub room : HasGroupRoom (codeOf b) F l work
+
+-- a group that gave g
+pub record GroupRefuses (b : List ℕ) (o : Settings) (F : ℕ) (costs : List ℤ) (l : Lists) (work : List ℤ) (g : Grouped) : Type 0 where
+  pub exactly : (g .number ≡ 0) ↔ GroupFits b o F costs l work
+  -- "21 where the given number of frames is 0 or above 8, between 11 and 12"
+  pub settings : judge b ≡ 0 → outOfRange o ≡ true → g .number ≡ 11
+  pub frames : judge b ≡ 0 → InRange o → outside 1 mostFrames F ≡ true → g .number ≡ 21
+  pub lengths : judge b ≡ 0 → InRange o → (1 ≤ F) × (F ≤ mostFrames) → unequal costs (F * codeOf b .bits) ≡ true → g .number ≡ 12
   -- "10 included, also where a cost is false"
-  pub room : judge b ≡ 0 → outOfRange o ≡ false → outside 1 mostFrames F ≡ false → unequal costs (F * codeOf b .bits) ≡ false
-      → noGroupRoom (codeOf b) F l work ≡ true → group b o F costs l work .number ≡ 10
-  -- nothing else refuses a group: the room is that of F frames, and a false cost is not asked for
-  pub exactly : (group b o F costs l work .number ≡ 0)
-      ↔ ((judge b ≡ 0) × InRange o × ((1 ≤ F) × (F ≤ mostFrames)) × (length costs ≡ F * codeOf b .bits) × HasGroupRoom (codeOf b) F l work)
-  -- "Each new number … is returned alone and leaves all lists as they were."
-  pub kept : (c : ℕ) → group b o F costs l work .number ≡ suc c
-      → group b o F costs l work ≡ record { number = suc c; answers = replicate mostFrames (alone 0); lists = l }
+  pub room : judge b ≡ 0 → InRange o → (1 ≤ F) × (F ≤ mostFrames) → length costs ≡ F * codeOf b .bits → noGroupRoom (codeOf b) F l work ≡ true → g .number ≡ 10
 
 -- ---- group steps, of one frame
--- a frame that runs has an iteration to come
-pub record Going (o : Settings) (x : Frame) : Type 0 where
-  pub more : x .running ≡ true → x .sofar .k < o .limit
+-- where it runs it has an iteration to come
+abbrev pub Going : Settings → Frame → Type 0
+Going o x = x .running ≡ true → x .sofar .k < o .limit
 
 pub record StepsAreRuns (g : System) (o : Settings) (costs : List ℤ) : Type 0 where
-  -- a step takes a frame that runs one iteration on, and no step changes one that has stopped
+  -- "takes every running frame one iteration on", and no step changes a frame that has stopped
   pub step : (x : Frame) → onward g o costs x .sofar .last ≡ stepped g o (λ _. costs) (λ _. x .running) (λ _. x .sofar .last) 0
   pub still : (j : ℕ) (x : Frame) → x .running ≡ false → steps g o costs j x ≡ x
   -- what remains is the whole: from the start it is the run, and a step does not change how a frame ends
   pub begins : endOf g o costs (begun g) ≡ run quotient g o costs
   pub going : (x : Frame) → Going o (onward g o costs x)
   pub keeps : (x : Frame) → Going o x → endOf g o costs (onward g o costs x) ≡ endOf g o costs x
-  -- so a frame that runs, with k iterations done, has run to its end after as many steps as are to come
+  -- so a frame that runs has stopped, as the rest of its run ends, after as many steps as there are iterations to come;
   pub rest : (x : Frame) → x .running ≡ true → x .sofar .k < o .limit → steps g o costs (o .limit - x .sofar .k) x ≡ record {
     running = false;
     sofar = runFrom quotient g o costs (o .limit - x .sofar .k) (x .sofar .k) (x .sofar .last);

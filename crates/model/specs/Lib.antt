@@ -37,6 +37,7 @@ pub mod Composition
 pub mod Encoding
 pub mod DecoderClaims
 pub mod GroupClaims
+pub mod WholeGroups
 pub mod Promises
 pub mod AlistPromises
 pub mod EncodingPromises

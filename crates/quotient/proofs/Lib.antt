@@ -1,3 +1,4 @@
 -- Facts that several proofs use.
 pub mod Magnitudes
 pub mod Products
+pub mod Lanes

@@ -19,6 +19,13 @@ mostDivisor = 1024 * 2048
 abbrev pub mostPrepared : ℕ
 mostPrepared = 1024 * 63
 
+-- those of lanes: in 2 to 8 triples
+abbrev pub leastNarrow : ℕ
+leastNarrow = 1025
+
+abbrev pub mostNarrow : ℕ
+mostNarrow = 1024 * 8
+
 -- of magnitudes: nearest, halves up, at most U
 limited : ℕ → ℕ → ℕ
 limited n d = min (nearest n d) unit

@@ -1,8 +1,7 @@
 -- The rows of T triples, as one triple or four triples after the other are renewed with the values c. Assumes nothing.
 use Rattle.integers.proofs.Prelude.{_≡_, refl, sym, ap, ap₂, subst, _∙_, Bool, true, false, cond, not, _&&_, List, [], _∷_, ℕ, _+_, _-_, _*_, _/_, _%_, _^_, _≤_, _<_}
-use Rattle.integers.proofs.Prelude.{arith, eqb, eqb-false, not-true, decLt, ltb-true, ltb-false, lt-ltb, le-ltb, leb-true, leb-false, lt-leb, le-leb, ltb, leb, ℤ, pos, negsuc, natAbs}
+use Rattle.integers.proofs.Prelude.{arith, eqb, eqb-false, not-true, decLt, ltb-true, ltb-false, lt-ltb, le-ltb, le-leb, ltb, leb, ℤ, pos, negsuc, natAbs}
 use Rattle.integers.proofs.Prelude.{_*ℤ_, length, getD, sets}
-use mathlib.Core.Bool as bools
 use native.Mathlib.Nat.{mul-le-mul}
 use Rattle.integers.specs.Sum.{sumℕ}
 use Rattle.integers.proofs.Sums.{sumℕ-same, sumℕ-split, sumℕ-bound, sumℕ-swap, sumℕ-fours}
@@ -19,6 +18,7 @@ use Rattle.model.specs.Iteration.{at, sumAt, row, slack, multiplier, renewed, r
 use Rattle.model.specs.Run.{squareOfChange, changes, settledBy}
 use Rattle.model.specs.Bounds.{RowsWithin}
 use Rattle.model.proofs.Bounds.{renewed-slack, renewed-small, multiplier-change, sumAt-small}
+use Rattle.model.proofs.Runs.{changes-rows, settled-by}
 use Rattle.rows.specs.Sides.{Rows, changeOf}
 use Rattle.rows.proofs.Four.{rows-are, side-multiplier, side-slack}
 use Rattle.layout.specs.Transposed.{cell, Fours, lane, stored, place, straight, Aligned}
@@ -62,15 +62,7 @@ module _ (ts : List ℕ) (c : List ℤ) (unit-most : (v : ℕ) → natAbs (at c 
   new-fours s t small =
       fours-are (λ k r. renewed (row s (t + r) k) (sumAt ts c (t + k) r)) (λ k r _ l. new-abs (row s (t + r) k) (t + k) r l (small (4 * (t + r) + k) (omega arith)))
 
--- ---- totals that are not the whole ones where one of them exceeds x
-settled-is : (x a b A B : ℕ) → a ≤ A → b ≤ B → (a ≤ x → b ≤ x → (a ≡ A) × (b ≡ B)) → 1 if (leb a x && leb b x) ≡ 1 if (leb A x && leb B x)
-settled-is x a b A B h k w = by (leb a x) (leb b x) refl refl
-  where
-    by : (p q : Bool) → leb a x ≡ p → leb b x ≡ q → 1 if (leb a x && leb b x) ≡ 1 if (leb A x && leb B x)
-    by true true e f = let same = w (leb-true a x e) (leb-true b x f) in ap₂ (λ (u v : ℕ). 1 if (leb u x && leb v x)) (same .0) (same .1)
-    by true false e f = rw (e, f, lt-leb B x (omega (arith, leb-false b x f)), bools.and-false (leb A x))
-    by false q e f = rw (e, lt-leb A x (omega (arith, leb-false a x e)))
-
+-- ---- a part of a total
 grown : (a f w A : ℕ) → a + f ≡ 0 + w → w ≡ A → (a ≤ A) × (f ≡ 0 → a ≡ A)
 grown a f w A p q = (omega arith, λ z. omega arith)
 
@@ -218,7 +210,6 @@ module _ (T : ℕ) (ts : List ℕ) (c : List ℤ) where
         getD-tab (4 * T) (entry 0 s) (place T i) (pos 0) (transposed T .below i h) ∙ to-do 0 s (place T i) (omega arith) ∙ new-place i h)
 
     whole : (side : ℤ) (part : ℤ → ℕ) → ((z : ℤ) → multiplier (side *ℤ z) ≡ part z) → changesFrom T ts c side 0 s ≡ changes part T (straight T s) (renewedAll T ts s c)
-    unfolding changes
     whole side part is =
         let h : ℕ → ℕ = change side s in
         let g : ℕ → ℕ = λ i. squareOfChange (part (at (straight T s) i)) (part (at (renewedAll T ts s c) i)) in
@@ -228,16 +219,15 @@ module _ (T : ℕ) (ts : List ℕ) (c : List ℤ) where
         ∙ sym (sum-arranged (transposed T) h)
         ∙ sumℕ-same (4 * T) (λ i. h (place T i)) g (λ i l.
         rw (is (at s (place T i)), is (new s (place T i)), arranged-at (4 * T) (place T) s i l, getD-tab (4 * T) (renewedAt ts (straight T s) c) i (pos 0) l, new-place i l))
-        ∙ sym (sumℕ-fours T g)
+        ∙ sym (changes-rows part T (straight T s) (renewedAll T ts s c))
 
     -- whether the totals of u triples tell that the run is settled
     pub settled : (x u a b : ℕ) (s′ : List ℤ) → Renewed T ts c 0 u s s′ 0 a 0 b → (a ≤ x → b ≤ x → u ≡ T) → 1 if (leb a x && leb b x) ≡ settledBy x T (straight T s) (renewedAll T ts s c)
-    unfolding settledBy
     settled x u a b s′ r w =
         let none : u ≡ T → (side : ℤ) → changesFrom T ts c side u s′ ≡ 0 = λ e side. let z : 4 * T - 4 * u ≡ 0 = omega arith in ap (λ (n : ℕ). sumℕ n (λ j. change side s′ (4 * u + j))) z in
         let p = grown a _ _ _ (r .of-multipliers) (whole (pos 1) multiplier side-multiplier) in
         let q = grown b _ _ _ (r .of-slacks) (whole (negsuc 0) slack side-slack) in
-        settled-is x a b _ _ (p .0) (q .0) (λ h k. (p .1 (none (w h k) (pos 1)), q .1 (none (w h k) (negsuc 0))))
+        settled-by x T a b (straight T s) (renewedAll T ts s c) (p .0) (q .0) (λ h k. (p .1 (none (w h k) (pos 1)), q .1 (none (w h k) (negsuc 0))))
 
 -- ---- the loop's test: t is below n, and neither total exceeds x
 pub met : (t n a b x : ℕ) → ((ltb t n && leb a x) && leb b x) ≡ true → t < n

@@ -257,7 +257,7 @@ fn renew_rest(
     }
 }
 
-fn settles(multipliers: u64, slacks: u64, tolerance: u64) -> u32
+pub fn settles(multipliers: u64, slacks: u64, tolerance: u64) -> u32
     ensures { λ settled. ⌜ settled ≡ 1 if (leb multipliers tolerance && leb slacks tolerance) ⌝ }
 {
     if (multipliers <= tolerance) & (slacks <= tolerance) {

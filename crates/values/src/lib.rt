@@ -94,7 +94,7 @@ fn by_division(x: i64, den: i64) -> i16
 
 // "−(256 × S + W × L) divided by 256 × e − A, rounded to nearest, halves away from zero, then limited", x being what is negated: by a product where
 // the lists have numbers for the divisor.
-fn divide(x: i64, count: usize, ratio: u32, limits: &[i64], inverses: &[i64]) -> i16
+pub fn divide(x: i64, count: usize, ratio: u32, limits: &[i64], inverses: &[i64]) -> i16
     requires { ⌜ (natAbs x ≤ mostNumerator) × (1 ≤ count) × (count ≤ mostChecks) × (ratio ≤ mostRatio) ⌝ }
     requires { ⌜ Tables ratio (now limits) (now inverses) ⌝ }
     ensures { λ c. ⌜ c ≡ quotient (negℤ x) (Iteration.divisor (4 * count) ratio) ⌝ }

@@ -1,6 +1,6 @@
 //! One call with all its inputs and the lengths of its lent lists.
 
-use crate::codes::{records, room, Code};
+use crate::codes::{group_room, records, room, Code};
 use interface::{Channel, Settings};
 
 #[derive(Clone, Debug, PartialEq)]
@@ -38,6 +38,7 @@ pub enum Case {
         room: usize,
     },
     Decode(DecodeCase),
+    DecodeGroup(GroupCase),
     Import {
         text: Vec<u8>,
         room: usize,
@@ -82,6 +83,16 @@ pub struct DecodeCase {
     pub room: [usize; 6],
 }
 
+/// Costs of so many frames, one behind the other; room for the same lists, and for the work list.
+#[derive(Clone, Debug, PartialEq)]
+pub struct GroupCase {
+    pub code: Vec<u8>,
+    pub settings: Settings,
+    pub frames: usize,
+    pub costs: Vec<i16>,
+    pub room: [usize; 7],
+}
+
 /// A decoding with lists of exactly the lengths needed.
 pub fn exact_case(code: &Code, settings: Settings, costs: Vec<i16>) -> Case {
     Case::Decode(DecodeCase {
@@ -92,11 +103,35 @@ pub fn exact_case(code: &Code, settings: Settings, costs: Vec<i16>) -> Case {
     })
 }
 
+/// A group of frames with lists of exactly the lengths needed.
+pub fn exact_group(code: &Code, settings: Settings, frames: &[Vec<i16>]) -> GroupCase {
+    GroupCase {
+        code: records(code),
+        settings,
+        frames: frames.len(),
+        costs: frames.concat(),
+        room: group_room(code, frames.len()),
+    }
+}
+
+impl GroupCase {
+    /// One frame of a code of so many bits, as a call of the decoder that lends nothing.
+    pub fn frame(&self, frame: usize, bits: usize) -> DecodeCase {
+        DecodeCase {
+            code: self.code.clone(),
+            settings: self.settings,
+            costs: self.costs[frame * bits..][..bits].to_vec(),
+            room: [0; 6],
+        }
+    }
+}
+
 impl Case {
     /// The code records that the case has, unless it is an input of the frame program.
     pub fn records(&self) -> Option<&[u8]> {
         match self {
             Case::Decode(case) => Some(&case.code),
+            Case::DecodeGroup(case) => Some(&case.code),
             Case::Read { code }
             | Case::Split { code, .. }
             | Case::Test { code, .. }
@@ -126,6 +161,7 @@ impl Case {
             Case::Extend { .. } => "extend",
             Case::AddWords { .. } => "add_words",
             Case::Decode(_) => "decode",
+            Case::DecodeGroup(_) => "decode_group",
             Case::Import { .. } => "import",
             Case::Export { .. } => "export",
             Case::ExportSize { .. } => "export_size",

@@ -2,6 +2,7 @@
 
 use crate::random::Random;
 use crate::two_bits::{small_two_bit_code, tiny_two_bit_code};
+use interface::work_length;
 pub use reference::records::Code;
 use std::collections::BTreeSet;
 
@@ -21,14 +22,21 @@ pub fn records(code: &Code) -> Vec<u8> {
 
 /// The lengths that the decoder's lists need, in their order.
 pub fn room(code: &Code) -> [usize; 6] {
+    let [lists @ .., _] = group_room(code, 1);
+    lists
+}
+
+/// The same for a group of so many frames, and the length of its work list.
+pub fn group_room(code: &Code, frames: usize) -> [usize; 7] {
     let (triples, variables) = (code.triples(), code.variables());
     [
         3 * triples,
         variables,
-        variables,
-        variables,
-        4 * triples,
-        code.bits,
+        frames * variables,
+        frames * variables,
+        frames * 4 * triples,
+        frames * code.bits,
+        work_length(frames, code.bits, variables, triples),
     ]
 }
 

@@ -25,7 +25,7 @@ impl Codewords {
         let mut rest: Vec<Vec<u64>> = code
             .checks
             .iter()
-            .map(|check| packed(code, check))
+            .map(|check| packed(code.bits, check))
             .collect();
         let (mut rows, mut pivots) = (Vec::<Vec<u64>>::new(), Vec::new());
         for bit in 0..code.bits {
@@ -59,7 +59,9 @@ impl Codewords {
         for &pivot in &self.pivots {
             word[pivot] = 0;
         }
-        let entries: Vec<u8> = self.rows.iter().map(|row| parity(row, &word)).collect();
+        let ones: Vec<usize> = (0..self.bits).filter(|&bit| word[bit] == 1).collect();
+        let packed = packed(self.bits, &ones);
+        let entries: Vec<u8> = self.rows.iter().map(|row| parity(row, &packed)).collect();
         for (&pivot, entry) in self.pivots.iter().zip(entries) {
             word[pivot] = entry;
         }
@@ -67,17 +69,17 @@ impl Codewords {
     }
 }
 
-fn packed(code: &Code, check: &[usize]) -> Vec<u64> {
-    let mut row = vec![0; code.bits.div_ceil(64)];
-    for &bit in check {
+/// These of so many bits.
+fn packed(bits: usize, ones: &[usize]) -> Vec<u64> {
+    let mut row = vec![0; bits.div_ceil(64)];
+    for &bit in ones {
         row[bit / 64] ^= 1 << (bit % 64);
     }
     row
 }
 
 /// The sum modulo 2 of the word's entries in a row.
-fn parity(row: &[u64], word: &[u8]) -> u8 {
-    (0..word.len())
-        .filter(|&bit| has(row, bit))
-        .fold(0, |sum, bit| sum ^ word[bit])
+fn parity(row: &[u64], word: &[u64]) -> u8 {
+    let common = row.iter().zip(word).map(|(row, word)| row & word);
+    (common.map(u64::count_ones).sum::<u32>() % 2) as u8
 }

@@ -5,6 +5,7 @@ use crate::families::{Effort, Family};
 use crate::outcome::{outcome, Outcome};
 use crate::tally::Tally;
 use reference::SOUND;
+use std::convert::Infallible;
 use std::fmt;
 
 /// A case on which a subject differs from the reference.
@@ -58,4 +59,18 @@ pub fn compare(
         })?;
     }
     Ok(tally)
+}
+
+/// Counts what is met in the quick cases of these families that are the subject's own.
+pub fn met(subject: impl Fn(&Case) -> Option<Outcome>, families: Vec<Family>) -> Tally {
+    let mut tally = Tally::default();
+    for family in families {
+        let Ok(()) = family.visit(Effort::Quick, |_, case| {
+            if let Some(outcome) = subject(&case) {
+                tally.add(&case, &outcome);
+            }
+            Ok::<(), Infallible>(())
+        });
+    }
+    tally
 }

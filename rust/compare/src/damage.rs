@@ -3,6 +3,7 @@
 use crate::codes::check_starts;
 use crate::draft::{Draft, Entry};
 use crate::random::Random;
+use interface::MOST_FRAMES;
 
 #[derive(Clone, Copy, Debug, PartialEq, Eq)]
 pub enum Damage {
@@ -76,6 +77,13 @@ pub fn damages_of(entry: Entry) -> Vec<Damage> {
             Damage::LowestCost,
             Damage::Room,
         ],
+        Entry::DecodeGroup => &[
+            Damage::Setting,
+            Damage::Frames,
+            Damage::CostsLength,
+            Damage::LowestCost,
+            Damage::Room,
+        ],
     };
     [&OF_RECORDS, others].concat()
 }
@@ -98,15 +106,15 @@ pub fn apply(random: &mut Random, draft: &mut Draft, entry: Entry, damage: Damag
         Damage::Unused => unused_bit(draft),
         Damage::After => draft.records.push(random.pick(&[0, b'L'])),
         Damage::Setting => wrong_setting(random, draft),
-        Damage::CostsLength => change_length(random, &mut draft.costs),
-        Damage::LowestCost => lowest_cost(random, draft),
+        Damage::CostsLength => change_length(random, costs_of(draft, entry)),
+        Damage::LowestCost => lowest_cost(random, costs_of(draft, entry)),
         Damage::WordLength => change_length(random, &mut draft.word),
         Damage::WordEntry => wrong_entry(random, &mut draft.word),
         Damage::Room => shorten(random, draft, entry),
         Damage::Long => more_bits(random, draft),
         Damage::MessageLength => change_length(random, message_of(draft, entry)),
         Damage::MessageEntry => wrong_entry(random, message_of(draft, entry)),
-        Damage::Frames => wrong_frames(random, draft),
+        Damage::Frames => wrong_frames(random, draft, entry),
     }
 }
 
@@ -115,6 +123,14 @@ fn message_of(draft: &mut Draft, entry: Entry) -> &mut Vec<u8> {
     match entry {
         Entry::EncodeFrames => &mut draft.messages.all,
         _ => &mut draft.messages.one,
+    }
+}
+
+/// The costs that a call of this entry takes.
+fn costs_of(draft: &mut Draft, entry: Entry) -> &mut Vec<i16> {
+    match entry {
+        Entry::DecodeGroup => &mut draft.group.costs,
+        _ => &mut draft.costs,
     }
 }
 
@@ -262,10 +278,10 @@ fn change_length<T: Copy>(random: &mut Random, list: &mut Vec<T>) {
     }
 }
 
-fn lowest_cost(random: &mut Random, draft: &mut Draft) {
-    if !draft.costs.is_empty() {
-        let place = random.below(draft.costs.len());
-        draft.costs[place] = i16::MIN;
+fn lowest_cost(random: &mut Random, costs: &mut [i16]) {
+    if !costs.is_empty() {
+        let place = random.below(costs.len());
+        costs[place] = i16::MIN;
     }
 }
 
@@ -277,9 +293,12 @@ fn wrong_entry(random: &mut Random, list: &mut [u8]) {
 }
 
 /// Another number of frames, of which some make no product with a length.
-fn wrong_frames(random: &mut Random, draft: &mut Draft) {
-    let frames = &mut draft.messages.frames;
-    *frames = random.pick(&[0, *frames + 1, 1 << 61, 1 << 63, usize::MAX]);
+fn wrong_frames(random: &mut Random, draft: &mut Draft, entry: Entry) {
+    let (frames, other) = match entry {
+        Entry::DecodeGroup => (&mut draft.group.frames, MOST_FRAMES + 1),
+        _ => (&mut draft.messages.frames, 0),
+    };
+    *frames = random.pick(&[0, other, *frames + 1, 1 << 61, 1 << 63, usize::MAX]);
 }
 
 fn shorten(random: &mut Random, draft: &mut Draft, entry: Entry) {
@@ -290,6 +309,7 @@ fn shorten(random: &mut Random, draft: &mut Draft, entry: Entry) {
         Entry::Encode => &mut draft.messages.room[0],
         Entry::EncodeFrames => &mut draft.messages.room[1],
         Entry::ReadMessage => &mut draft.messages.room[2],
+        Entry::DecodeGroup => &mut draft.group.room[random.below(7)],
         _ => &mut draft.room[random.below(6)],
     };
     *room = if random.once_in(4) {

@@ -3,6 +3,7 @@
 use crate::case::{Case, DecodeCase};
 use crate::codes::{records, room, text_bytes, Code};
 use crate::codewords::Codewords;
+use crate::group::Group;
 use crate::messages::Messages;
 use crate::random::Random;
 use interface::Settings;
@@ -15,6 +16,7 @@ pub enum Entry {
     Test,
     Extend,
     Decode,
+    DecodeGroup,
     Export,
     ExportSize,
     MessageLength,
@@ -31,12 +33,13 @@ pub const OF_ENCODER: [Entry; 4] = [
     Entry::ReadMessage,
 ];
 
-pub const ENTRIES: [Entry; 11] = [
+pub const ENTRIES: [Entry; 12] = [
     Entry::Read,
     Entry::Split,
     Entry::Test,
     Entry::Extend,
     Entry::Decode,
+    Entry::DecodeGroup,
     Entry::Export,
     Entry::ExportSize,
     Entry::MessageLength,
@@ -58,6 +61,7 @@ pub struct Draft {
     pub point_room: usize,
     pub text_room: usize,
     pub messages: Messages,
+    pub group: Group,
 }
 
 impl Draft {
@@ -81,6 +85,7 @@ impl Draft {
             point_room: code.variables(),
             text_room: text_bytes(&code),
             messages: Messages::random(random, code.bits, codewords.message_length()),
+            group: Group::random(random, &code, &codewords),
             code,
         }
     }
@@ -89,7 +94,8 @@ impl Draft {
     pub fn lengthen(&mut self, random: &mut Random) {
         let others = [&mut self.point_room, &mut self.text_room];
         let of_messages = &mut self.messages.room;
-        for room in self.room.iter_mut().chain(others).chain(of_messages) {
+        let others = self.room.iter_mut().chain(others).chain(of_messages);
+        for room in others.chain(&mut self.group.room) {
             *room += random.below(4);
         }
     }
@@ -117,6 +123,7 @@ impl Draft {
                 costs: self.costs.clone(),
                 room: self.room,
             }),
+            Entry::DecodeGroup => Case::DecodeGroup(self.group.case(code, self.settings)),
             Entry::Export => Case::Export {
                 code,
                 room: self.text_room,

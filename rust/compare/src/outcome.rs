@@ -1,63 +1,18 @@
 //! What a call left: its answer and every lent list, with the memory around it.
 
-use crate::case::{Case, DecodeCase};
-use interface::{Alist, BytesAnswer, Decoder, Encoder, Library, Lists, WordAnswer};
+use crate::case::{Case, DecodeCase, GroupCase};
+use crate::codes::{room, Code};
+use crate::margins::{bytes, costs, rows, shorts, LentLists, Seen, MARGIN};
+use interface::{
+    Alist, BytesAnswer, DecodeAnswer, Decoder, Encoder, Grouping, Library, WordAnswer,
+};
 use reference::Reference;
-
-/// Entries kept before and after each lent list, which no call may touch.
-const MARGIN: usize = 8;
-
-/// A list to lend, filled with numbers that no call writes by chance.
-struct Lent<T> {
-    entries: Vec<T>,
-}
-
-impl<T: Copy + Into<i64>> Lent<T> {
-    fn new(length: usize, fill: fn(usize) -> T) -> Lent<T> {
-        Lent {
-            entries: (0..length + 2 * MARGIN).map(fill).collect(),
-        }
-    }
-
-    fn list(&mut self) -> &mut [T] {
-        let end = self.entries.len() - MARGIN;
-        &mut self.entries[MARGIN..end]
-    }
-
-    /// All entries afterwards, margins included.
-    fn seen(&self, name: &'static str) -> (&'static str, Vec<i64>) {
-        (
-            name,
-            self.entries.iter().map(|&entry| entry.into()).collect(),
-        )
-    }
-}
-
-fn bytes(length: usize) -> Lent<u8> {
-    Lent::new(length, |place| 100 + (place % 101) as u8)
-}
-
-fn shorts(length: usize) -> Lent<u16> {
-    Lent::new(length, |place| 50_000 + (place % 10_007) as u16)
-}
-
-fn costs(length: usize) -> Lent<i16> {
-    Lent::new(length, |place| 20_000 + (place % 5_003) as i16)
-}
-
-fn rows(length: usize) -> Lent<i32> {
-    Lent::new(length, |place| 1_000_000_007 + place as i32)
-}
-
-fn sums(length: usize) -> Lent<i64> {
-    Lent::new(length, |place| -1_000_000_000_000_007 - place as i64)
-}
 
 /// The answer's fields and the lists after a call, or what a program printed.
 #[derive(Clone, Debug, Default, PartialEq, Eq)]
 pub struct Outcome {
     pub fields: Vec<(&'static str, usize)>,
-    pub lists: Vec<(&'static str, Vec<i64>)>,
+    pub lists: Vec<Seen>,
     pub text: Vec<u8>,
 }
 
@@ -77,8 +32,13 @@ impl Outcome {
         Outcome::new(answer.number, &[("bytes", answer.bytes)])
     }
 
-    fn with(mut self, list: (&'static str, Vec<i64>)) -> Outcome {
+    fn with(mut self, list: Seen) -> Outcome {
         self.lists.push(list);
+        self
+    }
+
+    fn with_all(mut self, lists: [Seen; 6]) -> Outcome {
+        self.lists.extend(lists);
         self
     }
 
@@ -87,6 +47,20 @@ impl Outcome {
         let mut lists = self.lists.iter();
         let (_, entries) = lists.find(|(other, _)| *other == name).expect("a list");
         &entries[MARGIN..MARGIN + count]
+    }
+
+    /// What a group of frames of a code left of one of them, as the decoder leaves it.
+    pub fn of_frame(&self, code: &Code, frame: usize) -> Outcome {
+        let part = |(place, size): (usize, usize)| {
+            let (name, entries) = &self.lists[place];
+            let start = if place < 2 { 0 } else { frame * size };
+            (*name, entries[start..][..size + 2 * MARGIN].to_vec())
+        };
+        Outcome {
+            fields: self.fields[1 + 4 * frame..][..4].to_vec(),
+            lists: room(code).into_iter().enumerate().map(part).collect(),
+            text: Vec::new(),
+        }
     }
 
     /// The first difference from what was expected.
@@ -115,6 +89,7 @@ impl Outcome {
 /// What a case leaves with the reference, which has every entry.
 pub fn outcome(reference: Reference, case: &Case) -> Outcome {
     called(&reference, case)
+        .or_else(|| grouped(&reference, case))
         .or_else(|| converted(&reference, case))
         .or_else(|| encoded(&reference, case))
         .or_else(|| printed(|input| reference.frames(input).into(), case))
@@ -136,6 +111,14 @@ pub fn printed(frames: impl Fn(&[u8]) -> Vec<u8>, case: &Case) -> Option<Outcome
 pub fn decoded(decoder: &dyn Decoder, case: &Case) -> Option<Outcome> {
     match case {
         Case::Decode(case) => Some(decode(decoder, case)),
+        _ => None,
+    }
+}
+
+/// What a case leaves with one who decodes groups; nothing unless it is a call of that.
+pub fn grouped(grouping: &dyn Grouping, case: &Case) -> Option<Outcome> {
+    match case {
+        Case::DecodeGroup(case) => Some(decode_group(grouping, case)),
         _ => None,
     }
 }
@@ -248,29 +231,55 @@ pub fn called(library: &dyn Library, case: &Case) -> Option<Outcome> {
 }
 
 fn decode(decoder: &dyn Decoder, case: &DecodeCase) -> Outcome {
-    let room = case.room;
-    let (mut triples, mut counts) = (shorts(room[0]), shorts(room[1]));
-    let (mut sums, mut values) = (sums(room[2]), costs(room[3]));
-    let (mut rows, mut word) = (rows(room[4]), bytes(room[5]));
-    let lists = Lists {
-        triples: triples.list(),
-        counts: counts.list(),
-        sums: sums.list(),
-        values: values.list(),
-        rows: rows.list(),
-        word: word.list(),
-    };
-    let answer = decoder.decode(&case.code, case.settings, &case.costs, lists);
+    let mut lists = LentLists::new(case.room);
+    let answer = decoder.decode(&case.code, case.settings, &case.costs, lists.lend());
     let others = [
         ("place", answer.place),
         ("k", answer.k as usize),
         ("settled", answer.settled as usize),
     ];
-    Outcome::new(answer.number, &others)
-        .with(triples.seen("triples"))
-        .with(counts.seen("counts"))
-        .with(sums.seen("sums"))
-        .with(values.seen("values"))
-        .with(rows.seen("rows"))
-        .with(word.seen("word"))
+    Outcome::new(answer.number, &others).with_all(lists.seen())
+}
+
+/// The fields of a frame's answer in a group, by their names.
+macro_rules! of_frames {
+    ($($frame:literal),+) => {
+        [$([
+            concat!("number of frame ", $frame),
+            concat!("place of frame ", $frame),
+            concat!("k of frame ", $frame),
+            concat!("settled of frame ", $frame),
+        ]),+]
+    };
+}
+
+const OF_FRAMES: [[&str; 4]; 8] = of_frames!(0, 1, 2, 3, 4, 5, 6, 7);
+
+fn fields_of(answer: DecodeAnswer) -> [usize; 4] {
+    [
+        answer.number as usize,
+        answer.place,
+        answer.k as usize,
+        answer.settled as usize,
+    ]
+}
+
+/// What an accepted group leaves in the work list is open; else it stays.
+fn decode_group(grouping: &dyn Grouping, case: &GroupCase) -> Outcome {
+    let [room @ .., for_work] = case.room;
+    let (mut lists, mut work) = (LentLists::new(room), rows(for_work));
+    let answer = grouping.decode_group(
+        &case.code,
+        case.settings,
+        case.frames,
+        &case.costs,
+        lists.lend(),
+        work.list(),
+    );
+    let frames = OF_FRAMES.iter().zip(answer.frames.map(fields_of));
+    let fields = frames.flat_map(|(names, fields)| names.iter().copied().zip(fields));
+    let mut fields: Vec<(&'static str, usize)> = fields.collect();
+    let changed = work.changed(answer.number != 0);
+    fields.push(("entries changed in or around the work list", changed));
+    Outcome::new(answer.number, &fields).with_all(lists.seen())
 }

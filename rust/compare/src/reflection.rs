@@ -32,9 +32,9 @@ pub struct Reflection {
 }
 
 /// The answer of a run and its lists, of exactly the lengths needed.
-struct Run {
-    answer: DecodeAnswer,
-    lists: OwnLists,
+pub struct Run {
+    pub answer: DecodeAnswer,
+    pub lists: OwnLists,
 }
 
 impl Reflection {
@@ -92,7 +92,8 @@ impl Reflection {
     }
 }
 
-fn compare_runs(first: &Run, second: &Run, point: &[u8]) -> Result<(), String> {
+/// Fails unless the second run is the first one, reflected by a point.
+pub fn compare_runs(first: &Run, second: &Run, point: &[u8]) -> Result<(), String> {
     if first.answer != second.answer {
         return Err(format!(
             "answers {:?} and {:?}",

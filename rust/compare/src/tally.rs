@@ -1,14 +1,16 @@
 //! Counts of what the compared cases met, so that no comparison is empty.
 
-use crate::case::{Case, DecodeCase};
+use crate::case::{Case, DecodeCase, GroupCase};
 use crate::degrees::{degrees_of, kinds_at, kinds_with_two_bits};
 use crate::encoder_events::{encoder_events, OF_FRAMES, OF_WORDS};
 use crate::families::seed;
+use crate::group_events::{group_events, of_groups, pairs_against_groups};
 use crate::limit_events::{limit_end_events, limit_events, OF_LIMITS};
 use crate::outcome::Outcome;
 use crate::run_events::{end_events, iteration_events, Largest, OF_RUNS};
 use crate::text_events::{pairs_against_texts, text_events, OF_TEXTS};
 use crate::two_bit_events::{two_bit_events, OF_TWO_BITS};
+use reference::cause::Cause;
 use reference::iteration::Problem;
 use reference::run::{run, MOST_ITERATIONS};
 use reference::SOUND;
@@ -16,7 +18,7 @@ use std::collections::{BTreeMap, BTreeSet};
 
 /// Every entry with all the numbers it can give; of the frame program the kinds of
 /// lines, and nothing for the end without one.
-const KINDS: [(&str, &str); 18] = [
+const KINDS: [(&str, &str); 19] = [
     ("read", "0,1,2,3,4,5,6,7,8,9"),
     ("split", "0,1,2,3,4,5,6,7,8,9,10"),
     ("gaussian", "0,10,11,14"),
@@ -27,6 +29,7 @@ const KINDS: [(&str, &str); 18] = [
     ("extend", "0,1,2,3,4,5,6,7,8,9,10,12,15,17"),
     ("add_words", "0,10,12,15"),
     ("decode", "0,1,2,3,4,5,6,7,8,9,10,11,12,13,16,17"),
+    ("decode_group", "0,1,2,3,4,5,6,7,8,9,10,11,12,21"),
     ("import", "0,3,4,6,7,8,10,18,19"),
     ("export", "0,1,2,3,4,5,6,7,8,9,10"),
     ("export_size", "0,1,2,3,4,5,6,7,8,9"),
@@ -40,11 +43,15 @@ const KINDS: [(&str, &str); 18] = [
     ),
 ];
 
-/// What must happen in some run, accepted import, accepted export, accepted encoding and frame.
-const EVENTS: [(&str, &[&str]); 8] = [
+/// What must happen in some run, alone and in a group, accepted import, accepted export, accepted
+/// encoding and frame.
+const EVENTS: [(&str, &[&str]); 11] = [
     ("decode", &OF_RUNS),
     ("decode", &OF_LIMITS),
     ("decode", &OF_TWO_BITS),
+    ("decode_group", &OF_RUNS),
+    ("decode_group", &OF_LIMITS),
+    ("decode_group", &OF_TWO_BITS),
     ("import", &OF_TEXTS),
     (
         "export",
@@ -95,6 +102,7 @@ impl Tally {
         }
         match case {
             Case::Decode(case) => self.add_run(case, outcome),
+            Case::DecodeGroup(case) => self.add_group(case, outcome),
             Case::Import { text, room } => self.add_import(text, *room, outcome),
             Case::Export { room, .. } if is_accepted(outcome) => {
                 let exact = outcome.fields[1].1 == *room;
@@ -125,12 +133,36 @@ impl Tally {
             });
         }
         let causes = SOUND.causes_of_import(text, room);
-        for [first, second] in pairs_against_texts() {
-            let told = |number| outcome.fields[0].1 == number as usize;
-            let holds = |number| causes.iter().any(|&cause| cause as u32 == number);
-            if holds(first) && holds(second) && (told(first) || told(second)) {
-                self.count(format!("import {first} with {second}"));
+        self.count_pairs("import", &causes, outcome);
+    }
+
+    /// Counts which two causes meet, where one of them is told.
+    fn count_pairs(&mut self, entry: &str, causes: &[Cause], outcome: &Outcome) {
+        for pair in pairs_against(entry) {
+            let told = |number: &u32| outcome.fields[0].1 == *number as usize;
+            let holds = |number: &u32| causes.iter().any(|&cause| cause as u32 == *number);
+            if pair.iter().all(holds) && pair.iter().any(told) {
+                self.count(meeting(entry, pair));
             }
+        }
+    }
+
+    /// Counts which causes meet in a group, and of an accepted one what it has and what happens in
+    /// each of its runs.
+    fn add_group(&mut self, case: &GroupCase, outcome: &Outcome) {
+        let (code, costs) = (&case.code, &case.costs);
+        let causes = SOUND.causes_of_group(code, case.settings, case.frames, costs, case.room);
+        self.count_pairs("decode_group", &causes, outcome);
+        if !is_accepted(outcome) {
+            return;
+        }
+        let code = SOUND.read_code(code).expect("an accepted code");
+        for event in group_events(case, &code, outcome) {
+            self.count(event);
+        }
+        for frame in 0..case.frames {
+            let outcome = outcome.of_frame(&code, frame);
+            self.add_run(&case.frame(frame, code.bits), &outcome);
         }
     }
 
@@ -224,12 +256,24 @@ fn of_entry(entry: &str) -> Vec<String> {
         let others = kinds_with_two_bits(&kind);
         std::iter::once(kind).chain(others)
     });
-    let pairs = pairs_against_texts()
-        .into_iter()
-        .filter(|_| entry == "import");
-    let pairs = pairs.map(|[first, second]| format!("import {first} with {second}"));
+    let pairs = pairs_against(entry).into_iter();
+    let pairs = pairs.map(|pair| meeting(entry, pair));
     let events = events.map(|event| event.to_string());
-    kinds.chain(pairs).chain(events).collect()
+    let of_groups = of_groups().into_iter().filter(|_| entry == "decode_group");
+    kinds.chain(pairs).chain(events).chain(of_groups).collect()
+}
+
+/// The causes that must meet in some call of an entry.
+fn pairs_against(entry: &str) -> Vec<[u32; 2]> {
+    match entry {
+        "import" => pairs_against_texts(),
+        "decode_group" => pairs_against_groups(),
+        _ => Vec::new(),
+    }
+}
+
+fn meeting(entry: &str, [first, second]: [u32; 2]) -> String {
+    format!("{entry} {first} with {second}")
 }
 
 fn is_accepted(outcome: &Outcome) -> bool {

@@ -1,7 +1,7 @@
 //! Cases as lines of text, so that a failure can be replayed. Lists stand in
 //! hexadecimal digits, floats as their bits, an empty list as a dash.
 
-use crate::case::{Case, DecodeCase};
+use crate::case::{Case, DecodeCase, GroupCase};
 use interface::{Channel, Erasing, Settings};
 use std::fmt;
 use std::str::{FromStr, SplitWhitespace};
@@ -144,6 +144,8 @@ cases! {
     "add_words": word, other, room => { Case::AddWords { word, other, room } }
     "decode": code, settings, costs, room =>
         { Case::Decode(DecodeCase { code, settings, costs, room }) }
+    "decode_group": code, settings, frames, costs, room =>
+        { Case::DecodeGroup(GroupCase { code, settings, frames, costs, room }) }
     "import": text, room => { Case::Import { text, room } }
     "export": code, room => { Case::Export { code, room } }
     "export_size": code => { Case::ExportSize { code } }

@@ -1,5 +1,7 @@
 //! What the tally counts of alist texts.
 
+use crate::pairs::pairs_of;
+
 /// What must happen in some accepted import.
 pub const OF_TEXTS: [&str; 8] = [
     "column not rising",
@@ -17,12 +19,7 @@ const AGAINST_TEXTS: [u32; 8] = [18, 19, 3, 4, 6, 7, 8, 10];
 
 /// Every two causes against an import.
 pub fn pairs_against_texts() -> Vec<[u32; 2]> {
-    let mut pairs = Vec::new();
-    for (place, &first) in AGAINST_TEXTS.iter().enumerate() {
-        let later = AGAINST_TEXTS[place + 1..].iter();
-        pairs.extend(later.map(|&second| [first, second]));
-    }
-    pairs
+    pairs_of(&AGAINST_TEXTS)
 }
 
 /// What an accepted text has.

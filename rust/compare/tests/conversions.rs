@@ -3,26 +3,17 @@
 
 use compare::alist::{text_of, Plan};
 use compare::codes::{records, small_code};
-use compare::families::{conversions, Effort};
+use compare::comparison::met;
+use compare::families::conversions;
 use compare::outcome::converted;
 use compare::random::Random;
 use compare::round_trips::assert_round_trips;
-use compare::tally::Tally;
 use interface::Alist;
 use reference::SOUND;
-use std::convert::Infallible;
 
 #[test]
 fn every_cause_is_met() {
-    let mut tally = Tally::default();
-    for family in conversions() {
-        let Ok(()) = family.visit(Effort::Quick, |_, case| {
-            if let Some(outcome) = converted(&SOUND, &case) {
-                tally.add(&case, &outcome);
-            }
-            Ok::<(), Infallible>(())
-        });
-    }
+    let tally = met(|case| converted(&SOUND, case), conversions());
     println!("{}", tally.summary());
     tally.assert_complete(&["import", "export", "export_size"], 10);
 }

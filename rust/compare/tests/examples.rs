@@ -5,18 +5,27 @@ use std::env;
 use std::fmt::{Display, Write};
 use std::path::{Path, PathBuf};
 use std::process::{Command, Output};
-use widagbe::{Alist, Channel, Decoder, Encoder, Library, OwnLists, Widagbe};
+use widagbe::{
+    work_length, Alist, Channel, DecodeAnswer, Decoder, Encoder, Grouping, Library, OwnLists,
+    Widagbe,
+};
 
 #[allow(dead_code)]
 #[path = "../../widagbe/examples/decode.rs"]
 mod decode;
 
+#[allow(dead_code)]
+#[path = "../../widagbe/examples/group.rs"]
+mod group;
+
 /// What both examples print.
 const EXPECTED: &str = include_str!("../../../examples/expected.txt");
+const OF_GROUP: &str = include_str!("../../../examples/group-expected.txt");
 
 #[test]
-fn the_rust_example_prints_what_is_stored() {
+fn the_rust_examples_print_what_is_stored() {
     assert_eq!(decode::report(), EXPECTED);
+    assert_eq!(group::report(), OF_GROUP);
 }
 
 #[test]
@@ -42,6 +51,11 @@ fn the_c_example_of_a_chain_prints_what_is_stored() {
 fn the_c_example_of_the_encoder_prints_what_is_stored() {
     let expected = include_str!("../../../examples/encode-expected.txt");
     assert_eq!(run_c("../../examples/c/encode.c", "-std=c99"), expected);
+}
+
+#[test]
+fn the_c_example_of_a_group_prints_what_is_stored() {
+    assert_eq!(run_c("../../examples/c/group.c", "-std=c99"), OF_GROUP);
 }
 
 #[test]
@@ -164,13 +178,36 @@ fn calls() -> String {
     lists.triples.push(0);
     lists.rows.push(0);
     let run = Widagbe.decode(&CODE, decode::SETTINGS, &costs, lists.lend());
-    let [number, k, settled] = [run.number, run.k, run.settled].map(|x| x as usize);
-    line(&mut text, "decode", &[number, run.place, k, settled]);
-    line(&mut text, "", &lists.sums);
-    line(&mut text, "", &lists.values);
-    line(&mut text, "", &lists.rows);
-    line(&mut text, "", &lists.word);
+    answer_line(&mut text, "decode", run);
+    list_lines(&mut text, &lists);
+
+    let frames = [&costs[..], &[i16::MIN; 5], &result[..n]].concat();
+    let mut lists = OwnLists::exact_group(3, n, v, t, 0);
+    lists.sums.push(0);
+    lists.values.push(0);
+    lists.rows.push(0);
+    lists.word.push(0);
+    let mut work = vec![0; work_length(3, n, v, t)];
+    let settings = decode::SETTINGS;
+    let group = Widagbe.decode_group(&CODE, settings, 3, &frames, lists.lend(), &mut work);
+    line(&mut text, "decode_group", &[group.number]);
+    for answer in group.frames {
+        answer_line(&mut text, "", answer);
+    }
+    list_lines(&mut text, &lists);
     text
+}
+
+fn answer_line(text: &mut String, name: &str, answer: DecodeAnswer) {
+    let [number, k, settled] = [answer.number, answer.k, answer.settled].map(|x| x as usize);
+    line(text, name, &[number, answer.place, k, settled]);
+}
+
+fn list_lines(text: &mut String, lists: &OwnLists) {
+    line(text, "", &lists.sums);
+    line(text, "", &lists.values);
+    line(text, "", &lists.rows);
+    line(text, "", &lists.word);
 }
 
 fn line(text: &mut String, name: &str, numbers: &[impl Display]) {

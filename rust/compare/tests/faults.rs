@@ -5,6 +5,7 @@ use compare::case::Case;
 use compare::chains::{self, check_chains};
 use compare::encodings::{self, check_encodings};
 use compare::families::{all, Effort};
+use compare::groupings::{self, check_groupings};
 use compare::limit_edges::{first, late, Edge};
 use compare::outcome::{outcome, Outcome};
 use compare::random::Random;
@@ -234,6 +235,51 @@ fn encodings_catch_what_breaks_them() {
     ] {
         let found = check_encodings(&with(fault), encodings::SEED).unwrap_err();
         println!("{fault:?}: {found}");
+        assert!(found.contains(what), "{fault:?}: {found}");
+    }
+}
+
+#[test]
+fn groupings_catch_what_breaks_them() {
+    for (fault, what) in [
+        (Fault::FramesExchanged, "than alone"),
+        (Fault::SecondFourAsFirst, "than alone"),
+        (Fault::LastFrameLeftOut, "another answer than alone"),
+        (Fault::StoppedFrameRenewed, "other lists than alone"),
+        (Fault::GroupStopsWithFirst, "another answer than alone"),
+        (Fault::LongestRunTold, "another answer than alone"),
+        (Fault::SettledTogether, "another answer than alone"),
+        (Fault::WordsAtVariables, "an entry past the frames"),
+        (Fault::FalseFrameRowsCleared, "other lists than alone"),
+        (Fault::FalseFrameEndsGroup, "another answer than alone"),
+        (Fault::FalseFramesLeaveSplit, "triples or counts"),
+        (Fault::FalseCostRefusesGroup, "a group is refused"),
+        (Fault::FalseCostBeforeRoom, "number 13 where 10 is due"),
+        (Fault::NoFramesAccepted, "number 12 where 21 is due"),
+        (Fault::LongerCostsAccepted, "number 0 where 12 is due"),
+        (Fault::WorkForFourAsked, "number 0 where 10 is due"),
+        (Fault::WorkForEightAsked, "a group is refused"),
+        (Fault::WorkClearedFirst, "a refused group changed a list"),
+        (Fault::AnswersExchanged, "another answer than alone"),
+        (Fault::AnswersPacked, "another answer than alone"),
+        (Fault::AnswersPastFrames, "an answer past the frames"),
+        (Fault::RestOfFramesCleared, "an entry past the frames"),
+        (Fault::QuotientFloored, "c or S of variable"),
+        (Fault::WordWrittenAlways, "bit"),
+        (Fault::BlankShareAdded, "c or S of variable"),
+        (
+            Fault::Exchanged(Cause::FrameCount, Cause::Lengths),
+            "number 12 where 21 is due",
+        ),
+        (
+            Fault::Exchanged(Cause::Setting, Cause::FrameCount),
+            "number 21 where 11 is due",
+        ),
+        (Fault::Overlooked(Cause::Cost), "the reflector's number"),
+    ] {
+        let found = check_groupings(&with(fault), groupings::SEED).map(|_| ());
+        println!("{fault:?}: {found:?}");
+        let found = found.unwrap_err();
         assert!(found.contains(what), "{fault:?}: {found}");
     }
 }

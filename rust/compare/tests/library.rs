@@ -3,8 +3,9 @@
 use compare::chains::assert_chains;
 use compare::comparison::compare;
 use compare::encodings::assert_encodings;
-use compare::families::{calls, conversions, encodings, Effort};
-use compare::outcome::{called, converted, encoded};
+use compare::families::{calls, conversions, encodings, groupings, Effort};
+use compare::groupings::assert_groupings;
+use compare::outcome::{called, converted, encoded, grouped};
 use compare::reflections::assert_reflects;
 use compare::round_trips::assert_round_trips;
 use widagbe::Widagbe;
@@ -31,6 +32,18 @@ fn the_library_equals_the_reference() {
     let tally = compare(|case| called(&Widagbe, case), calls(), Effort::Full).unwrap();
     println!("{}", tally.summary());
     tally.assert_complete(&ENTRIES, 20);
+}
+
+#[test]
+fn groups_equal_the_reference() {
+    let tally = compare(|case| grouped(&Widagbe, case), groupings(), Effort::Full).unwrap();
+    println!("{}", tally.summary());
+    tally.assert_complete(&["decode_group"], 20);
+}
+
+#[test]
+fn groups_of_the_library() {
+    assert_groupings(&Widagbe);
 }
 
 #[test]

@@ -34,6 +34,18 @@ pub struct DecodeAnswer {
     pub settled: u32,
 }
 
+/// The most frames of a group.
+pub const MOST_FRAMES: usize = 8;
+
+/// What a group of frames gets: an answer for each frame. Those past the given frames are 0,
+/// and so are all of a refused group.
+#[repr(C)]
+#[derive(Clone, Copy, Debug, Default, PartialEq, Eq)]
+pub struct GroupAnswer {
+    pub number: u32,
+    pub frames: [DecodeAnswer; MOST_FRAMES],
+}
+
 /// What import and export hand back: how many bytes were written.
 #[repr(C)]
 #[derive(Clone, Copy, Debug, Default, PartialEq, Eq)]
@@ -97,7 +109,8 @@ impl Channel {
 }
 
 /// The lists that the decoder's caller lends. A check of two bits has one triple, whose third
-/// entry is 0xFFFF, the blank; the lists of counts, sums and values have no entry for it.
+/// entry is 0xFFFF, the blank; the lists of counts, sums and values have no entry for it. In
+/// sums, values, rows and word the frames of a group stand one behind the other.
 pub struct Lists<'a> {
     pub triples: &'a mut [u16],
     pub counts: &'a mut [u16],
@@ -121,13 +134,24 @@ pub struct OwnLists {
 impl OwnLists {
     /// Lists of exactly the needed lengths, every entry `fill`.
     pub fn exact(bits: usize, variables: usize, triples: usize, fill: u8) -> OwnLists {
+        OwnLists::exact_group(1, bits, variables, triples, fill)
+    }
+
+    /// The same for a group of so many frames.
+    pub fn exact_group(
+        frames: usize,
+        bits: usize,
+        variables: usize,
+        triples: usize,
+        fill: u8,
+    ) -> OwnLists {
         OwnLists {
             triples: vec![fill.into(); 3 * triples],
             counts: vec![fill.into(); variables],
-            sums: vec![fill.into(); variables],
-            values: vec![fill.into(); variables],
-            rows: vec![fill.into(); 4 * triples],
-            word: vec![fill; bits],
+            sums: vec![fill.into(); frames * variables],
+            values: vec![fill.into(); frames * variables],
+            rows: vec![fill.into(); frames * 4 * triples],
+            word: vec![fill; frames * bits],
         }
     }
 
@@ -147,6 +171,29 @@ impl OwnLists {
 pub trait Decoder {
     /// Decodes one frame of costs.
     fn decode(&self, code: &[u8], settings: Settings, costs: &[i16], lists: Lists) -> DecodeAnswer;
+}
+
+/// How many entries the work list of a group of so many frames needs: lanes for four frames,
+/// or for eight.
+pub const fn work_length(frames: usize, bits: usize, variables: usize, triples: usize) -> usize {
+    let lanes = if frames <= 4 { 4 } else { 8 };
+    lanes * (4 * triples + 3 * variables + 3 * bits)
+}
+
+/// Frames of one code, decoded together (document 02, L7).
+pub trait Grouping {
+    /// Decodes up to eight frames with the same settings. The costs stand one behind the other,
+    /// and so do each frame's parts of the lists kept per frame; each frame's answer and parts
+    /// are the decoder's. A cost of -32,768 is its frame's alone: 13, and its parts stay.
+    fn decode_group(
+        &self,
+        code: &[u8],
+        settings: Settings,
+        frames: usize,
+        costs: &[i16],
+        lists: Lists,
+        work: &mut [i32],
+    ) -> GroupAnswer;
 }
 
 /// The decoder and the calls around it: the entries of document 01, and the sum of

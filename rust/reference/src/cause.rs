@@ -1,6 +1,6 @@
 //! The table of causes.
 
-use interface::WordAnswer;
+use interface::{DecodeAnswer, WordAnswer};
 
 /// A cause; its discriminant is its number. 16 and 17 are outcomes of a run.
 #[derive(Clone, Copy, Debug, PartialEq, Eq)]
@@ -25,6 +25,7 @@ pub enum Cause {
     Text = 18,
     Places = 19,
     TooLong = 20,
+    FrameCount = 21,
 }
 
 /// 0 for success, otherwise the cause's number.
@@ -35,11 +36,26 @@ pub fn number_of<T>(result: Result<T, Cause>) -> u32 {
     }
 }
 
+/// The causes of these that hold.
+pub(crate) fn holding(judged: Vec<(Cause, bool)>) -> Vec<Cause> {
+    let holding = judged.into_iter().filter(|&(_, holds)| holds);
+    holding.map(|(cause, _)| cause).collect()
+}
+
 impl From<Cause> for WordAnswer {
     fn from(cause: Cause) -> WordAnswer {
         WordAnswer {
             number: cause as u32,
             place: 0,
+        }
+    }
+}
+
+impl From<Cause> for DecodeAnswer {
+    fn from(cause: Cause) -> DecodeAnswer {
+        DecodeAnswer {
+            number: cause as u32,
+            ..DecodeAnswer::default()
         }
     }
 }

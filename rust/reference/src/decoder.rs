@@ -4,13 +4,33 @@ use crate::cause::Cause;
 use crate::fault::Fault;
 use crate::iteration::{most_row, row_sums, Iterate, Problem, UNIT};
 use crate::records::Code;
-use crate::run::{run, MOST_ITERATIONS};
+use crate::run::{run, End, MOST_ITERATIONS};
 use crate::Reference;
 use interface::{DecodeAnswer, Lists, Settings};
 
+/// What of the lent lists is kept for a frame.
+pub(crate) struct Parts<'a> {
+    pub sums: &'a mut [i64],
+    pub values: &'a mut [i16],
+    pub rows: &'a mut [i32],
+    pub word: &'a mut [u8],
+}
+
+/// The lengths of lists: triples, counts, sums, values, rows and word.
+pub(crate) fn lengths(lists: &Lists) -> [usize; 6] {
+    [
+        lists.triples.len(),
+        lists.counts.len(),
+        lists.sums.len(),
+        lists.values.len(),
+        lists.rows.len(),
+        lists.word.len(),
+    ]
+}
+
 impl Reference {
     /// Whether W, A and K are within their ranges; X may be anything.
-    fn in_range(self, settings: Settings) -> bool {
+    pub(crate) fn in_range(self, settings: Settings) -> bool {
         let mut weight = settings.weight as usize;
         if self.has(Fault::WeightIn16Bits) {
             weight %= 65_536;
@@ -22,14 +42,17 @@ impl Reference {
             && !signed
     }
 
-    fn have_room(self, code: &Code, lists: &Lists) -> bool {
+    /// Whether lists of these lengths have room for so many frames.
+    pub(crate) fn have_room(self, code: &Code, frames: usize, room: [usize; 6]) -> bool {
         let (triples, variables) = (self.triples(code), self.variables(code));
-        lists.triples.len() >= 3 * triples
-            && lists.counts.len() >= variables
-            && lists.sums.len() >= variables
-            && lists.values.len() >= variables
-            && lists.rows.len() >= 4 * triples
-            && (lists.word.len() >= code.bits || self.has(Fault::ShortWordPassesUnwritten))
+        let of_each = |size: usize| frames.saturating_mul(size);
+        let [for_triples, for_counts, for_sums, for_values, for_rows, for_word] = room;
+        for_triples >= 3 * triples
+            && for_counts >= variables
+            && for_sums >= of_each(variables)
+            && for_values >= of_each(variables)
+            && for_rows >= of_each(4 * triples)
+            && (for_word >= of_each(code.bits) || self.has(Fault::ShortWordPassesUnwritten))
     }
 
     pub(crate) fn try_decode(
@@ -40,7 +63,7 @@ impl Reference {
         lists: Lists,
     ) -> Result<DecodeAnswer, Cause> {
         let code = self.read_code(code)?;
-        let has_room = self.have_room(&code, &lists);
+        let has_room = self.have_room(&code, 1, lengths(&lists));
         let split = self.split_code(&code);
         if self.has(Fault::SplitBeforeJudged) && has_room {
             self.write_split(&split, lists.triples, lists.counts);
@@ -54,10 +77,27 @@ impl Reference {
         self.write_split(&split, lists.triples, lists.counts);
         let problem = Problem::new(self, split, settings, costs);
         let end = run(&problem, &mut |_, _| ());
-        write_iterate(&problem, &end.last, lists.sums, lists.values, lists.rows);
-        let reading = self.reading(&code, &end.last.values);
+        let parts = Parts {
+            sums: lists.sums,
+            values: lists.values,
+            rows: lists.rows,
+            word: lists.word,
+        };
+        self.write_end(&code, &problem, &end, parts)
+    }
+
+    /// Writes what a run left to its frame's parts, and tells its outcome.
+    pub(crate) fn write_end(
+        self,
+        code: &Code,
+        problem: &Problem,
+        end: &End,
+        parts: Parts,
+    ) -> Result<DecodeAnswer, Cause> {
+        write_iterate(problem, &end.last, parts.sums, parts.values, parts.rows);
+        let reading = self.reading(code, &end.last.values);
         if reading.number == 0 || self.has(Fault::WordWrittenAlways) {
-            let word = lists.word.get_mut(..code.bits).ok_or(Cause::ListTooShort)?;
+            let word = parts.word.get_mut(..code.bits).ok_or(Cause::ListTooShort)?;
             word.copy_from_slice(&reading.bits);
         }
         Ok(DecodeAnswer {

@@ -5,6 +5,7 @@ use crate::cause::Cause::{self, *};
 use crate::encoder::MOST_ENCODED_BITS;
 use crate::run::{FORMER_MOST_ITERATIONS, MOST_ITERATIONS};
 use crate::Reference;
+use interface::MOST_FRAMES;
 
 /// Defines the faults, and lists those with a place of their own in the
 /// reference after the entries in which they show.
@@ -29,31 +30,31 @@ macro_rules! faults {
 }
 
 faults! {
-    ["read", "split", "test", "extend", "decode", "export", "export_size", "message_length",
-     "encode", "encode_frames", "read_message"]:
+    ["read", "split", "test", "extend", "decode", "decode_group", "export", "export_size",
+     "message_length", "encode", "encode_frames", "read_message"]:
         CutMarkJudged, SizesReadTogether, HighIndexJudgedLast, TriplesJudgedAtOnce;
-    ["read", "split", "test", "extend", "decode", "import", "export", "export_size",
-     "message_length", "encode", "encode_frames", "read_message", "frames"]:
+    ["read", "split", "test", "extend", "decode", "decode_group", "import", "export",
+     "export_size", "message_length", "encode", "encode_frames", "read_message", "frames"]:
         TwoBitsMakeNoTriple;
-    ["split", "extend", "decode", "frames"]:
+    ["split", "extend", "decode", "decode_group", "frames"]:
         AuxiliaryOfTwoBits;
-    ["split", "decode", "frames"]:
+    ["split", "decode", "decode_group", "frames"]:
         BlankCounted;
-    ["split", "decode"]:
+    ["split", "decode", "decode_group"]:
         BlankIsNextIndex;
-    ["decode", "frames"]:
+    ["decode", "decode_group", "frames"]:
         BlankIsOne, BlankIsZero, BlankIsFirst, BlankIsLast, BlankRenewed, BlankShareAdded,
         BlankRowsLeftAtZero, BlankRowsNotCounted;
-    ["test", "extend", "decode", "read_message", "frames"]:
+    ["test", "extend", "decode", "decode_group", "read_message", "frames"]:
         TwoBitsNotTested;
     ["message_length", "encode", "encode_frames", "read_message"]:
         TwoBitsNotReduced;
     ["read"]:
         SizesWithRefusal;
-    ["split", "decode"]:
+    ["split", "decode", "decode_group"]:
         LastTripleTurned, CountsOfRows;
-    ["split", "decode", "import", "export", "reflect", "extend", "add_words", "encode",
-     "encode_frames", "read_message"]:
+    ["split", "decode", "decode_group", "import", "export", "reflect", "extend", "add_words",
+     "encode", "encode_frames", "read_message"]:
         RestCleared;
     ["test", "extend", "read_message"]:
         LastOddCheck, OddCheckFromOne;
@@ -71,15 +72,24 @@ faults! {
         NegativeZeroIsBelow;
     ["erasing"]:
         NegativeZeroFloorRefused;
-    ["decode"]:
-        QuotientFloored, QuotientIn32Bits, ChangedRowOrder, TripleSumsIn16Bits, RowsIn16Bits,
-        TotalsTogether, SumsOfNextIteration, NotSettledAtLimit, OneIterationMore,
+    ["decode", "decode_group"]:
+        QuotientFloored, QuotientIn32Bits, ScaledSumsIn32Bits, ChangedRowOrder,
+        TripleSumsIn16Bits, RowsIn16Bits, TotalsTogether, SumsOfNextIteration,
+        NotSettledAtLimit, OneIterationMore,
         AuxiliariesUndecided, HighestUndecided, SameWordEachTime, WordWrittenAlways,
         SplitBeforeJudged, ShortWordPassesUnwritten, SignedTolerance, WeightIn16Bits,
         DividendCutBelowLimit, TruncatedBelowLimit, LastHalfTowardsZero, LimitFromOneLess,
         LimitOneEarly, LimitTurned, LimitOfNextCount, LimitOfCountBefore;
-    ["decode", "frames"]:
+    ["decode", "decode_group", "frames"]:
         FormerLimitJudged, CutAtFormerLimit, RowsAtFormerBound;
+    ["decode_group"]:
+        FramesExchanged, SecondFourAsFirst, LastFrameLeftOut, StoppedFrameRenewed,
+        GroupStopsWithFirst, LongestRunTold, SettledTogether, WordsAtVariables,
+        FalseFrameRowsCleared, FalseFrameEndsGroup, FalseFramesLeaveSplit,
+        FalseCostRefusesGroup, FalseCostBeforeRoom, NoFramesAccepted, LongerCostsAccepted,
+        RoomForEightAsked, WorkForFourAsked, WorkForEightAsked, WorkNotJudged,
+        WorkClearedFirst, AnswersExchanged, AnswersPacked, AnswersPastFrames,
+        AnswersWithRefusal, RestOfFramesCleared;
     ["import"]:
         LeadingZerosRefused, NumbersIn16Bits, CountIn32Bits, NumbersAfterIgnored, TabSeparates,
         CarriageReturnSeparates, NulSeparates, SeparatorFirstRefused, NoSeparatorLastRefused,
@@ -118,6 +128,7 @@ const OF_RECORDS: &[&str] = &[
     "test",
     "extend",
     "decode",
+    "decode_group",
     "export",
     "export_size",
     "message_length",
@@ -144,7 +155,11 @@ const LIMITS: &[(&[&str], &[usize])] = &[
     (OF_RECORDS, &[2, 3, 32, 2_048, 4_096, 8_192]),
     (OF_ENCODER, &[MOST_ENCODED_BITS]),
     (OF_CHANNELS, &[32_767]),
-    (&["decode"], &[1_023, MOST_ITERATIONS, 16_384, 65_535]),
+    (
+        &["decode", "decode_group"],
+        &[1_023, MOST_ITERATIONS, 16_384, 65_535],
+    ),
+    (&["decode_group"], &[MOST_FRAMES]),
     (&["import"], &[2, 3, 32, 2_048, 4_096, 8_192, 65_535]),
     (&["frames"], &[2, 32, 512, 1_023, 1_024, MOST_ITERATIONS]),
 ];
@@ -169,7 +184,14 @@ const TOGETHER: &[(&[&str], &[Cause])] = &[
         &[TooLong, Lengths, WordEntry, ListTooShort, NotCodeword],
     ),
     (&["decode"], &[Setting, Lengths, Cost, ListTooShort]),
-    (&["decode", "frames"], &[Undecided, NotCodeword]),
+    (
+        &["decode_group"],
+        &[Setting, FrameCount, Lengths, ListTooShort],
+    ),
+    (
+        &["decode", "decode_group", "frames"],
+        &[Undecided, NotCodeword],
+    ),
     (&["import"], OF_IMPORT),
 ];
 
@@ -178,6 +200,7 @@ const ALONE: &[(&[&str], &[Cause])] = &[
     (OF_RECORDS, OF_FIELDS),
     (&["split", "export"], &[ListTooShort]),
     (&["message_length"], &[TooLong]),
+    (&["decode_group"], &[Cost]),
     (&["frames"], OF_FIELDS),
     (&["frames"], &[UnusedBit, ListTooShort, Setting, Cost]),
 ];

@@ -1,7 +1,7 @@
 //! Import: alist text to code records.
 
 use crate::alist::{Alist, Side};
-use crate::cause::Cause;
+use crate::cause::{holding, Cause};
 use crate::fault::Fault;
 use crate::Reference;
 use std::collections::{HashMap, HashSet};
@@ -124,13 +124,7 @@ impl Reference {
         let numbers = self.numbers(text).unwrap_or_default();
         match self.parts(&numbers) {
             Err(cause) => vec![cause],
-            Ok(alist) => {
-                let judged = self.judged(&alist, room).into_iter();
-                judged
-                    .filter(|&(_, holds)| holds)
-                    .map(|(cause, _)| cause)
-                    .collect()
-            }
+            Ok(alist) => holding(self.judged(&alist, room)),
         }
     }
 

@@ -131,7 +131,10 @@ pub fn row_sums(problem: &Problem, rows: &[[i64; 4]]) -> Vec<i64> {
 }
 
 /// The new c of a variable.
-fn value(problem: &Problem, variable: usize, sum: i64) -> i64 {
+fn value(problem: &Problem, variable: usize, mut sum: i64) -> i64 {
+    if problem.reference.has(Fault::ScaledSumsIn32Bits) {
+        sum = i64::from((256 * sum) as i32) / 256;
+    }
     let mut dividend = problem.dividend(variable, sum);
     if problem.reference.has(Fault::QuotientIn32Bits) {
         dividend = i128::from(dividend as i32);

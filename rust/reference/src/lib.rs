@@ -11,6 +11,7 @@ pub mod encoder;
 mod export;
 pub mod fault;
 mod frames;
+mod group;
 mod import;
 pub mod iteration;
 pub mod quotient;
@@ -23,8 +24,8 @@ mod words;
 use cause::number_of;
 use fault::Fault;
 use interface::{
-    Alist, BytesAnswer, Channel, CodeAnswer, DecodeAnswer, Decoder, Encoder, LengthAnswer, Library,
-    Lists, Settings, WordAnswer,
+    Alist, BytesAnswer, Channel, CodeAnswer, DecodeAnswer, Decoder, Encoder, GroupAnswer, Grouping,
+    LengthAnswer, Library, Lists, Settings, WordAnswer,
 };
 
 /// The reference, with its fault if it has one.
@@ -39,10 +40,22 @@ pub const SOUND: Reference = Reference { fault: None };
 impl Decoder for Reference {
     fn decode(&self, code: &[u8], settings: Settings, costs: &[i16], lists: Lists) -> DecodeAnswer {
         let result = self.try_decode(code, settings, costs, lists);
-        result.unwrap_or_else(|cause| DecodeAnswer {
-            number: cause as u32,
-            ..DecodeAnswer::default()
-        })
+        result.unwrap_or_else(DecodeAnswer::from)
+    }
+}
+
+impl Grouping for Reference {
+    fn decode_group(
+        &self,
+        code: &[u8],
+        settings: Settings,
+        frames: usize,
+        costs: &[i16],
+        lists: Lists,
+        work: &mut [i32],
+    ) -> GroupAnswer {
+        let result = self.try_decode_group(code, settings, frames, costs, lists, work);
+        result.unwrap_or_else(|cause| self.refused_group(cause))
     }
 }
 

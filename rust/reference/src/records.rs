@@ -168,21 +168,29 @@ impl Reference {
         code.bits + auxiliaries.sum::<usize>()
     }
 
-    /// The code that the bytes hold, or the first cause against them.
-    pub fn read_code(self, bytes: &[u8]) -> Result<Code, Cause> {
+    /// The code that the bytes hold, with the causes against it as a whole, or the cause that
+    /// ends the reading.
+    pub(crate) fn read_whole(self, bytes: &[u8]) -> Result<(Code, [(Cause, bool); 3]), Cause> {
         let mut reader = Reader {
             reference: self,
             rest: bytes,
         };
         let code = reader.code(usize::MAX, usize::MAX)?;
-        self.judge(&[
+        let causes = [
             (Cause::BytesAfter, !reader.rest.is_empty()),
             (
                 Cause::TooManyTriples,
                 self.triples(&code) > self.limit(8_192),
             ),
             (Cause::UnusedBit, !code.uses_every_bit()),
-        ])?;
+        ];
+        Ok((code, causes))
+    }
+
+    /// The code that the bytes hold, or the first cause against them.
+    pub fn read_code(self, bytes: &[u8]) -> Result<Code, Cause> {
+        let (code, causes) = self.read_whole(bytes)?;
+        self.judge(&causes)?;
         Ok(code)
     }
 }

@@ -56,6 +56,15 @@ fn records_from_every_entry() {
             refusal(number)
         );
         assert_eq!(lent, lists(3, 3, 1));
+        let (settings, mut work) = (Settings::new(0, 0, 0, 0), [77; 76]);
+        assert_eq!(
+            SOUND.decode_group(&bytes, settings, 0, &[], lent.lend(), &mut work),
+            GroupAnswer {
+                number,
+                ..GroupAnswer::default()
+            }
+        );
+        assert_eq!((lent, work), (lists(3, 3, 1), [77; 76]));
         let mut point = [77; 3];
         let answer = WordAnswer { number, place: 0 };
         assert_eq!(SOUND.test(&bytes, &[2; 3]), answer);

@@ -1,7 +1,7 @@
 //! The C functions of the compiled library, but for the decoder's, which `decoder!`
 //! declares. A list is a pointer and a length.
 
-use interface::{BytesAnswer, CodeAnswer, LengthAnswer, WordAnswer};
+use interface::{BytesAnswer, CodeAnswer, GroupAnswer, LengthAnswer, WordAnswer};
 
 extern "C" {
     pub fn widagbe_read(code: *const u8, code_len: usize) -> CodeAnswer;
@@ -119,4 +119,30 @@ extern "C" {
         message: *mut u8,
         message_len: usize,
     ) -> WordAnswer;
+
+    pub fn widagbe_decode_group(
+        code: *const u8,
+        code_len: usize,
+        weight: u32,
+        ratio: u32,
+        limit: u32,
+        tolerance: u32,
+        frames: usize,
+        costs: *const i16,
+        costs_len: usize,
+        triples: *mut u16,
+        triples_len: usize,
+        counts: *mut u16,
+        counts_len: usize,
+        sums: *mut i64,
+        sums_len: usize,
+        values: *mut i16,
+        values_len: usize,
+        rows: *mut i32,
+        rows_len: usize,
+        word: *mut u8,
+        word_len: usize,
+        work: *mut i32,
+        work_len: usize,
+    ) -> GroupAnswer;
 }

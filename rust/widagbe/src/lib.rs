@@ -1,6 +1,7 @@
 //! The compiled library from Rust: slices in, plain answers out. The borrow
 //! rules keep lent lists apart, so every call here is safe. Types and traits are
-//! those of `interface`; `examples/decode.rs` is a whole program.
+//! those of `interface`; `examples/decode.rs` is a whole program, and `examples/group.rs` one that
+//! decodes several frames in one call.
 
 #[macro_use]
 mod call;
@@ -14,6 +15,28 @@ pub use interface::*;
 pub struct Widagbe;
 
 decoder! { Widagbe, widagbe_decode }
+
+impl Grouping for Widagbe {
+    fn decode_group(
+        &self,
+        code: &[u8],
+        settings: Settings,
+        frames: usize,
+        costs: &[i16],
+        lists: Lists,
+        work: &mut [i32],
+    ) -> GroupAnswer {
+        call! { widagbe_decode_group(
+            [code],
+            settings.weight, settings.ratio, settings.limit, settings.tolerance,
+            frames,
+            [costs],
+            [mut lists.triples], [mut lists.counts], [mut lists.sums],
+            [mut lists.values], [mut lists.rows], [mut lists.word],
+            [mut work]
+        ) }
+    }
+}
 
 impl Library for Widagbe {
     fn read(&self, code: &[u8]) -> CodeAnswer {

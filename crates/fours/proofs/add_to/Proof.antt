@@ -1,6 +1,5 @@
 -- `fours::add_to` meets its contract. Assumes nothing.
-use Rattle.integers.proofs.Prelude.{ap, _∙_, List, ℕ, _+_, _^_, _<_, arith, needs, ℤ, natAbs, _+ℤ_, sets, w32}
-use borrow.Kind.Array.{eSInt, good-length}
+use Rattle.integers.proofs.Prelude.{ap, _∙_, List, ℕ, _+_, _^_, _<_, arith, needs, ℤ, natAbs, _+ℤ_, sets}
 use Rattle.integers.proofs.Linear.{abs-add}
 use Rattle.lists.specs.Tabulated.{tab}
 use Rattle.model.specs.Iteration.{at}
@@ -10,13 +9,16 @@ use Rattle.fours.proofs.add_to.Statement.{statement}
 use Rattle.fours.proofs.add_to.Tie as tie
 
 fit : (c : tie.After-load) (k : ℕ) → natAbs (at (c .load .result) k) + natAbs (at (c .before .before .args .q) k) < 2 ^ 31
-fit c = let s = c .before .before in room-of (s .args .q) (λ k. at (s .args .l .now) (s .args .i + k)) (c .load .ensures) (good-length (eSInt w32) 4 (s .args .q) _ (s .good .1 .1 .0)) (s .pre .1)
+fit c =
+    let s = c .before .before in
+    room-of (s .args .q) (λ k. at (s .args .l .now) (s .args .i + k)) (c .load .ensures) (s .good .1 .1 .0) (s .pre .1)
 
 store-requires : tie.Need-store-requires
 store-requires c κs =
     let d = c .before .before in
     let s = d .before .before in
-    let small = small-are most (λ k. at (d .load .result) k +ℤ at (s .args .q) k) (c .add .ensures) (λ k _. omega (arith, abs-add (at (d .load .result) k) (at (s .args .q) k), fit d k)) in
+    let small = small-are most (λ k. at (d .load .result) k +ℤ at (s .args .q) k) (c .add .ensures)
+    (λ k _. omega (arith, abs-add (at (d .load .result) k) (at (s .args .q) k), fit d k)) in
     (s .pre .0 .0, s .pre .0 .1, λ k. omega (arith, small k))
 
 returns : tie.Need-returns

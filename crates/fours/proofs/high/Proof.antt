@@ -1,5 +1,5 @@
 -- `fours::high` meets its contract. Assumes nothing.
-use Rattle.integers.proofs.Prelude.{ap, _∙_, _^_, ℤ, w32, toZ, ofZ, toZ-ofZ}
+use Rattle.integers.proofs.Prelude.{ap, _∙_, _^_, ℤ, w32, toZ-ofZ}
 use native.Mathlib.Nat.{lt-of-le-of-lt}
 use lib.Signed.{shrZ, mag-shr}
 use Rattle.integers.proofs.Machine.{kept}

@@ -20,4 +20,6 @@ returns c = let s = c .before .before .before .before in four-worked _-ℤ_ abs-
 
 pub lowered-spec : {M : Type 1} → statement M
 lowered-spec =
-    tie.close (tie.spec (λ c. search needs) (λ c. fits (entry (c .before) 0) w32 tt) (λ c. search needs) (λ c. fits (entry (c .before .before) 1) w32 tt) (λ c. search needs) (λ c. fits (entry (c .before .before .before) 2) w32 tt) (λ c. search needs) (λ c. fits (entry (c .before .before .before .before) 3) w32 tt) returns)
+    tie.close (tie.spec (λ c. search needs) (λ c. fits (entry (c .before) 0) w32 tt) (λ c. search needs)
+    (λ c. fits (entry (c .before .before) 1) w32 tt) (λ c. search needs) (λ c. fits (entry (c .before .before .before) 2) w32 tt) (λ c. search needs)
+    (λ c. fits (entry (c .before .before .before .before) 3) w32 tt) returns)

@@ -18,9 +18,15 @@ returns : tie.Need-returns
 returns c =
     let s = c .before .before .before .before .before .before .before .before in
     let of : ℤ → ℤ = λ z. z -ℤ pos (2 ^ 14) *ℤ shrZ z (2 ^ 14) in
-    let e = each of (s .args .t1) (λ k. omega (arith, s .pre k)) _ _ _ _ (c .before .before .before .before .before .before .low .ok, c .before .before .before .before .before .before .low .ensures .0) (c .before .before .before .before .low2 .ok, c .before .before .before .before .low2 .ensures .0) (c .before .before .low3 .ok, c .before .before .low3 .ensures .0) (c .low4 .ok, c .low4 .ensures .0) in
+    let e = each of (s .args .t1) (λ k. omega (arith, s .pre k)) _ _ _ _
+    (c .before .before .before .before .before .before .low .ok, c .before .before .before .before .before .before .low .ensures .0)
+    (c .before .before .before .before .low2 .ok, c .before .before .before .before .low2 .ensures .0)
+    (c .before .before .low3 .ok, c .before .before .low3 .ensures .0)
+    (c .low4 .ok, c .low4 .ensures .0) in
     (e, small-are (2 ^ 14) (λ k. of (at (s .args .t1) k)) e (λ k _. low-small (at (s .args .t1) k)))
 
 pub lows-spec : {M : Type 1} → statement M
 lows-spec =
-    tie.close (tie.spec (λ c. search needs) (λ c κs. asked (c .before) 0) (λ c. search needs) (λ c κs. asked (c .before .before .before) 1) (λ c. search needs) (λ c κs. asked (c .before .before .before .before .before) 2) (λ c. search needs) (λ c κs. asked (c .before .before .before .before .before .before .before) 3) returns)
+    tie.close (tie.spec (λ c. search needs) (λ c κs. asked (c .before) 0) (λ c. search needs) (λ c κs. asked (c .before .before .before) 1)
+    (λ c. search needs) (λ c κs. asked (c .before .before .before .before .before) 2) (λ c. search needs)
+    (λ c κs. asked (c .before .before .before .before .before .before .before) 3) returns)

@@ -72,4 +72,10 @@ returns c =
 
 pub shares-spec : {M : Type 1} → statement M
 shares-spec =
-    tie.close (tie.spec (λ c. search needs) (λ c κs. asked (c .before) 0) (λ c. search needs) (λ c κs. asked (c .before .before .before) 1) (λ c. search needs) (λ c κs. asked (c .before .before .before .before .before) 2) (λ c. search needs) (λ c κs. asked (c .before .before .before .before .before .before .before) 3) (λ c κs. room (r3 c) (r0 c) tt) (λ c κs. room (r1 (c .before)) (r2 (c .before)) tt) (λ c κs. room (r3 (c .before .before)) (r0 (c .before .before)) tt) (λ c κs. room (r1 (c .before .before .before)) (r2 (c .before .before .before)) tt) (λ c κs. room (outer c) (inner c) tt) (λ c κs. room (outer-change (c .before)) (inner-change (c .before)) tt) (λ c κs. room (outer-change (c .before .before)) (inner-change (c .before .before)) tt) returns)
+    tie.close (tie.spec (λ c. search needs) (λ c κs. asked (c .before) 0) (λ c. search needs) (λ c κs. asked (c .before .before .before) 1)
+    (λ c. search needs) (λ c κs. asked (c .before .before .before .before .before) 2) (λ c. search needs)
+    (λ c κs. asked (c .before .before .before .before .before .before .before) 3) (λ c κs. room (r3 c) (r0 c) tt)
+    (λ c κs. room (r1 (c .before)) (r2 (c .before)) tt) (λ c κs. room (r3 (c .before .before)) (r0 (c .before .before)) tt)
+    (λ c κs. room (r1 (c .before .before .before)) (r2 (c .before .before .before)) tt) (λ c κs. room (outer c) (inner c) tt)
+    (λ c κs. room (outer-change (c .before)) (inner-change (c .before)) tt)
+    (λ c κs. room (outer-change (c .before .before)) (inner-change (c .before .before)) tt) returns)

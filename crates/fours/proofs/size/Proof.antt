@@ -11,4 +11,6 @@ within s = omega (arith, s .pre)
 
 pub size-spec : {M : Type 1} → statement M
 size-spec =
-    tie.close (tie.spec (λ c. let s = c .before in fits (negated (s .args .x) most tt (within s)) w32 tt) (λ c. let s = c .before in size-below (s .args .x) most tt (within s) (c .if1 .taken)) (λ c. let s = c .before in size-above (s .args .x) most tt (within s) (c .if1 .left)))
+    tie.close (tie.spec (λ c. let s = c .before in fits (negated (s .args .x) most tt (within s)) w32 tt)
+    (λ c. let s = c .before in size-below (s .args .x) most tt (within s) (c .if1 .taken))
+    (λ c. let s = c .before in size-above (s .args .x) most tt (within s) (c .if1 .left)))

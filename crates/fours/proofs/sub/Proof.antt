@@ -1,5 +1,5 @@
 -- `fours::sub` meets its contract. Assumes nothing.
-use Rattle.integers.proofs.Prelude.{ℕ, needs, ℤ, _-ℤ_, w32}
+use Rattle.integers.proofs.Prelude.{ℕ, needs, _-ℤ_, w32}
 use Rattle.integers.proofs.Linear.{abs-sub}
 use Rattle.integers.proofs.Machine.{Worth, fits}
 use Rattle.model.specs.Iteration.{at}
@@ -16,4 +16,7 @@ returns c = let s = c .before .before .before .before .before .before .before .b
 
 pub sub-spec : {M : Type 1} → statement M
 sub-spec =
-    tie.close (tie.spec (λ c. search needs) (λ c. search needs) (λ c. fits (entry (c .before .before) 0) w32 tt) (λ c. search needs) (λ c. search needs) (λ c. fits (entry (c .before .before .before .before) 1) w32 tt) (λ c. search needs) (λ c. search needs) (λ c. fits (entry (c .before .before .before .before .before .before) 2) w32 tt) (λ c. search needs) (λ c. search needs) (λ c. fits (entry (c .before .before .before .before .before .before .before .before) 3) w32 tt) returns)
+    tie.close (tie.spec (λ c. search needs) (λ c. search needs) (λ c. fits (entry (c .before .before) 0) w32 tt) (λ c. search needs)
+    (λ c. search needs) (λ c. fits (entry (c .before .before .before .before) 1) w32 tt) (λ c. search needs) (λ c. search needs)
+    (λ c. fits (entry (c .before .before .before .before .before .before) 2) w32 tt) (λ c. search needs) (λ c. search needs)
+    (λ c. fits (entry (c .before .before .before .before .before .before .before .before) 3) w32 tt) returns)

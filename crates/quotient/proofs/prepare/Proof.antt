@@ -25,7 +25,7 @@ module _ (s : tie.Start) where
   whole : Worth (quotZ (pos (2 ^ 47)) (toZ w64 (ofZ w64 (s .args .den)))) (pos (2 ^ 47 / d)) (2 ^ 47)
   whole = record { is = ap (quotZ (pos (2 ^ 47))) (den-is .is); within = div-le-self (2 ^ 47) d }
 
-  inverse-is : Worth (toZ w64 (ofZ w64 (quotZ (pos (2 ^ 47)) (toZ w64 (ofZ w64 (s .args .den))))) +ℤ pos 1) (pos (inverseOf d)) (2 ^ 47 + 1)
+  inverse-is : Worth (toZ w64 (ofZ w64 (quotZ (pos (2 ^ 47)) (toZ w64 (ofZ w64 (s .args .den))))) +ℤ pos 1) (pos (inverseOf (2 ^ 47) d)) (2 ^ 47 + 1)
   unfolding inverseOf
   inverse-is = plus (stored whole w64 tt) (literal (pos 1))
 

@@ -18,9 +18,10 @@ fn subject(name: &str) -> Option<Subject> {
         "packed" => Some(|case| encoded(&rivals::Packed, case)),
         #[cfg(feature = "library")]
         "library" => Some(|case| {
-            use compare::outcome::{called, printed};
+            use compare::outcome::{called, grouped, printed};
             use compare::program;
             called(&widagbe::Widagbe, case)
+                .or_else(|| grouped(&widagbe::Widagbe, case))
                 .or_else(|| converted(&widagbe::Widagbe, case))
                 .or_else(|| encoded(&widagbe::Widagbe, case))
                 .or_else(|| printed(program::frames, case))

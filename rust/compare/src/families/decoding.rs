@@ -29,22 +29,25 @@ pub fn families() -> Vec<Family> {
     ]
 }
 
-/// One check, all triples of some costs: halves, zeros and equal totals.
-fn grid() -> Vec<Case> {
+/// All triples of some costs.
+pub fn grid_costs() -> Vec<Vec<i16>> {
     const COSTS: [i16; 7] = [-20_000, -3, -2, 0, 1, 2, 8_000];
-    let mut cases = Vec::new();
+    let mut all = Vec::new();
     for first in COSTS {
         for second in COSTS {
-            for third in COSTS {
-                for limit in 1..=3 {
-                    let costs = vec![first, second, third];
-                    cases.push(exact_case(
-                        &one_check(3),
-                        Settings::new(256, 0, limit, 0),
-                        costs,
-                    ));
-                }
-            }
+            all.extend(COSTS.map(|third| vec![first, second, third]));
+        }
+    }
+    all
+}
+
+/// One check with all of them: halves, zeros and equal totals.
+fn grid() -> Vec<Case> {
+    let mut cases = Vec::new();
+    for costs in grid_costs() {
+        for limit in 1..=3 {
+            let settings = Settings::new(256, 0, limit, 0);
+            cases.push(exact_case(&one_check(3), settings, costs.clone()));
         }
     }
     cases
@@ -53,7 +56,7 @@ fn grid() -> Vec<Case> {
 /// K at the ends of its range, at the former end and beyond.
 const LIMITS: [u32; 10] = [0, 1, 2, 1_000, 1_001, 3_999, 4_000, 4_001, 65_537, u32::MAX];
 
-fn edge_settings() -> Vec<Case> {
+pub fn edge_settings() -> Vec<Case> {
     let mut cases = Vec::new();
     for weight in [0, 1, 65_535, 65_536, 65_537, u32::MAX] {
         for ratio in [0, 1_023, 1_024, 65_536, u32::MAX] {
@@ -131,25 +134,34 @@ pub fn exact_tolerance_of(random: &mut Random, code: fn(&mut Random) -> Code) ->
     draft.case(Entry::Decode)
 }
 
-fn middle_run(random: &mut Random) -> Case {
+pub fn middle_run(random: &mut Random) -> Case {
     run_of(random, |random| code_within(random, 400, 200, 1_500))
 }
 
-/// A code that corrects errors, settings that decode, and noise that it can
-/// bear or not.
-fn noisy_codeword(random: &mut Random) -> Case {
-    let code = match random.below(40) {
+/// A code that corrects errors.
+pub fn noisy_code(random: &mut Random) -> Code {
+    match random.below(40) {
         0 => regular_code(random, 1_008, 3, 6),
         1..=5 => training_code(),
         _ => regular_code(random, 60, 3, 6),
-    };
-    let codeword = Codewords::of(&code).random(random);
-    let noise = random.pick(&[400.0, 700.0, 1_000.0]);
+    }
+}
+
+/// Costs of a codeword with so much noise.
+pub fn noisy_costs(random: &mut Random, codewords: &Codewords, noise: f64) -> Vec<i16> {
+    let codeword = codewords.random(random);
     let costs = codeword.iter().map(|&bit| {
         let sign = 1.0 - 2.0 * f64::from(bit);
         (1_000.0 * sign + noise * random.normal()).round() as i16
     });
-    let costs = costs.collect();
+    costs.collect()
+}
+
+/// Settings that decode, and noise that the code can bear or not.
+fn noisy_codeword(random: &mut Random) -> Case {
+    let code = noisy_code(random);
+    let noise = random.pick(&[400.0, 700.0, 1_000.0]);
+    let costs = noisy_costs(random, &Codewords::of(&code), noise);
     let tolerance = random.pick(&[10_000, 10_000_000]);
     let weight = random.pick(&[1_000, 8_000]);
     exact_case(&code, Settings::new(weight, 150, 200, tolerance), costs)

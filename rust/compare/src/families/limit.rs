@@ -24,7 +24,7 @@ fn cases(edges: &[Edge]) -> Vec<Case> {
 
 /// Nearly all values come to the limit and stay there to the end of the run, since one
 /// check of three bits of its own never settles.
-fn settled_beside_unsettled(random: &mut Random) -> Case {
+pub fn settled_beside_unsettled(random: &mut Random) -> Case {
     let count = random.pick(&[3, 16, 31, 32, 40, 48]);
     let code = regular_code(random, 30, count, 3);
     let place = random.pick(&[0, code.checks.len()]);

@@ -20,7 +20,7 @@ pub fn families() -> Vec<Family> {
     ]
 }
 
-fn long_run(random: &mut Random) -> Case {
+pub fn long_run(random: &mut Random) -> Case {
     let mut draft = Draft::random(random, tiny_code);
     draft.settings.limit = random.pick(&[999, 1_000, 1_001, 3_999, 4_000]);
     draft.settings.tolerance = random.pick(&[0, 0, 1_000]);
@@ -29,7 +29,7 @@ fn long_run(random: &mut Random) -> Case {
 }
 
 /// No bit lies in more checks than the tuned rival takes.
-fn strained_run(random: &mut Random) -> Case {
+pub fn strained_run(random: &mut Random) -> Case {
     let code = strained_code([0; 3].map(|_| random.between(4, 31)));
     strained_run_of(random, &code, straining_costs)
 }
@@ -50,7 +50,7 @@ pub fn strained_run_of(
 
 /// Weak costs and a ratio of 0, with which nearly all runs go on to the end, or one
 /// of 3, with which many settle late; and the strongest costs.
-fn longest_run(random: &mut Random) -> Case {
+pub fn longest_run(random: &mut Random) -> Case {
     let code = match random.below(3) {
         0 => regular_code(random, 24, 3, 6),
         _ => tiny_code(random),
@@ -110,11 +110,15 @@ fn limits() -> Vec<Case> {
 /// The largest S that a search found, 275,572,480. Bit 0 lies in 2,047 checks, each
 /// with two bits of its own. Its cost wants 1, the last 17 checks want 0, and the
 /// others follow either.
-fn largest_sum() -> Vec<Case> {
+pub fn largest_sum_run() -> (Code, Settings, Vec<i16>) {
     let code = strained_code([2_046, 0, 0]);
     let mut costs = vec![-32_767];
     costs.extend([0, -348].repeat(2_030));
     costs.extend([32_767; 2].repeat(17));
-    let settings = Settings::new(65_535, 1_023, 4_000, 0);
+    (code, Settings::new(65_535, 1_023, 4_000, 0), costs)
+}
+
+fn largest_sum() -> Vec<Case> {
+    let (code, settings, costs) = largest_sum_run();
     vec![exact_case(&code, settings, costs)]
 }

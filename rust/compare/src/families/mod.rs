@@ -4,6 +4,8 @@ mod channels;
 mod decoding;
 mod encoder;
 mod exports;
+mod group_edges;
+mod groups;
 mod imports;
 mod limit;
 mod long_runs;
@@ -93,6 +95,7 @@ impl Family {
 /// The families of every entry.
 pub fn all() -> Vec<Family> {
     let mut families = calls();
+    families.extend(groups_alone());
     families.extend(texts());
     families.extend(encoder_alone());
     families.extend(program());
@@ -108,6 +111,13 @@ pub fn calls() -> Vec<Family> {
     families.extend(limit::families());
     families.extend(long_runs::families());
     families.extend(two_bits::calls());
+    families
+}
+
+/// The families with groups of frames.
+pub fn groupings() -> Vec<Family> {
+    let mut families = of_records();
+    families.extend(groups_alone());
     families
 }
 
@@ -129,6 +139,13 @@ pub fn encodings() -> Vec<Family> {
 fn of_records() -> Vec<Family> {
     let mut families = records::families();
     families.extend(two_bits::records());
+    families
+}
+
+/// The families of groups alone.
+fn groups_alone() -> Vec<Family> {
+    let mut families = groups::families();
+    families.extend(group_edges::families());
     families
 }
 

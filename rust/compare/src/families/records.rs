@@ -162,8 +162,14 @@ pub fn about(code: &Code) -> Vec<Case> {
     all.into_iter().flat_map(of_each).collect()
 }
 
+/// A call of any entry, with up to three damages.
 pub fn damaged(random: &mut Random, code: Code) -> Case {
     let entry = random.pick(&ENTRIES);
+    damaged_call(random, entry, code)
+}
+
+/// The same of one entry.
+pub fn damaged_call(random: &mut Random, entry: Entry, code: Code) -> Case {
     let mut draft = Draft::of(random, code);
     if random.once_in(2) {
         draft.lengthen(random);

@@ -253,7 +253,7 @@ fn long_lists() -> Vec<Case> {
 }
 
 /// To the most iterations, with weak costs or the strongest.
-fn long_run(random: &mut Random) -> Case {
+pub fn long_run(random: &mut Random) -> Case {
     let mut draft = Draft::random(random, tiny_two_bit_code);
     let (weight, most, ratio) = random.pick(&[
         (1, 32_767, 0),
@@ -268,13 +268,13 @@ fn long_run(random: &mut Random) -> Case {
     draft.case(Entry::Decode)
 }
 
-fn strained_run(random: &mut Random) -> Case {
+pub fn strained_run(random: &mut Random) -> Case {
     let code = strained_pair(random.between(3, 31));
     strained_run_of(random, &code, straining_pair_costs)
 }
 
 /// As many checks as can be, with any settings.
-fn many_checks(random: &mut Random) -> Case {
+pub fn many_checks(random: &mut Random) -> Case {
     run_of(random, |random| match random.below(3) {
         0 => {
             let bits = random.between(3, 2_049);

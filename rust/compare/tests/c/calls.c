@@ -90,5 +90,28 @@ int main(void)
     SHOW(values);
     SHOW(rows);
     SHOW(word);
+
+    enum { F = 3 };
+    int16_t frames[F * N] = {0};
+    for (size_t i = 0; i < N; i++) {
+        frames[i] = costs[i];
+        frames[N + i] = INT16_MIN;
+        frames[2 * N + i] = result[i];
+    }
+    int64_t all_sums[F * V + 1] = {0};
+    int16_t all_values[F * V + 1] = {0};
+    int32_t all_rows[F * 4 * T + 1] = {0}, work[4 * (4 * T + 3 * V + 3 * N)] = {0};
+    uint8_t all_words[F * N + 1] = {0};
+    widagbe_group_answer group = widagbe_decode_group(LIST(code), 8000, 150, 300, 1000000, F, LIST(frames), LIST(triples),
+                                                      LIST(counts), LIST(all_sums), LIST(all_values), LIST(all_rows),
+                                                      LIST(all_words), LIST(work));
+    printf("decode_group %" PRIu32 "\n", group.number);
+    for (size_t f = 0; f < WIDAGBE_MAX_FRAMES; f++)
+        printf(" %" PRIu32 " %zu %" PRIu32 " %" PRIu32 "\n", group.frames[f].number, group.frames[f].place,
+               group.frames[f].k, group.frames[f].settled);
+    SHOW(all_sums);
+    SHOW(all_values);
+    SHOW(all_rows);
+    SHOW(all_words);
     return 0;
 }

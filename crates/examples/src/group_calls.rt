@@ -1,0 +1,100 @@
+// Examples of calls of the decoder of a group, on the code of three bits with the check (0,1,2). A frame is a letter: z has the costs 0, o 20,000 each, h
+// 20,000, 20,000 and -8,000, and f a cost of -32,768.
+use crate::decoder_calls::each_list;
+use crate::decoder_calls::settings;
+use crate::show::Lists;
+use crate::show::lent;
+use crate::show::number;
+use crate::show::placed;
+use crate::show::text;
+use crate::table::numbers;
+use model::FrameAnswer;
+use model::GroupAnswer;
+
+const CODE: [u8; 15] = *b"LH\0\x03\0\x01LC\x03\0\0\0\x01\0\x02";
+
+// The cost of bit b in a frame.
+fn cost(frame: u8, b: usize) -> i16 {
+    if frame == b'z' {
+        return 0;
+    }
+    if (frame == b'f') & (b == 1) {
+        return -32768;
+    }
+    if (frame == b'h') & (b == 2) {
+        return -8000;
+    }
+    20000
+}
+
+// The costs of up to eight frames, one behind the other; it answers how many they are.
+fn costs_of(frames: &[u8], costs: &mut [i16; 24]) -> usize {
+    let n = if frames.len() < 8 { frames.len() } else { 8 };
+    for f in 0..n {
+        costs[3 * f] = cost(frames[f], 0);
+        costs[3 * f + 1] = cost(frames[f], 1);
+        costs[3 * f + 2] = cost(frames[f], 2);
+    }
+    3 * n
+}
+
+fn told(a: FrameAnswer) {
+    text(b"; frame");
+    placed(a.number as usize, a.place);
+    text(b", k");
+    number(a.k as usize);
+    text(b", settled");
+    number(a.settled as usize);
+}
+
+fn answer(a: GroupAnswer) {
+    number(a.number as usize);
+    for f in 0..8 {
+        told(a.frames[f]);
+    }
+}
+
+// Lists of up to 16 entries, and a work list of up to 128: how many frames are told, and the room of each list.
+pub fn grouping(given: &[u8], frames: &[u8], sizes: &[u8]) {
+    let mut costs = [0i16; 24];
+    let n = costs_of(frames, &mut costs);
+    let mut x = [0usize; 8];
+    numbers(sizes, 10, &mut x);
+    let t = lent(x[1]);
+    let e = lent(x[2]);
+    let s = lent(x[3]);
+    let c = lent(x[4]);
+    let r = lent(x[5]);
+    let w = lent(x[6]);
+    let a = if x[7] < 128 { x[7] } else { 128 };
+    let mut triples = [9u16; 16];
+    let mut counts = [9u16; 16];
+    let mut sums = [9i64; 16];
+    let mut values = [9i16; 16];
+    let mut rows = [9i32; 16];
+    let mut word = [9u8; 16];
+    let mut work = [9i32; 128];
+    let group = group::decode(
+        &CODE,
+        settings(given),
+        x[0],
+        &costs[0..n],
+        &mut triples[0..t],
+        &mut counts[0..e],
+        &mut sums[0..s],
+        &mut values[0..c],
+        &mut rows[0..r],
+        &mut word[0..w],
+        &mut work[0..a],
+    );
+    answer(group);
+    let lists = Lists {
+        triples,
+        counts,
+        sums,
+        values,
+        rows,
+        word,
+    };
+    each_list(lists, [x[1], x[2], x[3], x[4], x[5], x[6], 0, 0]);
+}

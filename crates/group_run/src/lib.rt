@@ -1,0 +1,289 @@
+// The run of a group (document 02, L7): group steps until no frame runs. One or two frames run by themselves: in lanes they would take longer.
+ghost use mathlib.Core.Path.{_≡_};
+ghost use mathlib.Core.Bool.{true, cond};
+ghost use Prim.Native.Nat.{ℕ, _+_, _*_, _≤_, _<_};
+ghost use lib.Dec.{ltb};
+ghost use lib.ListN.{length};
+ghost use Rattle.lists.specs.Tabulated.{part};
+ghost use Rattle.lists.specs.Entries.{total};
+ghost use Rattle.quotient.specs.Quotient.{quotient};
+ghost use Rattle.model.specs.Causes.{_if_};
+ghost use Rattle.model.specs.Code.{Code};
+ghost use Rattle.model.specs.Run as Run;
+ghost use Rattle.lanes.specs.Lanes.{laneSize, Fits};
+ghost use Rattle.lane_step.specs.Step.{runs, systemFor};
+ghost use Rattle.group_step.specs.Frames.{endedIn, Held, Marks};
+ghost use Rattle.group_run.specs.Given.{Given};
+use lanes::Plan;
+use model::Settings;
+
+// ---- which frames run
+
+// How many frames run.
+fn count_running(running: &[u32]) -> usize
+    requires { ⌜ length (now running) ≤ 8 ⌝ }
+    ensures { λ n. ⌜ n ≡ total (λ x. 1 if ltb 0 x) (now (running .entry)) ⌝ }
+{
+    let mut n = 0;
+    for f in 0..running.len() {
+        if running[f] != 0 {
+            n += 1;
+        }
+    }
+    n
+}
+
+// ---- in lanes
+
+// The costs of the frames that run are put into their lanes.
+fn put_all_costs(
+    costs: &[i16],
+    weight: u32,
+    p: Plan,
+    frames: usize,
+    running: &[u32],
+    work: &mut [i32],
+) {
+    for f in 0..frames {
+        if running[f] != 0 {
+            let from = f * p.bits;
+            let to = from + p.bits;
+            lane_lists::put_costs(&costs[from..to], weight, p, f, work);
+        }
+    }
+}
+
+// Group steps until no frame runs. It may be known that all is narrow.
+fn step_on(
+    settings: Settings,
+    triples: &[u16],
+    counts: &[u16],
+    known: bool,
+    bounds: &[i32],
+    factors: &[u32],
+    raises: &[u64],
+    limits: &[i64],
+    inverses: &[i64],
+    p: Plan,
+    frames: usize,
+    work: &mut [i32],
+    running: &mut [u32],
+    ks: &mut [u32],
+    settled: &mut [u32],
+    sums: &mut [i64],
+    values: &mut [i16],
+    rows: &mut [i32],
+) {
+    let mut i = 0;
+    let mut k: u32 = 0;
+    while 0 < count_running(running) {
+        group_step::step(
+            settings,
+            triples,
+            counts,
+            known,
+            bounds,
+            factors,
+            raises,
+            limits,
+            inverses,
+            p,
+            i,
+            k,
+            frames,
+            work,
+            running,
+            ks,
+            settled,
+            sums,
+            values,
+            rows,
+        );
+        i = 1 - i;
+        k += 1;
+    }
+}
+
+// The frames in lanes, from the start. The divisors are made ready, and whether all is narrow is found.
+fn run_in_lanes(
+    settings: Settings,
+    triples: &[u16],
+    counts: &[u16],
+    costs: &[i16],
+    p: Plan,
+    frames: usize,
+    work: &mut [i32],
+    running: &mut [u32],
+    ks: &mut [u32],
+    settled: &mut [u32],
+    sums: &mut [i64],
+    values: &mut [i16],
+    rows: &mut [i32],
+) {
+    lane_lists::begin(p, work);
+    put_all_costs(costs, settings.weight, p, frames, running, work);
+    let mut bounds = [0i32; 9];
+    let mut factors = [0u32; 9];
+    let mut raises = [0u64; 9];
+    lane_values::prepare(settings.ratio, &mut bounds, &mut factors, &mut raises);
+    let mut limits = [0i64; 31];
+    let mut inverses = [0i64; 31];
+    values::prepare(settings.ratio, &mut limits, &mut inverses);
+    let without = renewal::without_blank(triples, p.triples);
+    let narrow = lane_triples::all_narrow(counts);
+    step_on(
+        settings,
+        triples,
+        counts,
+        without & narrow,
+        &bounds,
+        &factors,
+        &raises,
+        &limits,
+        &inverses,
+        p,
+        frames,
+        work,
+        running,
+        ks,
+        settled,
+        sums,
+        values,
+        rows,
+    );
+}
+
+// ---- by themselves
+
+// Frame f by itself.
+fn run_frame(
+    settings: Settings,
+    triples: &[u16],
+    counts: &[u16],
+    costs: &[i16],
+    p: Plan,
+    f: usize,
+    running: &mut [u32],
+    ks: &mut [u32],
+    settled: &mut [u32],
+    sums: &mut [i64],
+    values: &mut [i16],
+    rows: &mut [i32],
+) {
+    let b = f * p.bits;
+    let b_end = b + p.bits;
+    let v = f * p.variables;
+    let v_end = v + p.variables;
+    let r = f * (4 * p.triples);
+    let r_end = r + 4 * p.triples;
+    let ending = run::run(
+        settings,
+        triples,
+        counts,
+        &costs[b..b_end],
+        p.triples,
+        &mut sums[v..v_end],
+        &mut values[v..v_end],
+        &mut rows[r..r_end],
+    );
+    running[f] = 0;
+    ks[f] = ending.k;
+    settled[f] = ending.settled;
+}
+
+// Each frame that runs, by itself.
+fn run_frames(
+    settings: Settings,
+    triples: &[u16],
+    counts: &[u16],
+    costs: &[i16],
+    p: Plan,
+    frames: usize,
+    running: &mut [u32],
+    ks: &mut [u32],
+    settled: &mut [u32],
+    sums: &mut [i64],
+    values: &mut [i16],
+    rows: &mut [i32],
+) {
+    for f in 0..frames {
+        if running[f] != 0 {
+            run_frame(
+                settings,
+                triples,
+                counts,
+                costs,
+                p,
+                f,
+                running,
+                ks,
+                settled,
+                sums,
+                values,
+                rows,
+            );
+        }
+    }
+}
+
+// ---- the run
+
+// Each frame that runs, to its end: its iterations, its stop and its parts of S, c and s are those of a run by itself. What the others have stays.
+pub fn run(
+    settings: Settings,
+    triples: &[u16],
+    counts: &[u16],
+    costs: &[i16],
+    p: Plan,
+    frames: usize,
+    work: &mut [i32],
+    running: &mut [u32],
+    ks: &mut [u32],
+    settled: &mut [u32],
+    sums: &mut [i64],
+    values: &mut [i16],
+    rows: &mut [i32],
+)
+    requires { ⌜ Fits p (now work) × Given p frames settings (now triples) (now counts) (now costs) (now running) ⌝ }
+    requires { ⌜ Marks frames (now running) (now ks) (now settled) × Held p frames (now sums) (now values) (now rows) ⌝ }
+    ensures { λ _. ⌜ Marks frames (now (running .exit)) (now (ks .exit)) (now (settled .exit))
+        × Held p frames (now (sums .exit)) (now (values .exit)) (now (rows .exit)) ⌝ }
+    ensures { λ _. ⌜ ((f : ℕ) → f < frames → (c : Code)
+        → endedIn p (now (ks .exit)) (now (settled .exit)) (now (sums .exit)) (now (values .exit)) (now (rows .exit)) f
+        ≡ cond (runs (now (running .entry)) f)
+        (Run.run quotient (systemFor c p (now (triples .entry))) settings (part (p .bits) f (now (costs .entry))))
+        (endedIn p (now (ks .entry)) (now (settled .entry)) (now (sums .entry)) (now (values .entry)) (now (rows .entry)) f)) ⌝ }
+{
+    if 2 < count_running(running) {
+        run_in_lanes(
+            settings,
+            triples,
+            counts,
+            costs,
+            p,
+            frames,
+            work,
+            running,
+            ks,
+            settled,
+            sums,
+            values,
+            rows,
+        );
+    } else {
+        run_frames(
+            settings,
+            triples,
+            counts,
+            costs,
+            p,
+            frames,
+            running,
+            ks,
+            settled,
+            sums,
+            values,
+            rows,
+        );
+    }
+}
