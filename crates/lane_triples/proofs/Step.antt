@@ -11,7 +11,7 @@ use Rattle.integers.proofs.Sums.{sumℕ-split, sumℕ-bound, sumℤ-same}
 use Rattle.lists.specs.Tabulated.{tab}
 use Rattle.lists.proofs.Tabulated.{getD-tab}
 use Rattle.quotient.specs.Quotient.{unit}
-use Rattle.model.specs.Limits.{mostTriples, mostDone, mostRow}
+use Rattle.model.specs.Limits.{mostTriples, mostVariables, mostDone, mostRow}
 use Rattle.model.specs.Causes.{_if_}
 use Rattle.model.specs.Splitting.{blank, member}
 use Rattle.model.specs.Iteration.{at, row, sign, valueAt, slack, multiplier, share, renewedAt, occurrences}
@@ -130,8 +130,15 @@ refit f e = record { lanes = f .lanes; triples = f .triples; variables = f .vari
 pub eight-most : {p : Plan} {w : List ℤ} → Fits p w → p .lanes ≤ 8
 eight-most f = ⊎-elim (λ e. omega arith) (λ e. omega arith) (f .lanes)
 
+-- no lane has more entries
+abbrev pub mostEntries : ℕ
+mostEntries = 4 * mostTriples + 6 * mostVariables
+
+pub entries-most : {p : Plan} {w : List ℤ} → Fits p w → laneSize p ≤ mostEntries
+entries-most f = omega (arith, f .triples, f .variables, f .bits)
+
 fits-short : {p : Plan} {w : List ℤ} → Fits p w → length w < 2 ^ 32
-fits-short {p} f = let short : laneSize p ≤ 106496 = omega (arith, f .triples, f .variables, f .bits) in omega (arith, f .long, mul-le-mul (eight-most f) short)
+fits-short f = omega (arith, f .long, mul-le-mul (eight-most f) (entries-most f))
 
 -- ---- what the triple is renewed with
 module _ {p : Plan} {ts counts : List ℕ} {i : ℕ} {w : List ℤ} {t h : ℕ} {w₀ : List ℤ} (turn : Turn p ts counts i w t h w₀) {s : Places} (st : Stands p ts counts i t h s) where

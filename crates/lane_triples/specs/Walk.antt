@@ -68,9 +68,10 @@ pub record Course (p : Plan) (ts counts : List ℕ) (i values next : ℕ) : Type
   pub at-values : values ≡ p .lanes * valuesAt p
   pub at-sums : next ≡ p .lanes * sumsAt p i
 
--- triples t to u are walked, in all of these lanes, from w₀ to w₁
+-- a walk that there is, in the lanes from..to of w₀: t triples are done
 abbrev pub Begun : Plan → List ℕ → List ℕ → ℕ → ℕ → ℕ → ℕ → ℕ → List ℤ → Type 0
 Begun p ts counts values next from to t w₀ = (i : ℕ) × (w : List ℤ) × Course p ts counts i values next × InWalk p ts counts i w from to t w₀
 
+-- every walk that had t triples done in w₀ has u done in w₁
 abbrev pub Walks : Plan → List ℕ → List ℕ → ℕ → ℕ → ℕ → ℕ → ℕ → ℕ → List ℤ → List ℤ → Type 0
 Walks p ts counts values next from to t u w₀ w₁ = (i : ℕ) (w : List ℤ) → Course p ts counts i values next → InWalk p ts counts i w from to t w₀ → InWalk p ts counts i w from to u w₁

@@ -38,6 +38,7 @@ fn load_rows(work: &[i32], lanes: usize, i: usize) -> [[i32; 4]; 4]
     ]
 }
 
+// They become q's.
 fn store_rows(work: &mut [i32], lanes: usize, i: usize, q: [[i32; 4]; 4])
     requires { ⌜ (i + 3 * lanes + 3 < length (now work)) × (length (now work) < 2 ^ 32) × ((r k : ℕ) → natAbs (cell q r k) ≤ mostRow) ⌝ }
     ensures { λ _. ⌜ now (work .exit) ≡ withRows lanes (now (work .entry)) i (cell q) ⌝ }
@@ -135,7 +136,8 @@ fn give_third(counts: &[u16], work: &mut [i32], w: usize, i: usize, j: usize, x:
     }
 }
 
-// Any triple, whose variables are u, v and w: in the four lanes from l on. The high parts of the sums stand `apart` behind the low ones.
+// Any triple, whose variables are u, v and w. Values and sums are counted from the first of the four lanes; the high parts of the sums stand `apart` behind the
+// low ones.
 fn renew_any(
     counts: &[u16],
     work: &mut [i32],

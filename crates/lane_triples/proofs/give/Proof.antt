@@ -1,6 +1,6 @@
 -- `lane_triples::give` meets its contract. Assumes nothing.
 use Rattle.integers.proofs.Prelude.{_≡_, ap, ap₂, _∙_, List, arith, needs, ℤ}
-use Rattle.lane_triples.specs.Step.{added, lowsOf, highsOf, given}
+use Rattle.lane_triples.specs.Step.{added, lowsOf, given}
 use Rattle.lane_triples.proofs.give.Statement.{statement}
 use Rattle.lane_triples.proofs.give.Tie as tie
 

@@ -1,10 +1,9 @@
 -- `lane_triples::renew_four` meets its contract. Assumes nothing.
-use Rattle.integers.proofs.Prelude.{_≡_, ap, _∙_, List, ℕ, _+_, _*_, _≤_, _<_, arith, needs, ℤ, pos, natAbs, _-ℤ_, _*ℤ_}
+use Rattle.integers.proofs.Prelude.{_≡_, ap, _∙_, List, ℕ, _+_, _*_, _≤_, arith, needs, ℤ, pos, natAbs, _-ℤ_, _*ℤ_}
 use Rattle.integers.specs.Sum.{sumℤ}
 use Rattle.integers.proofs.Linear.{split, toℕ, about}
 use Rattle.lists.specs.Tabulated.{tab}
 use Rattle.quotient.specs.Quotient.{unit}
-use Rattle.model.specs.Limits.{mostRow}
 use Rattle.model.specs.Iteration.{at, sign, rowSum, slack, multiplier, renewed}
 use Rattle.model.proofs.Bounds.{rowSum-bound, renewed-small}
 use Rattle.layout.specs.Transposed.{cell, Fours}

@@ -1,5 +1,5 @@
 -- `lane_triples::renew_narrow` meets its contract: the rows, then one place after the other. Assumes nothing.
-use Rattle.integers.proofs.Prelude.{_≡_, refl, List, [], ℕ, _+_, _^_, _<_, arith, needs, ℤ, length, getD}
+use Rattle.integers.proofs.Prelude.{_≡_, refl, List, [], ℕ, _^_, _<_, arith, needs, ℤ, length, getD}
 use Rattle.lane_triples.specs.Step.{added, given, MayAdd, Places, narrowPlaces, sharesIn, after}
 use Rattle.lane_triples.proofs.Calls.{may-renew, rows-put, share-is, may-give, place-put}
 use Rattle.lane_triples.proofs.renew_narrow.Statement.{statement}

@@ -1,5 +1,5 @@
 -- `lane_triples::store_rows` meets its contract. Assumes nothing.
-use Rattle.integers.proofs.Prelude.{ap, _∙_, List, [], ℕ, _+_, _*_, _^_, _<_, arith, needs, ℤ, natAbs, sets}
+use Rattle.integers.proofs.Prelude.{ap, _∙_, List, ℕ, _+_, _*_, _^_, _<_, arith, needs, ℤ, natAbs, sets}
 use Rattle.lists.specs.Tabulated.{tab}
 use Rattle.layout.specs.Transposed.{cell}
 use Rattle.lane_triples.specs.Step.{withRows}

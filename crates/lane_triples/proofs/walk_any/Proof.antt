@@ -1,14 +1,14 @@
 -- `lane_triples::walk_any` meets its contract: the lanes before l have the triple done, those from l on have not. Assumes nothing.
-use Rattle.integers.proofs.Prelude.{_≡_, ap, subst, _∙_, false, List, ℕ, suc, _+_, _-_, _*_, _^_, _≤_, _<_, arith, add-one, eqb-false, eqb, ℤ, length}
+use Rattle.integers.proofs.Prelude.{_≡_, ap, subst, _∙_, false, ℕ, suc, _+_, _-_, _*_, _≤_, _<_, arith, add-one, eqb-false, eqb, length}
 use Rattle.lists.proofs.Tabulated.{length-tab}
 use Rattle.model.specs.Limits.{mostTriples, mostVariables}
-use Rattle.model.specs.Splitting.{blank, member}
+use Rattle.model.specs.Splitting.{blank}
 use Rattle.model.specs.Iteration.{occurrences}
 use Rattle.lanes.specs.Lanes.{valuesAt, sumsAt}
 use Rattle.lane_triples.specs.Step.{Places, anyPlaces}
 use Rattle.lane_triples.specs.Walk.{Course, InWalk}
 use Rattle.lane_triples.proofs.Lane.{before-weighed}
-use Rattle.lane_triples.proofs.Step.{Turn, Stands, eight-most, may-step}
+use Rattle.lane_triples.proofs.Step.{Turn, Stands, eight-most, mostEntries, entries-most, may-step}
 use Rattle.lane_triples.proofs.Walks.{InTurn, turn-of, four-more, AtFour, at-first, a-four, lane-low, next-four, product-low, first-below, second-below, third-below, third-most, may-read, any-stands}
 use Rattle.lane_triples.proofs.walk_any.Statement.{statement}
 use Rattle.lane_triples.proofs.walk_any.Tie as tie
@@ -37,10 +37,10 @@ module _ (s : tie.Start Inv-loop μ-loop) where
   values-low : s .args .values ≤ 8 * (4 * mostTriples)
   values-low = omega (arith, course .at-values, product-low (s .pre .0 .0) (valuesAt (s .args .p)) (4 * mostTriples) (omega (arith, s .pre .0 .0 .triples)))
 
-  next-low : s .args .next ≤ 8 * 106496
+  next-low : s .args .next ≤ 8 * mostEntries
   next-low =
-      let f = s .pre .0 .0 in
-      omega (arith, course .at-sums, product-low f (sumsAt (s .args .p) (s .pre .1 .0)) 106496 (omega (arith, before-weighed (s .args .p) (s .pre .1 .0) (course .list), f .triples, f .variables, f .bits)))
+      let low : sumsAt (s .args .p) (s .pre .1 .0) ≤ mostEntries = omega (arith, before-weighed (s .args .p) (s .pre .1 .0) (course .list), entries-most (s .pre .0 .0)) in
+      omega (arith, course .at-sums, product-low (s .pre .0 .0) (sumsAt (s .args .p) (s .pre .1 .0)) mostEntries low)
 
   counts-long : length (s .args .counts .now) ≡ s .args .p .variables
   counts-long = ap length (course .tripled .counted) ∙ length-tab (s .args .p .variables) (occurrences (s .args .triples .now) (s .args .p .triples))

@@ -1,5 +1,5 @@
 -- `lane_triples::walk_narrow` meets its contract: the lanes before l have the triple done, those from l on have not. Assumes nothing.
-use Rattle.integers.proofs.Prelude.{_≡_, subst, List, ℕ, suc, _+_, _-_, _*_, _≤_, _<_, arith, add-one, ℤ, length}
+use Rattle.integers.proofs.Prelude.{_≡_, subst, List, ℕ, suc, _+_, _-_, _*_, _≤_, _<_, arith, add-one, length}
 use Rattle.model.specs.Limits.{mostTriples, mostVariables}
 use Rattle.model.specs.Splitting.{member}
 use Rattle.lane_triples.specs.Step.{Places, narrowPlaces}
