@@ -25,7 +25,7 @@ use Rattle.model.proofs.Causes as Causes
 use Rattle.model.proofs.Causes.{stays}
 use Rattle.model.proofs.Groups.{passes, group-is, frame-cause, own-lists}
 use Rattle.model.proofs.GroupPromises.{group-call}
-use Rattle.group.specs.Frames.{partState, endedIn}
+use Rattle.group_step.specs.Frames.{partState, endedIn}
 use Rattle.group.specs.Ends.{planOf, endOf, Ran, answerOf, wordLeft}
 
 -- a list that is written to one that is not longer

@@ -24,9 +24,10 @@ use Rattle.model.proofs.Sound.{variables-most}
 use Rattle.triples.proofs.Lent.{triples-long, system-lent, members-lent, auxiliaries-lent, ready-lent, counts-lent, counts-long}
 use Rattle.lanes.specs.declared.Plan.{Plan}
 use Rattle.lanes.specs.Lanes.{laneSize, Fits}
-use Rattle.group.specs.Frames.{runs, partState, endedIn, Held, Marks}
-use Rattle.group.specs.Step.{systemFor}
-use Rattle.group.specs.Given.{Given}
+use Rattle.lane_step.specs.Step.{runs}
+use Rattle.group_step.specs.Frames.{partState, endedIn, Held, Marks}
+use Rattle.lane_step.specs.Step.{systemFor}
+use Rattle.group_run.specs.Given.{Given}
 use Rattle.group.specs.Ends.{planOf, endOf, Ran}
 
 -- ---- the lanes

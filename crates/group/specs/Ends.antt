@@ -20,7 +20,7 @@ use Rattle.model.specs.Calls.{forbidden, Answer}
 use Rattle.model.specs.DecoderClaims.{Small}
 use Rattle.model.specs.Group.{lanes, alone}
 use Rattle.lanes.specs.declared.Plan.{Plan}
-use Rattle.group.specs.Frames.{partState, endedIn}
+use Rattle.group_step.specs.Frames.{partState, endedIn}
 
 -- the lanes of F frames of the code k
 abbrev pub planOf : Code → ℕ → Plan

@@ -23,9 +23,6 @@ ghost use Rattle.model.specs.Group.{groupInputCauses, frameTold, groupTold, gro
 ghost use Rattle.model.specs.GroupClaims.{GroupFits};
 ghost use Rattle.model.specs.GroupPromises.{GroupCall};
 ghost use Rattle.lanes.specs.Lanes.{Fits};
-ghost use Rattle.group.specs.Frames.{runs, endedIn, Held, Marks};
-ghost use Rattle.group.specs.Step.{systemFor};
-ghost use Rattle.group.specs.Given.{Given};
 ghost use Rattle.group.specs.Room.{tooShort};
 ghost use Rattle.group.specs.Ends.{Ran, answerOf, wordLeft};
 use lanes::Plan;
@@ -122,38 +119,6 @@ fn mark_frames(costs: &[i16], bits: usize, frames: usize, running: &mut [u32])
     }
 }
 
-// TEMPORARY
-// Each frame that runs, to its end: its iterations, its stop and its parts of S, c and s are those of a run by itself. What the others have stays.
-fn run(
-    settings: Settings,
-    triples: &[u16],
-    counts: &[u16],
-    costs: &[i16],
-    p: Plan,
-    frames: usize,
-    work: &mut [i32],
-    running: &mut [u32],
-    ks: &mut [u32],
-    settled: &mut [u32],
-    sums: &mut [i64],
-    values: &mut [i16],
-    rows: &mut [i32],
-)
-    requires { ⌜ Fits p (now work) × Given p frames settings (now triples) (now counts) (now costs) (now running) ⌝ }
-    requires { ⌜ Marks frames (now running) (now ks) (now settled) × Held p frames (now sums) (now values) (now rows) ⌝ }
-    ensures { λ _. ⌜ Marks frames (now (running .exit)) (now (ks .exit)) (now (settled .exit))
-        × Held p frames (now (sums .exit)) (now (values .exit)) (now (rows .exit)) ⌝ }
-    ensures { λ _. ⌜ ((f : ℕ) → f < frames → (c : Code.Code)
-        → endedIn p (now (ks .exit)) (now (settled .exit)) (now (sums .exit)) (now (values .exit)) (now (rows .exit)) f
-        ≡ cond (runs (now (running .entry)) f)
-        (Run.run quotient (systemFor c p (now (triples .entry))) settings (part (p .bits) f (now (costs .entry))))
-        (endedIn p (now (ks .entry)) (now (settled .entry)) (now (sums .entry)) (now (values .entry)) (now (rows .entry)) f)) ⌝ }
-{
-    running[0] = 0;
-}
-
-// END TEMPORARY
-
 // The triples and the counts of the code are written, and the frames without a false cost are run.
 fn run_system(
     code: &[u8],
@@ -195,7 +160,7 @@ fn run_system(
     let size = lanes::size(p);
     let v_end = frames * variables;
     let r_end = frames * (4 * total);
-    run(
+    group_run::run(
         settings,
         &triples[..3 * total],
         &counts[..variables],

@@ -9,7 +9,7 @@ use Rattle.model.proofs.Accepted.{accepted}
 use Rattle.model.proofs.Sound.{variables-most}
 use Rattle.lanes.specs.declared.Plan.{Plan}
 use Rattle.lanes.specs.Lanes.{Fits}
-use Rattle.group.specs.Frames.{Held}
+use Rattle.group_step.specs.Frames.{Held}
 use Rattle.group.specs.Ends.{planOf}
 use Rattle.group.proofs.Sizes.{product-fits}
 use Rattle.group.proofs.Runs.{Begun, all-marks, lent-long, counts-lent-long, work-room, work-fits, given, ran}
