@@ -2,14 +2,17 @@
 // that its contract names, the same as that of the entry it calls.
 ghost use mathlib.Core.Path.{_≡_};
 ghost use Rattle.model.specs.declared.Settings.{Settings};
-ghost use Rattle.model.specs.Calls.{readingTold, verdictTold, listsOf, decodingTold};
+ghost use Rattle.model.specs.Calls.{readingTold, verdictTold, listsOf, runTold};
+ghost use Rattle.model.specs.Group.{groupTold};
 ghost use Rattle.model.specs.Promises.{ReaderCall, SplitterCall, FrontCall, ReflectorCall, AdderCall, TestCall, ExtensionCall, DecoderCall};
 ghost use Rattle.model.specs.EncodingPromises.{LengthCall, EncoderCall, FramesCall, MessageCall};
+ghost use Rattle.model.specs.GroupPromises.{GroupCall};
 ghost use Rattle.model.specs.AlistPromises.{ImportCall, ExportCall, SizeCall};
-ghost use Rattle.c_api.specs.Answers.{codeAnswer, wordAnswer, decodeAnswer};
+ghost use Rattle.c_api.specs.Answers.{codeAnswer, wordAnswer};
 use model::Channel;
-use model::Decoding;
+use model::DecodeAnswer;
 use model::Erasure;
+use model::GroupAnswer;
 use model::Length;
 use model::Reading;
 use model::Settings;
@@ -46,15 +49,6 @@ pub struct BytesAnswer {
 pub struct LengthAnswer {
     pub number: u32,
     pub length: usize,
-}
-
-// The answer of a run; the place is a bit or a check.
-#[repr(C)]
-pub struct DecodeAnswer {
-    pub number: u32,
-    pub place: usize,
-    pub k: u32,
-    pub settled: u32,
 }
 
 fn code_answer(reading: Reading) -> CodeAnswer
@@ -108,37 +102,6 @@ fn length_answer(told: Length) -> LengthAnswer
     LengthAnswer {
         number: told.number,
         length: told.length,
-    }
-}
-
-fn decode_answer(decoding: Decoding) -> DecodeAnswer
-    ensures { λ r. ⌜ decodeAnswer r ≡ decodingTold decoding ⌝ }
-{
-    match decoding {
-        Decoding::Word(ending) => DecodeAnswer {
-            number: 0,
-            place: 0,
-            k: ending.k,
-            settled: ending.settled,
-        },
-        Decoding::Undecided(place, ending) => DecodeAnswer {
-            number: 16,
-            place,
-            k: ending.k,
-            settled: ending.settled,
-        },
-        Decoding::Odd(place, ending) => DecodeAnswer {
-            number: 17,
-            place,
-            k: ending.k,
-            settled: ending.settled,
-        },
-        Decoding::Refused(number) => DecodeAnswer {
-            number,
-            place: 0,
-            k: 0,
-            settled: 0,
-        },
     }
 }
 
@@ -301,9 +264,9 @@ pub extern "C" fn widagbe_decode(
         let settings : Settings = record { weight = weight; ratio = ratio; limit = limit; tolerance = tolerance } in
         let before = listsOf (now (triples .entry)) (now (counts .entry)) (now (sums .entry)) (now (values .entry)) (now (rows .entry)) (now (word .entry)) in
         let after = listsOf (now (triples .exit)) (now (counts .exit)) (now (sums .exit)) (now (values .exit)) (now (rows .exit)) (now (word .exit)) in
-        DecoderCall (now (code .entry)) settings (now (costs .entry)) before (record { answer = decodeAnswer r; lists = after })) ⌝ }
+        DecoderCall (now (code .entry)) settings (now (costs .entry)) before (record { answer = runTold r; lists = after })) ⌝ }
 {
-    decode_answer(decoder::decode(
+    outcome::answer(decoder::decode(
         code,
         Settings {
             weight,
@@ -319,4 +282,47 @@ pub extern "C" fn widagbe_decode(
         rows,
         word,
     ))
+}
+
+#[no_mangle]
+pub extern "C" fn widagbe_decode_group(
+    code: &[u8],
+    weight: u32,
+    ratio: u32,
+    limit: u32,
+    tolerance: u32,
+    frames: usize,
+    costs: &[i16],
+    triples: &mut [u16],
+    counts: &mut [u16],
+    sums: &mut [i64],
+    values: &mut [i16],
+    rows: &mut [i32],
+    word: &mut [u8],
+    work: &mut [i32],
+) -> GroupAnswer
+    ensures { λ r. ⌜ (
+        let settings : Settings = record { weight = weight; ratio = ratio; limit = limit; tolerance = tolerance } in
+        let before = listsOf (now (triples .entry)) (now (counts .entry)) (now (sums .entry)) (now (values .entry)) (now (rows .entry)) (now (word .entry)) in
+        let after = listsOf (now (triples .exit)) (now (counts .exit)) (now (sums .exit)) (now (values .exit)) (now (rows .exit)) (now (word .exit)) in
+        GroupCall (now (code .entry)) settings frames (now (costs .entry)) before (now (work .entry)) (groupTold r after) (now (work .exit))) ⌝ }
+{
+    group::decode(
+        code,
+        Settings {
+            weight,
+            ratio,
+            limit,
+            tolerance,
+        },
+        frames,
+        costs,
+        triples,
+        counts,
+        sums,
+        values,
+        rows,
+        word,
+        work,
+    )
 }

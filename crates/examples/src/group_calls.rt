@@ -8,7 +8,7 @@ use crate::show::number;
 use crate::show::placed;
 use crate::show::text;
 use crate::table::numbers;
-use model::FrameAnswer;
+use model::DecodeAnswer;
 use model::GroupAnswer;
 
 const CODE: [u8; 15] = *b"LH\0\x03\0\x01LC\x03\0\0\0\x01\0\x02";
@@ -38,7 +38,7 @@ fn costs_of(frames: &[u8], costs: &mut [i16; 24]) -> usize {
     3 * n
 }
 
-fn told(a: FrameAnswer) {
+fn told(a: DecodeAnswer) {
     text(b"; frame");
     placed(a.number as usize, a.place);
     text(b", k");

@@ -16,19 +16,18 @@ ghost use Rattle.model.specs.Splitting.{systemOf};
 ghost use Rattle.model.specs.Iteration.{countsOf};
 ghost use Rattle.model.specs.Run as Run;
 ghost use Rattle.model.specs.Calls as Calls;
-ghost use Rattle.model.specs.Calls.{forbidden, listsOf, decodingTold};
+ghost use Rattle.model.specs.Calls.{forbidden, listsOf, runTold};
 ghost use Rattle.model.specs.DecoderClaims.{Small};
 ghost use Rattle.model.specs.Group as Group;
-ghost use Rattle.model.specs.Group.{groupInputCauses, frameTold, groupTold, groupDecoded, workSize};
+ghost use Rattle.model.specs.Group.{groupInputCauses, groupTold, groupDecoded, workSize};
 ghost use Rattle.model.specs.GroupClaims.{GroupFits};
 ghost use Rattle.model.specs.GroupPromises.{GroupCall};
 ghost use Rattle.lanes.specs.Lanes.{Fits};
 ghost use Rattle.group.specs.Room.{tooShort};
 ghost use Rattle.group.specs.Ends.{Ran, answerOf, wordLeft};
 use lanes::Plan;
-use model::Decoding;
+use model::DecodeAnswer;
 use model::Ending;
-use model::FrameAnswer;
 use model::GroupAnswer;
 use model::MOST_FRAMES;
 use model::Reading;
@@ -177,45 +176,6 @@ fn run_system(
     );
 }
 
-// What is told of a frame.
-fn frame_answer(decoding: Decoding) -> FrameAnswer
-    ensures { λ r. ⌜ frameTold r ≡ decodingTold decoding ⌝ }
-{
-    match decoding {
-        Decoding::Word(ending) => FrameAnswer {
-            number: 0,
-            place: 0,
-            k: ending.k,
-            settled: ending.settled,
-        },
-        Decoding::Undecided(place, ending) => FrameAnswer {
-            number: 16,
-            place,
-            k: ending.k,
-            settled: ending.settled,
-        },
-        Decoding::Odd(place, ending) => FrameAnswer {
-            number: 17,
-            place,
-            k: ending.k,
-            settled: ending.settled,
-        },
-        Decoding::Refused(number) => alone(number),
-    }
-}
-
-// A number with nothing else told.
-fn alone(number: u32) -> FrameAnswer
-    ensures { λ r. ⌜ frameTold r ≡ Group.alone number ⌝ }
-{
-    FrameAnswer {
-        number,
-        place: 0,
-        k: 0,
-        settled: 0,
-    }
-}
-
 // A frame that ended as told, or that has a false cost and did no iteration: what its values say, and its word.
 fn conclude_frame(
     code: &[u8],
@@ -225,17 +185,17 @@ fn conclude_frame(
     k: u32,
     settled: u32,
     word: &mut [u8],
-) -> FrameAnswer
+) -> DecodeAnswer
     requires { ⌜ (judge (now code) ≡ 0) × (bits ≡ codeOf (now code) .bits) × (checks ≡ length (codeOf (now code) .checks)) ⌝ }
     requires { ⌜ (bits ≤ length (now values)) × (bits ≤ length (now word)) ⌝ }
-    ensures { λ r. ⌜ frameTold r ≡ answerOf (codeOf (now (code .entry))) k settled (now (values .entry)) ⌝ }
+    ensures { λ r. ⌜ runTold r ≡ answerOf (codeOf (now (code .entry))) k settled (now (values .entry)) ⌝ }
     ensures { λ _. ⌜ now (word .exit) ≡ wordLeft (codeOf (now (code .entry))) k (now (values .entry)) (now (word .entry)) ⌝ }
 {
     if k == 0 {
-        return alone(13);
+        return outcome::alone(13);
     }
     let ending = Ending { k, settled };
-    frame_answer(outcome::conclude(code, bits, checks, values, ending, word))
+    outcome::answer(outcome::conclude(code, bits, checks, values, ending, word))
 }
 
 // The answers of all frames.
@@ -249,19 +209,19 @@ fn conclude(
     ks: &[u32],
     settled: &[u32],
     word: &mut [u8],
-) -> [FrameAnswer; 8]
+) -> [DecodeAnswer; 8]
     requires { ⌜ (judge (now code) ≡ 0) × (bits ≡ codeOf (now code) .bits) × (checks ≡ length (codeOf (now code) .checks))
         × (variables ≡ Code.variables (codeOf (now code))) ⌝ }
     requires { ⌜ (frames ≤ mostFrames) × (length (now ks) ≡ mostFrames) × (length (now settled) ≡ mostFrames) ⌝ }
     requires { ⌜ (frames * variables ≤ length (now values)) × (frames * bits ≤ length (now word)) ⌝ }
-    ensures { λ r. ⌜ map frameTold r ≡ tab mostFrames (λ f. cond (ltb f frames)
+    ensures { λ r. ⌜ map runTold r ≡ tab mostFrames (λ f. cond (ltb f frames)
         (answerOf (codeOf (now (code .entry))) (getD (now (ks .entry)) f 0) (getD (now (settled .entry)) f 0) (part variables f (now (values .entry))))
         (Group.alone 0)) ⌝ }
     ensures { λ _. ⌜ now (word .exit) ≡ written (blocks frames (λ f.
         wordLeft (codeOf (now (code .entry))) (getD (now (ks .entry)) f 0) (part variables f (now (values .entry))) (part bits f (now (word .entry)))))
         (now (word .entry)) ⌝ }
 {
-    let mut told = [alone(0); 8];
+    let mut told = [outcome::alone(0); 8];
     for f in 0..frames {
         let v = f * variables;
         let v_end = v + variables;
@@ -297,14 +257,14 @@ fn decode_accepted(
     rows: &mut [i32],
     word: &mut [u8],
     work: &mut [i32],
-) -> [FrameAnswer; 8]
+) -> [DecodeAnswer; 8]
     requires { ⌜ (bits ≡ codeOf (now code) .bits) × (checks ≡ length (codeOf (now code) .checks)) × (total ≡ Code.triples (codeOf (now code)))
         × (variables ≡ Code.variables (codeOf (now code))) ⌝ }
     requires { ⌜ GroupFits (now code) settings frames (now costs) (listsOf (now triples) (now counts) (now sums) (now values) (now rows) (now word)) (now work) ⌝ }
     ensures { λ r. ⌜ (
         let before = listsOf (now (triples .entry)) (now (counts .entry)) (now (sums .entry)) (now (values .entry)) (now (rows .entry)) (now (word .entry)) in
         let after = listsOf (now (triples .exit)) (now (counts .exit)) (now (sums .exit)) (now (values .exit)) (now (rows .exit)) (now (word .exit)) in
-        record { number = 0; answers = map frameTold r; lists = after } ≡ groupDecoded (codeOf (now (code .entry))) settings frames (now (costs .entry)) before) ⌝ }
+        record { number = 0; answers = map runTold r; lists = after } ≡ groupDecoded (codeOf (now (code .entry))) settings frames (now (costs .entry)) before) ⌝ }
     ensures { λ _. ⌜ ((f : ℕ) → f < frames → (let own = part bits f (now (costs .entry)) in some forbidden own ≡ false → Small own)) ⌝ }
 {
     let mut ks = [0u32; 8];
@@ -343,11 +303,11 @@ fn decode_accepted(
 
 // A refused group.
 fn refuse(number: u32) -> GroupAnswer
-    ensures { λ r. ⌜ (r .number ≡ number) × (map frameTold (r .frames) ≡ replicate mostFrames (Group.alone 0)) ⌝ }
+    ensures { λ r. ⌜ (r .number ≡ number) × (map runTold (r .frames) ≡ replicate mostFrames (Group.alone 0)) ⌝ }
 {
     GroupAnswer {
         number,
-        frames: [alone(0); 8],
+        frames: [outcome::alone(0); 8],
     }
 }
 

@@ -1,4 +1,4 @@
-// The run of a group (document 02, L7): group steps until no frame runs. One or two frames run by themselves: in lanes they would take longer.
+// The run of a group (document 02, L7): group steps until no frame runs. Up to three frames run by themselves: in lanes they might take longer.
 ghost use mathlib.Core.Path.{_≡_};
 ghost use mathlib.Core.Bool.{true, false, not, cond};
 ghost use mathlib.Core.List.{List};
@@ -317,7 +317,7 @@ pub fn run(
         (Run.run quotient (systemFor c p (now (triples .entry))) settings (part (p .bits) f (now (costs .entry))))
         (endedIn p (now (ks .entry)) (now (settled .entry)) (now (sums .entry)) (now (values .entry)) (now (rows .entry)) f)) ⌝ }
 {
-    if 2 < count_running(running) {
+    if 3 < count_running(running) {
         run_in_lanes(
             settings,
             triples,

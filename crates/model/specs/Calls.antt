@@ -16,6 +16,7 @@ use Rattle.model.specs.declared.Channel as declared
 use Rattle.model.specs.declared.Reading.{Reading}
 use Rattle.model.specs.declared.Verdict.{Verdict}
 use Rattle.model.specs.declared.Decoding.{Decoding}
+use Rattle.model.specs.declared.DecodeAnswer.{DecodeAnswer}
 use Rattle.model.specs.Limits.{mostWeight, mostRatio, mostIterations}
 use Rattle.model.specs.Causes.{_if_, firstOf, short, outside, accepted}
 use Rattle.model.specs.Code.{Code, triples, variables}
@@ -143,6 +144,9 @@ pub record Answer : Type 0 where
   pub place : ℕ
   pub k : ℕ
   pub settled : ℕ
+
+abbrev pub runTold : DecodeAnswer → Answer
+runTold a = record { number = a .number; place = a .place; k = a .k; settled = a .settled }
 
 abbrev pub decodingTold : Decoding → Answer
 decodingTold (Decoding.Word e) = record { number = 0; place = 0; k = e .k; settled = e .settled }

@@ -9,7 +9,6 @@ use Rattle.lists.specs.Tabulated.{tab, written, part, blocks}
 use Rattle.lists.specs.Entries.{some}
 use Rattle.quotient.specs.Quotient.{quotient}
 use Rattle.model.specs.declared.Settings.{Settings}
-use Rattle.model.specs.declared.FrameAnswer.{FrameAnswer}
 use Rattle.model.specs.declared.GroupAnswer.{GroupAnswer}
 use Rattle.model.specs.Limits.{mostFrames}
 use Rattle.model.specs.Causes.{_if_, firstOf, short, outside, accepted}
@@ -18,7 +17,7 @@ use Rattle.model.specs.Records.{codeOf, judge}
 use Rattle.model.specs.Splitting.{System, systemOf}
 use Rattle.model.specs.Iteration.{State, iterate, countsOf}
 use Rattle.model.specs.Run.{stop, start, Ended, runFrom, run}
-use Rattle.model.specs.Calls.{outOfRange, unequal, forbidden, Lists, Answer, Decoded, decodedBy}
+use Rattle.model.specs.Calls.{outOfRange, unequal, forbidden, Lists, Answer, runTold, Decoded, decodedBy}
 
 -- ---- the lists
 -- "In each list kept per frame the frames stand one behind the other": those of frame f by itself; triples and counts are the group's
@@ -118,12 +117,9 @@ group b o F costs l work =
 abbrev pub frameIn : Code → Grouped → ℕ → Decoded
 frameIn k g f = record { answer = getD (g .answers) f (alone 0); lists = frameLists k (g .lists) f }
 
-abbrev pub frameTold : FrameAnswer → Answer
-frameTold a = record { number = a .number; place = a .place; k = a .k; settled = a .settled }
-
 -- what is told of a group, with the lists as they are then
 abbrev pub groupTold : GroupAnswer → Lists → Grouped
-groupTold r l = record { number = r .number; answers = map frameTold (r .frames); lists = l }
+groupTold r l = record { number = r .number; answers = map runTold (r .frames); lists = l }
 
 -- ---- the group step
 -- "one group step goes through the code for all frames together and takes every running frame one iteration on": what frame f holds then, where a f is what it

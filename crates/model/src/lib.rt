@@ -96,8 +96,9 @@ pub struct Length {
     pub length: usize,
 }
 
-// What is told of one frame of a group.
-pub struct FrameAnswer {
+// What is told of a run: a number, a bit or a check, the iterations, and whether the frame settled.
+#[repr(C)]
+pub struct DecodeAnswer {
     pub number: u32,
     pub place: usize,
     pub k: u32,
@@ -105,7 +106,8 @@ pub struct FrameAnswer {
 }
 
 // A group's answer: its number, and what is told of each frame. Past the group's frames, and of a refused group, all numbers are 0.
+#[repr(C)]
 pub struct GroupAnswer {
     pub number: u32,
-    pub frames: [FrameAnswer; 8],
+    pub frames: [DecodeAnswer; 8],
 }

@@ -11,8 +11,10 @@ ghost use Rattle.model.specs.Limits.{mostBits};
 ghost use Rattle.model.specs.Records.{codeOf, judge};
 ghost use Rattle.model.specs.Iteration.{at};
 ghost use Rattle.model.specs.Words.{bitOf, wordOf, firstOdd, outcome};
-ghost use Rattle.model.specs.Calls.{decodingTold};
+ghost use Rattle.model.specs.Calls.{runTold, decodingTold};
 ghost use Rattle.model.specs.Told.{decodingKind};
+ghost use Rattle.model.specs.Group as Group;
+use model::DecodeAnswer;
 use model::Decoding;
 use model::Ending;
 use model::MOST_BITS;
@@ -103,4 +105,45 @@ pub fn conclude(
     }
     write_word(values, bits, word);
     Decoding::Word(ending)
+}
+
+// ---- what is told
+
+// A number with nothing else told.
+pub fn alone(number: u32) -> DecodeAnswer
+    ensures { λ r. ⌜ runTold r ≡ Group.alone number ⌝ }
+{
+    DecodeAnswer {
+        number,
+        place: 0,
+        k: 0,
+        settled: 0,
+    }
+}
+
+// What is told of a run.
+pub fn answer(decoding: Decoding) -> DecodeAnswer
+    ensures { λ r. ⌜ runTold r ≡ decodingTold decoding ⌝ }
+{
+    match decoding {
+        Decoding::Word(ending) => DecodeAnswer {
+            number: 0,
+            place: 0,
+            k: ending.k,
+            settled: ending.settled,
+        },
+        Decoding::Undecided(place, ending) => DecodeAnswer {
+            number: 16,
+            place,
+            k: ending.k,
+            settled: ending.settled,
+        },
+        Decoding::Odd(place, ending) => DecodeAnswer {
+            number: 17,
+            place,
+            k: ending.k,
+            settled: ending.settled,
+        },
+        Decoding::Refused(number) => alone(number),
+    }
 }

@@ -4,7 +4,7 @@ use Rattle.c_api.proofs.widagbe_decode.Statement.{statement}
 use Rattle.c_api.proofs.widagbe_decode.Tie as tie
 
 returns : tie.Need-returns
-returns c = rw (c .decode-answer .ensures) (c .before .before .before .before .before .before .before .before .before .before .decode .ensures .0)
+returns c = rw (c .answer .ensures) (c .before .before .before .before .before .before .before .before .before .before .decode .ensures .0)
 
 pub widagbe-decode-spec : {M : Type 1} → statement M
 widagbe-decode-spec =

@@ -8,7 +8,8 @@ use Rattle.model.specs.Limits.{mostFrames}
 use Rattle.model.specs.Code.{Code}
 use Rattle.model.specs.Records.{codeOf}
 use Rattle.model.specs.Calls.{Answer}
-use Rattle.model.specs.Group.{alone, frameTold}
+use Rattle.model.specs.Calls.{runTold}
+use Rattle.model.specs.Group.{alone}
 use Rattle.group.specs.Ends.{answerOf, wordLeft}
 use Rattle.group.proofs.Concluded.{leftIn, Concluded, words-long, next-part, next-word}
 use Rattle.group.proofs.conclude.Statement.{statement}
@@ -20,7 +21,7 @@ answered k v values ks settled f = answerOf k (getD ks f 0) (getD settled f 0) (
 
 abbrev Inv-loop : tie.InvT-loop
 Inv-loop code bits checks variables frames values ks settled word₀ told₀ f₀ word told f =
-    (f ≤ frames) × (map frameTold told ≡ over f (answered (codeOf code) variables values ks settled) (replicate mostFrames (alone 0)))
+    (f ≤ frames) × (map runTold told ≡ over f (answered (codeOf code) variables values ks settled) (replicate mostFrames (alone 0)))
     × (word ≡ written (blocks f (leftIn (codeOf code) bits variables values ks word₀)) word₀)
 
 abbrev μ-loop : tie.MeasureT-loop
@@ -92,7 +93,7 @@ loop-again c =
     let a = s l .args in
     let told = d .conclude-frame .ensures in (
       omega arith,
-      rw (add-one (f l)) (over-next-map frameTold (f l) (answered (k l) (v i) (a .values .now) (a .ks .now) (a .settled .now)) (replicate mostFrames (alone 0)) (l .loop .told)
+      rw (add-one (f l)) (over-next-map runTold (f l) (answered (k l) (v i) (a .values .now) (a .ks .now) (a .settled .now)) (replicate mostFrames (alone 0)) (l .loop .told)
           (d .conclude-frame .result) (few i) (l .loop .inv .1) (sym (told .0 ∙ ap (answerOf (k l) (getD (a .ks .now) (f l) 0) (getD (a .settled .now) (f l) 0)) (values-lent i)))),
       rw (add-one (f l)) (next-word (concluded l) (i .loop-test .taken) _ _ (word-size i)
           (told .1 ∙ ap₂ (wordLeft (k l) (getD (a .ks .now) (f l) 0)) (values-lent i) (word-lent i ∙ next-part (concluded l)))),
