@@ -18,7 +18,7 @@ returns-2 c =
     let d = c .before .before .before in
     let e = d .before .before in
     let told = d .conclude .ensures .0 in
-    rw (ne-eqb (e .before .before .before .args .k) 0 (e .if1 .left)) (c .frame-answer .ensures ∙ told .0, told .1)
+    rw (ne-eqb (e .before .before .before .args .k) 0 (e .if1 .left)) (c .answer .ensures ∙ told .0, told .1)
 
 pub conclude-frame-spec : {M : Type 1} → statement M
 conclude-frame-spec =
