@@ -1,5 +1,8 @@
 // Examples of calls of the decoder of a group, on the code of three bits with the check (0,1,2). A frame is a letter: z has the costs 0, o 20,000 each, h
 // 20,000, 20,000 and -8,000, and f a cost of -32,768.
+ghost use mathlib.Core.Path.{_≡_};
+ghost use Prim.Native.Nat.{_≤_};
+ghost use lib.ListN.{length};
 use crate::decoder_calls::each_list;
 use crate::decoder_calls::settings;
 use crate::show::Lists;
@@ -27,15 +30,19 @@ fn cost(frame: u8, b: usize) -> i16 {
     20000
 }
 
-// The costs of up to eight frames, one behind the other; it answers how many they are.
-fn costs_of(frames: &[u8], costs: &mut [i16; 24]) -> usize {
-    let n = if frames.len() < 8 { frames.len() } else { 8 };
-    for f in 0..n {
-        costs[3 * f] = cost(frames[f], 0);
-        costs[3 * f + 1] = cost(frames[f], 1);
-        costs[3 * f + 2] = cost(frames[f], 2);
+// The costs of up to eight frames, one behind the other, and how many they are.
+fn costs_of(frames: &[u8], costs: &mut [i16]) -> usize
+    requires { ⌜ length (now costs) ≡ 24 ⌝ }
+    ensures { λ r. ⌜ r ≤ 24 ⌝ }
+{
+    for i in 0..24 {
+        let frame = i / 3;
+        if frames.len() <= frame {
+            return i;
+        }
+        costs[i] = cost(frames[frame], i % 3);
     }
-    3 * n
+    24
 }
 
 fn told(a: DecodeAnswer) {
@@ -54,6 +61,13 @@ fn answer(a: GroupAnswer) {
     }
 }
 
+// So many entries of a work list that has 128.
+fn lent_work(n: usize) -> usize
+    ensures { λ r. ⌜ r ≤ 128 ⌝ }
+{
+    if n < 128 { n } else { 128 }
+}
+
 // Lists of up to 16 entries, and a work list of up to 128: how many frames are told, and the room of each list.
 pub fn grouping(given: &[u8], frames: &[u8], sizes: &[u8]) {
     let mut costs = [0i16; 24];
@@ -66,7 +80,7 @@ pub fn grouping(given: &[u8], frames: &[u8], sizes: &[u8]) {
     let c = lent(x[4]);
     let r = lent(x[5]);
     let w = lent(x[6]);
-    let a = if x[7] < 128 { x[7] } else { 128 };
+    let a = lent_work(x[7]);
     let mut triples = [9u16; 16];
     let mut counts = [9u16; 16];
     let mut sums = [9i64; 16];
