@@ -45,8 +45,14 @@ fn costs_of(frames: &[u8], costs: &mut [i16]) -> usize
     24
 }
 
-fn told(a: DecodeAnswer) {
+// What is told of frame f; of a frame of which every field is 0, nothing.
+fn told(f: usize, a: DecodeAnswer) {
+    if (a.number == 0) & (a.place == 0) & (a.k == 0) & (a.settled == 0) {
+        return;
+    }
     text(b"; frame");
+    number(f);
+    text(b":");
     placed(a.number as usize, a.place);
     text(b", k");
     number(a.k as usize);
@@ -57,7 +63,7 @@ fn told(a: DecodeAnswer) {
 fn answer(a: GroupAnswer) {
     number(a.number as usize);
     for f in 0..8 {
-        told(a.frames[f]);
+        told(f, a.frames[f]);
     }
 }
 

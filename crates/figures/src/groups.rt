@@ -12,6 +12,7 @@ fn accepted() {
         two frames|256 0 2 0|ho|2 3 3 6 6 8 6 88\n\
         the three frames of the listing|256 0 2 0|zho|3 3 3 9 9 12 9 88\n\
         the same from the last|256 0 2 0|ohz|3 3 3 9 9 12 9 88\n\
+        four frames|256 0 2 0|zhoz|4 3 3 12 12 16 12 88\n\
         a false cost among them|256 0 2 0|zfho|4 3 3 12 12 16 12 88\n\
         a false cost first|256 0 2 0|fzho|4 3 3 12 12 16 12 88\n\
         a false cost last|256 0 2 0|zhof|4 3 3 12 12 16 12 88\n\
@@ -19,8 +20,10 @@ fn accepted() {
         all costs false|256 0 2 0|ff|2 3 3 6 6 8 6 88\n\
         longer lists|256 0 2 0|zho|3 4 4 16 16 16 16 128\n\
         three frames, K = 1|256 0 1 0|zho|3 3 3 9 9 12 9 88\n\
-        three frames, K = 4000, one settles|256 0 4000 0|zho|3 3 3 9 9 12 9 88\n\
-        X the total of the first frame|256 0 2 1073741824|zho|3 3 3 9 9 12 9 88\n",
+        three frames, K = 4000, they settle apart|256 0 4000 0|zho|3 3 3 9 9 12 9 88\n\
+        four frames, K = 4000, two settle together|256 0 4000 0|ohzo|4 3 3 12 12 16 12 88\n\
+        X the total of the first frame|256 0 2 1073741824|zho|3 3 3 9 9 12 9 88\n\
+        of four frames, X the total of the first|256 0 2 1073741824|zhoh|4 3 3 12 12 16 12 88\n",
         Example::Grouping,
     );
 }
