@@ -89,3 +89,72 @@ impl Quotient {
         _mm_sub_ps(all, _mm_set1_ps(ROUNDER - UNIT))
     }
 }
+
+#[cfg(test)]
+mod tests {
+    use super::*;
+
+    /// Half of the distance between neighbours among f32 of this size.
+    fn rounding(size: f64) -> f64 {
+        let bits = (size as f32).to_bits() + 1;
+        (f64::from(f32::from_bits(bits + 1)) - f64::from(f32::from_bits(bits))) / 2.0
+    }
+
+    /// The most that the quotients by a divisor are off before they are rounded.
+    fn error(divisor: u32) -> f64 {
+        let (high, low) = factors(divisor);
+        let most = 64.0 * f64::from(divisor);
+        let missed = -256.0 / f64::from(divisor) - f64::from(high) - f64::from(low);
+        let second = most * f64::from(low).abs();
+        let sums = rounding(second + 0.5) + rounding(second + 1.0);
+        most * missed.abs() + rounding(second) + rounding(0.5) + sums
+    }
+
+    #[test]
+    fn errors_are_below_the_distance_from_a_half() {
+        for divisor in 512..=1024 * MOST_COUNT {
+            assert!(error(divisor) < 0.5 / f64::from(divisor), "{divisor}");
+        }
+    }
+
+    #[test]
+    fn first_products_are_exact() {
+        for divisor in 512..=1024 * MOST_COUNT {
+            let (high, _) = factors(divisor);
+            let width = 24 - (64 * divisor).next_power_of_two().trailing_zeros();
+            assert_eq!(high.to_bits() << (8 + width), 0, "{divisor}");
+        }
+    }
+
+    /// c + U of -(256 S + rest), rounded to nearest.
+    fn raised(divisor: u32, sum: i64, rest: i64) -> i64 {
+        let (dividend, divisor) = (-(256 * sum + rest), i64::from(divisor));
+        let size = (2 * dividend.abs() + divisor) / (2 * divisor);
+        16384 + (size * dividend.signum()).clamp(-16384, 16384)
+    }
+
+    fn found(divisor: u32, sum: i64, rest: i64) -> i64 {
+        let part = -(rest as f32) / divisor as f32;
+        unsafe {
+            let sum = _mm_set1_ps(sum as f32);
+            _mm_cvtss_f32(Quotient::new(divisor).of_bit(sum, _mm_set1_ps(part))) as i64
+        }
+    }
+
+    #[test]
+    fn quotients_next_to_halves_are_rounded_as_they_should() {
+        for divisor in (512..=1024 * MOST_COUNT).step_by(41) {
+            for whole in (0..16384).step_by(97).chain([16382, 16383, 16384]) {
+                let half = (2 * whole + 1) * i64::from(divisor) / 2;
+                for dividend in [half - 1, half, half + 1, half + 2] {
+                    for dividend in [dividend, -dividend] {
+                        let (sum, rest) = (dividend >> 8, dividend & 255);
+                        let tie = 2 * dividend.abs() % i64::from(2 * divisor) == divisor.into();
+                        let expected = raised(divisor, sum, rest);
+                        assert!(tie || found(divisor, sum, rest) == expected, "{divisor}");
+                    }
+                }
+            }
+        }
+    }
+}
