@@ -9,6 +9,13 @@ use std::mem::MaybeUninit;
 // SAFETY for every block below: each x86-64 processor has SSE2, and each place
 // is below the length that the layout gives its list.
 
+/// Checks whose auxiliaries are done at once: their quotients, one after the other, would keep
+/// the rows waiting.
+const BLOCK: usize = 16;
+
+/// The most auxiliaries of a check.
+const MOST_AUXILIARIES: usize = 29;
+
 /// Where the numbers of the next check start, and the lists of the bits.
 #[derive(Clone, Copy)]
 pub struct Walk {
@@ -53,58 +60,84 @@ unsafe fn renew_class(
     quotient: Quotient,
     totals: &mut Totals,
 ) {
+    let mut values = [MaybeUninit::uninit(); BLOCK * MOST_AUXILIARIES];
+    let mut left = checks;
+    while left > 0 {
+        let block = left.min(BLOCK);
+        let values = &mut values[..block * (degree - 3)];
+        renew_auxiliaries(values, &mut walk.sums, quotient);
+        renew_block(degree, block, walk, values.as_ptr().cast(), totals);
+        left -= block;
+    }
+}
+
+/// c + U of auxiliaries from their S, which the place then is behind.
+#[inline(always)]
+unsafe fn renew_auxiliaries(
+    values: &mut [MaybeUninit<__m128>],
+    sums: &mut *const __m128,
+    quotient: Quotient,
+) {
+    for value in values {
+        value.write(quotient.of_auxiliary(**sums));
+        *sums = sums.add(1);
+    }
+}
+
+/// Renews checks, of whose auxiliaries c + U is given.
+#[inline(always)]
+unsafe fn renew_block(
+    degree: usize,
+    checks: usize,
+    walk: &mut Walk,
+    values: *const __m128,
+    totals: &mut Totals,
+) {
     let mut place = *walk;
     let mut counted = 0;
     while counted < checks && totals.any_within() {
-        renew_check::<true>(degree, &mut place, &quotient, totals);
+        let values = values.add(counted * (degree - 3));
+        renew_check::<true>(degree, &mut place, values, totals);
         counted += 1;
     }
-    for _ in counted..checks {
-        renew_check::<false>(degree, &mut place, &quotient, totals);
+    for check in counted..checks {
+        let values = values.add(check * (degree - 3));
+        renew_check::<false>(degree, &mut place, values, totals);
     }
     *walk = place;
 }
 
 /// Renews one check and goes to the next. With a degree known to the compiler every loop is
-/// written out and the arrays become registers.
+/// written out and the array becomes registers.
 #[inline(always)]
 unsafe fn renew_check<const COUNTING: bool>(
     degree: usize,
     walk: &mut Walk,
-    quotient: &Quotient,
+    values: *const __m128,
     totals: &mut Totals,
 ) {
-    // c + U of the auxiliaries, and what the triples that make them add to their S.
-    let mut values = [MaybeUninit::<__m128>::uninit(); 30];
-    let mut made = [MaybeUninit::<__m128>::uninit(); 30];
+    // What the triples that make auxiliaries add to their S.
+    let mut made = [MaybeUninit::<__m128>::uninit(); MOST_AUXILIARIES];
     for triple in 0..degree - 2 {
         let third = (degree + triple).min(2 * degree - 4);
         let items = [2 * triple, 2 * triple + 1, third];
-        let makes = triple < degree - 3;
-        if makes {
-            let sum = *walk.sums.add(triple);
-            values[triple].write(quotient.of_auxiliary(sum));
-        }
         let rows = walk.rows.add(4 * triple).cast::<[__m128; 4]>();
         let old = *rows;
-        let new = renewed(
-            old,
-            items.map(|item| match item < degree {
-                true => *walk.values.byte_add(*walk.offsets.add(item) as usize),
-                false => values[item - degree].assume_init(),
-            }),
-        );
+        let value = |item: usize| match item < degree {
+            true => *walk.values.byte_add(*walk.offsets.add(item) as usize),
+            false => *values.add(item - degree),
+        };
+        let new = renewed(old, items.map(value));
         *rows = new;
         if COUNTING {
             totals.add(old, new);
         }
-        let shares = shares_of(new);
-        for (place, (&item, &share)) in items.iter().zip(&shares).enumerate() {
+        for (item, share) in items.into_iter().zip(shares_of(new)) {
             if item < degree {
                 let offset = *walk.offsets.add(item) as usize;
                 let sum = walk.next_bit_sums.byte_add(offset);
                 *sum = _mm_add_ps(*sum, share);
-            } else if makes && place == 2 {
+            } else if item == degree + triple {
                 made[triple].write(share);
             } else {
                 let auxiliary = item - degree;
@@ -114,7 +147,6 @@ unsafe fn renew_check<const COUNTING: bool>(
         }
     }
     walk.rows = walk.rows.add(4 * (degree - 2));
-    walk.sums = walk.sums.add(degree - 3);
     walk.next_sums = walk.next_sums.add(degree - 3);
     walk.offsets = walk.offsets.add(degree);
 }
