@@ -86,9 +86,30 @@ fn at_limit(values: &[i16]) -> f64 {
     limited.count() as f64 / values.len() as f64
 }
 
-/// The least and the middle times of frames, added up, if there are any.
-fn summed(frames: Vec<Vec<f64>>) -> Option<(f64, f64)> {
-    let times = frames.into_iter().map(|mut times| {
+/// The seconds of calls in all rounds: a list for each who takes part, in it one for each of as
+/// many calls as are given for him. Another one begins in each round, and all go around a page
+/// of the stack.
+pub fn in_turn(calls: &[usize], mut call: impl FnMut(usize, usize)) -> Vec<Vec<Vec<f64>>> {
+    let lists = |&calls: &usize| vec![Vec::new(); calls];
+    let mut times: Vec<Vec<Vec<f64>>> = calls.iter().map(lists).collect();
+    for round in 0..ROUNDS {
+        for place in (0..calls.len()).map(|turn| (round + turn) % calls.len()) {
+            for (number, times) in times[place].iter_mut().enumerate() {
+                let mut timed = || {
+                    let start = Instant::now();
+                    call(place, number);
+                    times.push(start.elapsed().as_secs_f64());
+                };
+                deeper(round, &mut timed);
+            }
+        }
+    }
+    times
+}
+
+/// The least and the middle times of calls, added up, if there are any.
+pub fn summed(calls: Vec<Vec<f64>>) -> Option<(f64, f64)> {
+    let times = calls.into_iter().map(|mut times| {
         times.sort_by(f64::total_cmp);
         (times[0], times[times.len() / 2])
     });
@@ -122,29 +143,15 @@ impl Contest {
 
     /// What every decoder takes for all frames, on the same lists.
     pub fn times(&self, scenario: &Scenario, lists: &mut Placed) -> Vec<Option<(f64, f64)>> {
-        let count = self.entrants.len();
-        let mut times: Vec<Vec<Vec<f64>>> = self
-            .entrants
-            .iter()
-            .map(|entrant| match entrant.refuses(scenario) {
-                true => Vec::new(),
-                false => vec![Vec::new(); scenario.frames.len()],
-            })
-            .collect();
-        for round in 0..ROUNDS {
-            // Another decoder begins in each round, and all go around a page of the stack.
-            for place in (0..count).map(|turn| (round + turn) % count) {
-                let decoder = self.entrants[place].decoder.as_ref();
-                for (frame, times) in times[place].iter_mut().enumerate() {
-                    let mut call = || {
-                        let start = Instant::now();
-                        decode(decoder, scenario, frame, lists.lend());
-                        times.push(start.elapsed().as_secs_f64());
-                    };
-                    deeper(round, &mut call);
-                }
-            }
-        }
+        let frames = |entrant: &Entrant| match entrant.refuses(scenario) {
+            true => 0,
+            false => scenario.frames.len(),
+        };
+        let frames: Vec<usize> = self.entrants.iter().map(frames).collect();
+        let times = in_turn(&frames, |place, frame| {
+            let decoder = self.entrants[place].decoder.as_ref();
+            decode(decoder, scenario, frame, lists.lend());
+        });
         times.into_iter().map(summed).collect()
     }
 

@@ -1,5 +1,5 @@
 //! Measures whole calls side by side: decoders, from code records and costs to the
-//! word and every lent list; import and export of alist texts; the encoder; and calls on
+//! word and every lent list; groups of frames; import and export of alist texts; the encoder; and calls on
 //! words. Run it with `--release`; with the feature `library` the compiled library takes part.
 
 #[cfg(feature = "before")]
@@ -7,6 +7,7 @@ mod before;
 mod contest;
 mod conversion;
 mod encoder;
+mod groups;
 mod placed;
 mod places;
 mod refused;
@@ -18,6 +19,7 @@ mod words;
 use contest::Contest;
 use conversion::{Conversions, Task};
 use encoder::Encoders;
+use groups::Groups;
 use placed::{Placed, AHEAD, PLACES};
 use std::env;
 use std::process::ExitCode;
@@ -40,6 +42,17 @@ fn decoders() {
     for scenario in scenario::growing() {
         let result = contest.run(&scenario);
         report::growth_line(&scenario, &result);
+    }
+}
+
+fn groups() {
+    let groups = Groups::new();
+    report::groups_heading(groups.names());
+    for scenario in scenario::grouped() {
+        for frames in groups::SIZES {
+            let result = groups.run(&scenario, frames);
+            report::groups_line(&scenario, frames, &groups.names(), &result);
+        }
     }
 }
 
@@ -108,6 +121,7 @@ fn main() -> ExitCode {
     match env::args().nth(1).as_deref() {
         None => {
             decoders();
+            groups();
             longest();
             lists();
             conversions();
@@ -115,13 +129,14 @@ fn main() -> ExitCode {
             words();
         }
         Some("decoders") => decoders(),
+        Some("groups") => groups(),
         Some("longest") => longest(),
         Some("lists") => lists(),
         Some("alist") => conversions(),
         Some("encoder") => encoders(),
         Some("words") => words(),
         Some(_) => {
-            eprintln!("usage: bench [decoders|longest|lists|alist|encoder|words]");
+            eprintln!("usage: bench [decoders|groups|longest|lists|alist|encoder|words]");
             return ExitCode::FAILURE;
         }
     }

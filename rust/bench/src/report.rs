@@ -3,6 +3,7 @@
 use crate::contest::ContestResult;
 use crate::conversion::{Call, Task};
 use crate::encoder;
+use crate::groups::GroupsResult;
 use crate::scenario::{Scenario, SCALE, SETTINGS};
 use crate::words;
 
@@ -137,6 +138,52 @@ pub fn growth_line(scenario: &Scenario, result: &ContestResult) {
         columns_of(least(result).map(per_frame), 9, 1),
         "",
         columns_of(least(result).map(per), 8, 2),
+    );
+}
+
+/// Which ways to decode groups are compared, where both take part.
+const GROUP_RATIOS: [(&str, &str); 3] = [
+    ("group", "singles"),
+    ("group", "tuned group"),
+    ("tuned group", "tuned singles"),
+];
+
+/// Of each such pair, where they stand among the names.
+fn group_ratios(names: &[&str]) -> impl Iterator<Item = (usize, usize)> {
+    let place = |name| names.iter().position(|&other| other == name);
+    let places = GROUP_RATIOS.map(|(first, second)| place(first).zip(place(second)));
+    places.into_iter().flatten()
+}
+
+const GROUP_RATIO_WIDTH: usize = 25;
+
+pub fn groups_heading(names: Vec<&str>) {
+    let ratios = group_ratios(&names);
+    let ratios = ratios.map(|(first, second)| format!("{}/{}", names[first], names[second]));
+    let ratios: Vec<String> = ratios.collect();
+    let ratios: Vec<&str> = ratios.iter().map(String::as_str).collect();
+    println!();
+    println!(
+        "Groups of frames; the least time of each group in interleaved rounds:\n   n     T level   dB frames  k/frame | ns per triple, iteration and frame: {} | {}",
+        columns(&names, 13),
+        columns(&ratios, GROUP_RATIO_WIDTH),
+    );
+}
+
+pub fn groups_line(scenario: &Scenario, frames: usize, names: &[&str], result: &GroupsResult) {
+    let triples = result.iterations as f64 * scenario.code.triples() as f64;
+    let seconds = &result.seconds;
+    let ratios = group_ratios(names).map(|(first, second)| seconds[first] / seconds[second]);
+    println!(
+        "{:>4} {:>5} {:<5} {:>4.1} {frames:>6} {:>8.1} | {:36}{} | {}",
+        scenario.code.bits,
+        scenario.code.triples(),
+        scenario.name,
+        scenario.decibels.unwrap_or_default(),
+        result.iterations as f64 / scenario.frames.len() as f64,
+        "",
+        numbers(seconds.iter().map(|time| 1e9 * time / triples), 13, 2),
+        numbers(ratios, GROUP_RATIO_WIDTH, 3),
     );
 }
 

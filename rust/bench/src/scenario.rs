@@ -78,22 +78,35 @@ fn frame(random: &mut Random, bits: usize, noise: f64) -> Vec<i16> {
     costs
 }
 
-/// Each code at a level where most frames settle soon, and at a hard one; then codes with
-/// bits in many checks.
+/// Each code at a level where most frames settle soon, and at a hard one, with so many frames.
+fn levels(frames: [usize; 6]) -> Vec<Scenario> {
+    vec![
+        Scenario::new("easy", training_code(), 4.0, frames[0]),
+        Scenario::new("hard", training_code(), 0.0, frames[1]),
+        Scenario::new("easy", regular(1_008), 3.0, frames[2]),
+        Scenario::new("hard", regular(1_008), 0.5, frames[3]),
+        Scenario::new("easy", regular(4_096), 3.0, frames[4]),
+        Scenario::new("hard", regular(4_096), 0.5, frames[5]),
+    ]
+}
+
+/// These, then codes with bits in many checks.
 pub fn all() -> Vec<Scenario> {
     let mixed = || code_of(&mut Random::new(SEED), 1_000, 500, 2_000);
-    vec![
-        Scenario::new("easy", training_code(), 4.0, 200),
-        Scenario::new("hard", training_code(), 0.0, 100),
-        Scenario::new("easy", regular(1_008), 3.0, 40),
-        Scenario::new("hard", regular(1_008), 0.5, 8),
-        Scenario::new("easy", regular(4_096), 3.0, 10),
-        Scenario::new("hard", regular(4_096), 0.5, 2),
+    let mut all = levels([200, 100, 40, 8, 10, 2]);
+    all.extend([
         Scenario::new("mixed easy", mixed(), 3.0, 20),
         Scenario::new("mixed hard", mixed(), 0.5, 4),
         in_32_checks(),
         limited(),
-    ]
+    ]);
+    all
+}
+
+/// The same codes and levels, with the same frames as far as they make groups of eight, and as
+/// many more as one group needs.
+pub fn grouped() -> Vec<Scenario> {
+    levels([200, 96, 40, 8, 8, 8])
 }
 
 /// Codes with checks of two bits, at a level where frames settle soon and at a hard one. In the

@@ -1,10 +1,11 @@
 //! The plain rival: safe Rust, three passes an iteration, full totals.
 
+pub mod group;
 pub mod records;
 pub mod run;
 mod split;
 
-use interface::{DecodeAnswer, Decoder, Lists, Settings};
+use interface::{DecodeAnswer, Decoder, GroupAnswer, Grouping, Lists, Settings};
 
 /// The number of a cause, where a call is refused.
 pub type Refused<T> = Result<T, u32>;
@@ -14,5 +15,27 @@ pub struct Plain;
 impl Decoder for Plain {
     fn decode(&self, code: &[u8], settings: Settings, costs: &[i16], lists: Lists) -> DecodeAnswer {
         run::decode(code, settings, costs, lists, run::run)
+    }
+}
+
+impl Grouping for Plain {
+    fn decode_group(
+        &self,
+        code: &[u8],
+        settings: Settings,
+        frames: usize,
+        costs: &[i16],
+        lists: Lists,
+        work: &mut [i32],
+    ) -> GroupAnswer {
+        let input = group::Input {
+            code,
+            settings,
+            frames,
+            costs,
+        };
+        group::decode(input, lists, work, |frames, _| {
+            group::run_each(frames, run::run)
+        })
     }
 }

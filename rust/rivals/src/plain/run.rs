@@ -45,27 +45,31 @@ pub fn decode(
 
 fn accept(code: &[u8], settings: Settings, costs: &[i16], lists: &Lists) -> Refused<Code> {
     let code = Code::read(code)?;
-    let (triples, variables) = (code.triples(), code.variables());
     if !in_range(settings) {
         Err(11)
     } else if costs.len() != code.bits {
         Err(12)
     } else if costs.contains(&i16::MIN) {
         Err(13)
-    } else if lists.triples.len() < 3 * triples
-        || lists.counts.len() < variables
-        || lists.sums.len() < variables
-        || lists.values.len() < variables
-        || lists.rows.len() < 4 * triples
-        || lists.word.len() < code.bits
-    {
+    } else if !has_room(&code, 1, lists) {
         Err(10)
     } else {
         Ok(code)
     }
 }
 
-fn in_range(settings: Settings) -> bool {
+/// Whether so many frames of a code have room in the lists.
+pub fn has_room(code: &Code, frames: usize, lists: &Lists) -> bool {
+    let (triples, variables) = (code.triples(), code.variables());
+    lists.triples.len() >= 3 * triples
+        && lists.counts.len() >= variables
+        && lists.sums.len() >= frames * variables
+        && lists.values.len() >= frames * variables
+        && lists.rows.len() >= frames * 4 * triples
+        && lists.word.len() >= frames * code.bits
+}
+
+pub fn in_range(settings: Settings) -> bool {
     let Settings {
         weight,
         ratio,
@@ -108,7 +112,7 @@ fn decode_accepted(
 }
 
 /// Writes the word if there is one; the outcome's number and place.
-fn write_word(code: &Code, values: &[i16], word: &mut [u8]) -> (u32, usize) {
+pub fn write_word(code: &Code, values: &[i16], word: &mut [u8]) -> (u32, usize) {
     if let Some(bit) = values.iter().position(|&value| value == 0) {
         return (16, bit);
     }

@@ -9,13 +9,16 @@
 
 mod bits;
 mod checks;
+mod group;
 mod lanes;
 mod layout;
 mod lists;
 mod work;
 
+use crate::plain::group::{decode as decode_group, Input};
 use crate::plain::run::{decode, run, run_on, State, Task};
-use interface::{DecodeAnswer, Decoder, Lists, Settings};
+use group::run_frames;
+use interface::{DecodeAnswer, Decoder, GroupAnswer, Grouping, Lists, Settings};
 use layout::{Layout, MOST_COUNT};
 use work::Work;
 
@@ -25,6 +28,26 @@ pub struct Tuned;
 impl Decoder for Tuned {
     fn decode(&self, code: &[u8], settings: Settings, costs: &[i16], lists: Lists) -> DecodeAnswer {
         decode(code, settings, costs, lists, run_tuned)
+    }
+}
+
+impl Grouping for Tuned {
+    fn decode_group(
+        &self,
+        code: &[u8],
+        settings: Settings,
+        frames: usize,
+        costs: &[i16],
+        lists: Lists,
+        work: &mut [i32],
+    ) -> GroupAnswer {
+        let input = Input {
+            code,
+            settings,
+            frames,
+            costs,
+        };
+        decode_group(input, lists, work, run_frames)
     }
 }
 
@@ -45,7 +68,7 @@ fn run_tuned(task: &Task, state: &mut State) -> (u32, bool) {
     let (mut k, mut largest) = (0, 65536);
     loop {
         // An auxiliary lies in two triples.
-        let safe = safe_iterations(most.max(2), largest);
+        let safe = safe_iterations(EXACT, most.max(2), largest);
         if safe == 0 {
             work.write(state);
             return run_on(task, state, k);
@@ -63,11 +86,11 @@ fn run_tuned(task: &Task, state: &mut State) -> (u32, bool) {
     }
 }
 
-/// Iterations for which every S of so many triples stays exact: a share is at
+/// Iterations for which no S of so many triples exceeds the room that there is: a share is at
 /// most twice the largest size of an s, which is 65,536 at first or whenever no
 /// s is larger, and grows by at most 32,768.
-fn safe_iterations(count: usize, largest: usize) -> usize {
-    (EXACT / (2 * count)).saturating_sub(largest) / 32768
+fn safe_iterations(room: usize, count: usize, largest: usize) -> usize {
+    (room / (2 * count)).saturating_sub(largest) / 32768
 }
 
 #[cfg(test)]
@@ -78,11 +101,11 @@ mod tests {
     fn every_sum_stays_exact() {
         for count in 2..=MOST_COUNT {
             for largest in [65_536, 98_304, 262_143, 4_000_000, 131_072_000] {
-                let safe = safe_iterations(count, largest);
+                let safe = safe_iterations(EXACT, count, largest);
                 assert!(safe == 0 || 2 * count * (largest + 32_768 * safe) <= EXACT);
             }
-            assert!(safe_iterations(count, 65_536) > 0);
-            assert_eq!(safe_iterations(count, 131_072_000), 0);
+            assert!(safe_iterations(EXACT, count, 65_536) > 0);
+            assert_eq!(safe_iterations(EXACT, count, 131_072_000), 0);
         }
     }
 }

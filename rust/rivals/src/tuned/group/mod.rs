@@ -1,0 +1,152 @@
+//! Groups of frames: four run together, a frame a lane, and where one stops the next begins in
+//! its lane.
+//!
+//! It is exact in all runs, as the single rival is: before an S could exceed what an f32 holds
+//! exactly, the plain rival goes on with each frame. Settings and codes whose quotients an f32
+//! does not give are left to the single rival.
+
+mod checks;
+mod layout;
+mod lists;
+mod quotient;
+mod totals;
+mod work;
+
+use super::{run_tuned, safe_iterations, EXACT};
+use crate::plain::group::{run_each, Frame};
+use crate::plain::run::{run_on, Task};
+use layout::Layout;
+use quotient::{divisor, is_exact};
+use totals::MOST_TOLERANCE;
+use work::{Work, LANES};
+
+/// So many frames are as fast one after the other.
+const FEW: usize = 2;
+
+/// Runs frames of one code with the same settings.
+pub fn run_frames(frames: &mut [Frame], list: &mut [i32]) {
+    let suited = |frame: &Frame| is_suited(&frame.task);
+    if frames.len() <= FEW || !frames.iter().all(suited) {
+        return run_each(frames, run_tuned);
+    }
+    let task = &frames[0].task;
+    let layout = Layout::of(task.code, task.counts);
+    match Work::new(&layout, task.settings, list) {
+        Some(work) => Group::new(frames, work).run(frames),
+        None => run_each(frames, run_tuned),
+    }
+}
+
+/// Whether all quotients of a frame are exact.
+fn is_suited(task: &Task) -> bool {
+    let settings = task.settings;
+    let exact = |count, weight| is_exact(divisor(count, settings.ratio), weight);
+    let mut counts = task.counts[..task.code.bits].iter();
+    settings.tolerance < MOST_TOLERANCE
+        && exact(2, 0)
+        && counts.all(|&count| exact(count.into(), settings.weight))
+}
+
+/// A frame that runs in a lane.
+#[derive(Clone, Copy)]
+struct Runner {
+    frame: usize,
+    /// Its iterations so far.
+    k: u32,
+}
+
+struct Group<'a> {
+    work: Work<'a>,
+    lanes: [Option<Runner>; LANES],
+    /// The frames from here on wait.
+    waiting: usize,
+    /// The most triples of a variable.
+    most: usize,
+    /// What the largest cost adds to an S.
+    cost: usize,
+}
+
+impl<'a> Group<'a> {
+    fn new(frames: &[Frame], work: Work<'a>) -> Group<'a> {
+        let Task {
+            counts, settings, ..
+        } = frames[0].task;
+        let costs = frames.iter().flat_map(|frame| frame.task.costs);
+        let cost = costs.map(|cost| cost.unsigned_abs()).max().unwrap_or(0);
+        Group {
+            work,
+            lanes: [None; LANES],
+            waiting: 0,
+            most: counts.iter().copied().max().unwrap_or(2).max(2).into(),
+            cost: usize::from(cost) * settings.weight as usize / 256 + 1,
+        }
+    }
+
+    /// Runs all frames.
+    fn run(mut self, frames: &mut [Frame]) {
+        for lane in 0..LANES {
+            self.fill(lane, frames);
+        }
+        let mut safe = self.safe_iterations(65536);
+        while self.lanes.iter().any(Option::is_some) {
+            if safe == 0 {
+                safe = self.safe_iterations(self.work.largest());
+            }
+            if safe == 0 {
+                return self.finish(frames);
+            }
+            self.iterate(frames);
+            safe -= 1;
+        }
+    }
+
+    /// Iterations for which all sums stay exact, their costs added, if this is the largest s.
+    fn safe_iterations(&self, largest: usize) -> usize {
+        safe_iterations(EXACT.saturating_sub(self.cost), self.most, largest)
+    }
+
+    /// Puts the next frame into a lane, if one waits.
+    fn fill(&mut self, lane: usize, frames: &[Frame]) {
+        let next = frames.get(self.waiting);
+        self.lanes[lane] = next.map(|frame| {
+            self.work.start(lane, &frame.task);
+            let frame = self.waiting;
+            self.waiting += 1;
+            Runner { frame, k: 0 }
+        });
+    }
+
+    /// One iteration of all lanes.
+    fn iterate(&mut self, frames: &mut [Frame]) {
+        self.work.renew_bits();
+        let settled = self
+            .work
+            .renew_checks(self.lanes.map(|lane| lane.is_some()));
+        for lane in 0..LANES {
+            let Some(Runner { frame, k }) = &mut self.lanes[lane] else {
+                continue;
+            };
+            *k += 1;
+            let settled = settled >> lane & 1 == 1;
+            let frame = &mut frames[*frame];
+            if settled || *k == frame.task.settings.limit {
+                frame.end = (*k, settled);
+                self.work.write(lane, &mut frame.state);
+                self.work.clear(lane);
+                self.fill(lane, frames);
+            }
+        }
+    }
+
+    /// Leaves the frames in lanes to the plain rival, and those that wait to the single one.
+    fn finish(self, frames: &mut [Frame]) {
+        for (lane, runner) in self.lanes.into_iter().enumerate() {
+            if let Some(Runner { frame, k }) = runner {
+                let Frame { task, state, end } = &mut frames[frame];
+                self.work.write(lane, state);
+                *end = run_on(task, state, k);
+            }
+        }
+        run_each(&mut frames[self.waiting..], run_tuned);
+    }
+}
