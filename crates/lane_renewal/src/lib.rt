@@ -13,7 +13,7 @@ ghost use Rattle.lane_renewal.specs.Counting.{settledIn, rowChange, rows
 use lanes::Plan;
 
 // The rows of so many triples, of up to eight lanes, are kept to be compared.
-const BLOCK: usize = 16;
+const BLOCK: usize = 8;
 
 // `count` entries of the work list, from `first` on, are kept.
 fn keep(work: &[i32], first: usize, count: usize, before: &mut [i32])
@@ -133,7 +133,7 @@ fn renew_counted(
         (now (multipliers .exit)) (now (slacks .exit)) ⌝ }
     ensures { λ t. ⌜ (t < p .triples → NoneWithin tolerance (now (running .entry)) (now (multipliers .exit)) (now (slacks .exit)) from to) ⌝ }
 {
-    let mut before = [0i32; 512];
+    let mut before = [0i32; 256];
     let mut t = 0;
     while (t < p.triples) & some_within(running, tolerance, multipliers, slacks, from, to) {
         let n = if p.triples - t < BLOCK {

@@ -177,3 +177,37 @@ pub fn run(
         rows,
     )
 }
+
+// The run goes on from the state in the lists, `done` iterations being done.
+pub fn go_on(
+    settings: Settings,
+    triples: &[u16],
+    counts: &[u16],
+    costs: &[i16],
+    count: usize,
+    done: u32,
+    sums: &mut [i64],
+    values: &mut [i16],
+    rows: &mut [i32],
+) -> Ending
+    requires { ⌜ Lent settings (now triples) (now counts) (now costs) count (now sums) (now values) (now rows) ⌝ }
+    requires { ⌜ RowsWithin done (now rows) ⌝ }
+    requires { ⌜ (done ≤ settings .limit) × (settings .limit ≤ mostIterations) ⌝ }
+    ensures { λ e. ⌜ ((k : Code) → let g = systemIn k (now (triples .entry)) count (now (values .entry)) in
+        let first : State = record { sums = now (sums .entry); values = now (values .entry); rows = now (rows .entry) } in
+        let last : State = record { sums = now (sums .exit); values = now (values .exit); rows = now (rows .exit) } in
+        record { k = e .k; settled = e .settled; last = last } ≡ Run.runFrom quotient g settings (now (costs .entry)) (settings .limit - done) done first) ⌝ }
+{
+    layout::straighten(rows, count);
+    run_from(
+        settings,
+        triples,
+        counts,
+        costs,
+        count,
+        done,
+        sums,
+        values,
+        rows,
+    )
+}
