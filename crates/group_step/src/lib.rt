@@ -24,7 +24,7 @@ use lanes::Plan;
 use model::Settings;
 
 // Frame f is taken out of its lane, with the sums of list i.
-fn take_out(
+pub fn take_out(
     work: &[i32],
     p: Plan,
     i: usize,

@@ -65,7 +65,7 @@ fn count_rows(
     multipliers: &mut [u64],
     slacks: &mut [u64],
 )
-    requires { ⌜ (lanes ≤ 8) × (to ≤ lanes) × (rows ≤ 64) × (length (now multipliers) ≡ 8) × (length (now slacks) ≡ 8) ⌝ }
+    requires { ⌜ (lanes ≤ 8) × (to ≤ lanes) × (rows ≤ 32) × (length (now multipliers) ≡ 8) × (length (now slacks) ≡ 8) ⌝ }
     requires { ⌜ (lanes * rows ≤ length (now before)) × (first + lanes * rows ≤ length (now work)) ⌝ }
     requires { ⌜ ((r l : ℕ) → r < rows → from ≤ l → l < to
         → Comparable (at (now before) (lanes * r + l)) (at (now work) (first + lanes * r + l))) ⌝ }

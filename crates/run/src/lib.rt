@@ -1,6 +1,8 @@
 // The run (document 01, 'One iteration'), on lists of exact length: iterations until it settles or K are done. While it goes the rows stand transposed.
 ghost use mathlib.Core.Path.{_≡_};
+ghost use mathlib.Core.Bool.{false, cond};
 ghost use Prim.Native.Nat.{_-_, _*_, _≤_, _<_};
+ghost use lib.Dec.{eqb};
 ghost use lib.ListN.{length};
 ghost use Rattle.quotient.specs.Quotient.{quotient};
 ghost use Rattle.model.specs.Limits.{mostIterations, mostDone};
@@ -178,7 +180,7 @@ pub fn run(
     )
 }
 
-// The run goes on from the state in the lists, `done` iterations being done.
+// The run goes on, `done` iterations being done: from the state in the lists, or from the start where none is.
 pub fn go_on(
     settings: Settings,
     triples: &[u16],
@@ -191,13 +193,17 @@ pub fn go_on(
     rows: &mut [i32],
 ) -> Ending
     requires { ⌜ Lent settings (now triples) (now counts) (now costs) count (now sums) (now values) (now rows) ⌝ }
-    requires { ⌜ RowsWithin done (now rows) ⌝ }
-    requires { ⌜ (done ≤ settings .limit) × (settings .limit ≤ mostIterations) ⌝ }
+    requires { ⌜ (eqb done 0 ≡ false → RowsWithin done (now rows)) ⌝ }
+    requires { ⌜ (1 ≤ settings .limit) × (done ≤ settings .limit) × (settings .limit ≤ mostIterations) ⌝ }
     ensures { λ e. ⌜ ((k : Code) → let g = systemIn k (now (triples .entry)) count (now (values .entry)) in
         let first : State = record { sums = now (sums .entry); values = now (values .entry); rows = now (rows .entry) } in
         let last : State = record { sums = now (sums .exit); values = now (values .exit); rows = now (rows .exit) } in
-        record { k = e .k; settled = e .settled; last = last } ≡ Run.runFrom quotient g settings (now (costs .entry)) (settings .limit - done) done first) ⌝ }
+        record { k = e .k; settled = e .settled; last = last } ≡ cond (eqb done 0) (Run.run quotient g settings (now (costs .entry)))
+        (Run.runFrom quotient g settings (now (costs .entry)) (settings .limit - done) done first)) ⌝ }
 {
+    if done == 0 {
+        return run(settings, triples, counts, costs, count, sums, values, rows);
+    }
     layout::straighten(rows, count);
     run_from(
         settings,

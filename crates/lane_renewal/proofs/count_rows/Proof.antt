@@ -19,7 +19,7 @@ abbrev μ-loop : tie.MeasureT-loop
 
 -- ---- of one side
 module _ (side : ℤ) (before w : List ℤ) (i L from to : ℕ) (old new : List ℕ) (r : ℕ) (so-far : Grown from to (rowsChange side before w i L r) old new) where
-  small : (n : ℕ) → natAbs side ≤ 1 → ((r l : ℕ) → r < n → from ≤ l → l < to → Comparable (at before (L * r + l)) (at w (i + L * r + l))) → n ≤ 64 → r < n
+  small : (n : ℕ) → natAbs side ≤ 1 → ((r l : ℕ) → r < n → from ≤ l → l < to → Comparable (at before (L * r + l)) (at w (i + L * r + l))) → n ≤ 32 → r < n
       → AtMost from to (2 ^ 62) old → AtMost from to (2 ^ 63) new
   small n one all few h a l f t =
       let most = sumℕ-bound r (mostRow * mostRow) (λ r. rowChange side before (L * r) w (i + L * r) l) (λ k m. change-small side one _ _ (all k l (omega arith) f t)) in

@@ -13,7 +13,7 @@ use Rattle.lane_renewal.proofs.renew_counted.Tie as tie
 
 abbrev Inv-loop : tie.InvT-loop
 Inv-loop triples counts known p i from to running tolerance work₀ multipliers₀ slacks₀ before₀ t₀ work multipliers slacks before t =
-    (length multipliers ≡ 8) × (length slacks ≡ 8) × (length before ≡ 512) × Counted p triples counts i from to work₀ t work multipliers slacks
+    (length multipliers ≡ 8) × (length slacks ≡ 8) × (length before ≡ 256) × Counted p triples counts i from to work₀ t work multipliers slacks
 
 abbrev μ-loop : tie.MeasureT-loop
 μ-loop triples counts known p i from to running tolerance work₀ multipliers₀ slacks₀ before₀ t₀ work multipliers slacks before t = p .triples - t
@@ -57,7 +57,7 @@ module _ (d : tie.Joined2 Inv-loop μ-loop) where
   abbrev n : ℕ
   n = d .if2 .n
 
-  few : (1 ≤ n) × (n ≤ 16) × (t + n ≤ p .triples)
+  few : (1 ≤ n) × (n ≤ 8) × (t + n ≤ p .triples)
   few = ⊎-elim (λ w. omega (arith, w, more (d .before .before))) (λ w. omega (arith, w)) (d .if2 .came)
 
   so-far : Counted p (s .args .triples .now) (s .args .counts .now) (s .args .i) (s .args .from) (s .args .to) (s .args .work .now) t (turn .loop .work) (turn .loop .multipliers) (turn .loop .slacks)
@@ -70,8 +70,8 @@ module _ (d : tie.Joined2 Inv-loop μ-loop) where
   rows-small : p .lanes * (4 * t) + p .lanes * (4 * n) ≤ 2 ^ 20
   rows-small = omega (arith, rows-in (turn .loop .work) (so-far .fits), list-short (so-far .fits))
 
-  kept-small : p .lanes * (4 * n) ≤ 512
-  kept-small = let h : 4 * n ≤ 64 = omega (arith, few) in mul-le-mul (lanes-few (so-far .fits)) h
+  kept-small : p .lanes * (4 * n) ≤ 256
+  kept-small = let h : 4 * n ≤ 32 = omega (arith, few) in mul-le-mul (lanes-few (so-far .fits)) h
 
 -- ---- its rows are kept, and renewed
 module _ (r : tie.After-renew-range Inv-loop μ-loop) where
@@ -87,7 +87,7 @@ module _ (r : tie.After-renew-range Inv-loop μ-loop) where
   abbrev new : List ℤ
   new = r .renew-range .last .1 .1 .1 .1 .1 .1 .1 .1 .1 .0
 
-  before-long : length before ≡ 512
+  before-long : length before ≡ 256
   before-long = kept .keep .kept .1 .1 .1 .0 ∙ turn block .loop .inv .2
 
   taken : let a = s block .args in
