@@ -143,14 +143,14 @@ module _ {p : Plan} {F : ℕ} {o : Settings} {ts counts : List ℕ} {costs : Lis
 
   -- how the frames end from there
   pub from-start : (k : Code) (ks settled : List ℕ) (S c s : List ℤ) (f : ℕ)
-      → endOf (systemFor k p ts) o (part (p .bits) f costs) (frameNow p 1 0 w₂ running ks settled S c s f) ≡ ends p o k ts costs running ks settled S c s f
+      → endOf (systemFor k p ts) o (part (p .bits) f costs) (frameNow p 1 0 w₂ running ks settled S c s f) ≡ ends p o k ts costs 0 running ks settled S c s f
   from-start k ks settled S c s f = by (runs running f) refl
     where
       g : System
       g = systemFor k p ts
 
       by : (t : Bool) → runs running f ≡ t
-          → endOf g o (part (p .bits) f costs) (frameNow p 1 0 w₂ running ks settled S c s f) ≡ ends p o k ts costs running ks settled S c s f
+          → endOf g o (part (p .bits) f costs) (frameNow p 1 0 w₂ running ks settled S c s f) ≡ ends p o k ts costs 0 running ks settled S c s f
       by true r =
           let h = lane-below f r in
           rw (r, started p w₂ f (rows₂ f h) (values₂ f h) (sums₂ f h) k ts) (steps-are-runs g o (part (p .bits) f costs) .begins)

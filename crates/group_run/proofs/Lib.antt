@@ -4,4 +4,5 @@ pub mod Steps
 pub mod Givens
 pub mod Begun
 pub mod Alone
+pub mod Taken
 pub mod Singles

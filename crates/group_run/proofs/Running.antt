@@ -1,9 +1,9 @@
 -- The lists of a group that tell how far its frames are; which frames run, and how many. Assumes nothing.
 use Rattle.integers.proofs.Prelude.{_≡_, refl, ap, Bool, true, false, not, List, [], _∷_, ℕ, zero, suc, _+_, _≤_, _<_, arith, add-one, eqb, eqb-false, eq-eqb, ne-eqb, not-true, ℤ, length, getD, take}
-use Rattle.lists.specs.Entries.{total}
 use Rattle.lists.proofs.Entries.{total-next}
 use Rattle.model.specs.Causes.{_if_}
 use Rattle.lane_step.specs.Step.{runs}
+use Rattle.group_run.specs.Course.{countRunning}
 
 -- the lists, by their names
 pub record Lists : Type 0 where
@@ -25,20 +25,11 @@ pub mark-of : (running : List ℕ) (f : ℕ) → runs running f ≡ true → 0 <
 mark-of running f h = omega (arith, eqb-false (getD running f 0) 0 (not-true _ h))
 
 -- ---- how many of these marks are those of frames that run
-abbrev pub counted : List ℕ → ℕ
-counted running = total (λ x. 1 if not (eqb x 0)) running
-
 -- one mark more
-pub counted-next : (running : List ℕ) (f : ℕ) → f < length running → counted (take (f + 1) running) ≡ counted (take f running) + (1 if runs running f)
+pub counted-next : (running : List ℕ) (f : ℕ) → f < length running → countRunning (take (f + 1) running) ≡ countRunning (take f running) + (1 if runs running f)
 counted-next running f h = rw (add-one f) (total-next (λ x. 1 if not (eqb x 0)) running f 0 h)
 
-pub some-runs : (running : List ℕ) → 0 < counted running → (f : ℕ) × (runs running f ≡ true)
+pub some-runs : (running : List ℕ) → 0 < countRunning running → (f : ℕ) × (runs running f ≡ true)
 some-runs [] h = absurd (omega arith)
 some-runs (zero ∷ running) h = let r = some-runs running (omega arith) in (suc (r .0), r .1)
 some-runs (suc x ∷ running) h = (0, marked (suc x ∷ running) 0 (λ e. omega arith))
-
-pub none-runs : (running : List ℕ) → counted running ≤ 0 → (f : ℕ) → runs running f ≡ false
-none-runs [] h f = refl
-none-runs (zero ∷ running) h zero = refl
-none-runs (zero ∷ running) h (suc f) = none-runs running (omega arith) f
-none-runs (suc x ∷ running) h f = absurd (omega (arith, ap (λ (t : Bool). 1 if t) (marked (suc x ∷ running) 0 (λ e. omega arith))))

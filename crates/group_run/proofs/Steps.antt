@@ -1,16 +1,21 @@
 -- Group steps, one after the other: what has been done and what remains of each frame is the whole. Assumes nothing.
-use Rattle.integers.proofs.Prelude.{_≡_, refl, sym, ap, subst, _∙_, Bool, true, false, List, ℕ, suc, _+_, _-_, _≤_, _<_, arith, add-one, T, ℤ}
+use Rattle.integers.proofs.Prelude.{_≡_, refl, sym, ap, subst, _∙_, Bool, true, false, cond, List, ℕ, suc, _+_, _-_, _*_, _≤_, _<_, arith, add-one, T, eqb, ℤ, getD}
+use Rattle.lists.specs.Tabulated.{part}
+use Rattle.quotient.specs.Quotient.{quotient}
 use Rattle.model.specs.declared.Settings.{Settings}
 use Rattle.model.specs.Code.{Code}
+use Rattle.model.specs.Iteration.{State}
+use Rattle.model.specs.Run.{runFrom}
+use Rattle.model.specs.Bounds.{RowsWithin}
 use Rattle.model.specs.Group.{Frame, onward, endOf}
 use Rattle.model.specs.GroupClaims.{Going}
 use Rattle.model.proofs.GroupSteps.{steps-are-runs}
 use Rattle.lanes.specs.declared.Plan.{Plan}
-use Rattle.lanes.specs.Lanes.{Fits, laneWeighed}
+use Rattle.lanes.specs.Lanes.{Fits, laneWeighed, laneState}
 use Rattle.lane_step.specs.Step.{runs, systemFor, Weighed, Summed, Small}
-use Rattle.group_step.specs.Frames.{endedIn, frameNow, Held, Marks}
+use Rattle.group_step.specs.Frames.{partState, endedIn, frameNow, Held, Marks}
 use Rattle.run.proofs.Remains.{any}
-use Rattle.group_run.specs.Course.{InLanes}
+use Rattle.group_run.specs.Course.{endFrom, InLanes}
 use Rattle.group_run.proofs.Running.{Lists, mark-of}
 
 module _ (p : Plan) (o : Settings) (ts counts : List ℕ) (F : ℕ) where
@@ -20,6 +25,8 @@ module _ (p : Plan) (o : Settings) (ts counts : List ℕ) (F : ℕ) where
   -- the lanes and the lists, which were w₀ and x₀ at first, when k iterations are done and list i has the sums for one more
   pub record Stepped (w₀ : List ℤ) (x₀ : Lists) (w : List ℤ) (x : Lists) (i k : ℕ) : Type 0 where
     pub two : i ≤ 1
+    pub few : k ≤ o .limit
+    pub first : k ≡ 0 → x .running ≡ x₀ .running
     pub lanes : InLanes p o ts counts i k (x .running) w
     pub marks : Marks F (x .running) (x .ks) (x .settled)
     pub held : Held p F (x .sums) (x .values) (x .rows)
@@ -29,7 +36,7 @@ module _ (p : Plan) (o : Settings) (ts counts : List ℕ) (F : ℕ) where
         → endOf (systemFor c p ts) o costs (frame (1 - i) k w x f) ≡ endOf (systemFor c p ts) o costs (frame 1 0 w₀ x₀ f)
 
   -- one step more, to w′ and y
-  module _ {w₀ w w′ : List ℤ} {x₀ x y : Lists} {i k : ℕ} (room : F ≤ p .lanes) (r : Stepped w₀ x₀ w x i k) (fits : Fits p w′) (marks : Marks F (y .running) (y .ks) (y .settled))
+  module _ {w₀ w w′ : List ℤ} {x₀ x y : Lists} {i k : ℕ} (room : F ≤ p .lanes) (to-come : k < o .limit) (r : Stepped w₀ x₀ w x i k) (fits : Fits p w′) (marks : Marks F (y .running) (y .ks) (y .settled))
       (held : Held p F (y .sums) (y .values) (y .rows))
       (next : (f : ℕ) → f < F → (c : Code) (costs : List ℤ) → (runs (x .running) f ≡ true → Weighed p (o .weight) costs w f)
       → frame i (suc k) w′ y f ≡ onward (systemFor c p ts) o costs (frame (1 - i) k w x f))
@@ -75,6 +82,8 @@ module _ (p : Plan) (o : Settings) (ts counts : List ℕ) (F : ℕ) where
         let back : 1 - (1 - i) ≡ i = omega (arith, r .two) in
         rw (add-one k) (record {
           two = omega arith;
+          few = omega arith;
+          first = λ e. absurd (omega arith);
           lanes = record { fits = fits; small = small; more = more; summed = λ f h. on f h .1; weighed = weighed };
           marks = marks;
           held = held;
@@ -83,8 +92,21 @@ module _ (p : Plan) (o : Settings) (ts counts : List ℕ) (F : ℕ) where
           rest = rw back rest;
         })
 
-  -- when no frame runs each has ended
-  pub stepped-end : {w₀ w : List ℤ} {x₀ x : Lists} {i k : ℕ} → Stepped w₀ x₀ w x i k → ((f : ℕ) → runs (x .running) f ≡ false) → (f : ℕ) → f < F → (c : Code) (costs : List ℤ)
-      → (runs (x₀ .running) f ≡ true → Weighed p (o .weight) costs w₀ f)
-      → endedIn p (x .ks) (x .settled) (x .sums) (x .values) (x .rows) f ≡ endOf (systemFor c p ts) o costs (frame 1 0 w₀ x₀ f)
-  stepped-end r none f h c costs own = rw (none f) at (r .rest f h c costs own)
+  -- the frames that still run are in their parts of the lists, which are y's then: no frame ends in another way
+  module _ {w₀ w : List ℤ} {x₀ x : Lists} {i k : ℕ} (r : Stepped w₀ x₀ w x i k) (some : eqb k 0 ≡ false) (S c s : List ℤ)
+      (taken : (f : ℕ) → f < F → partState p S c s f ≡ cond (runs (x .running) f) (laneState p (1 - i) w f) (partState p (x .sums) (x .values) (x .rows) f)) where
+    pub rows-done : (f : ℕ) → f < F → f < p .lanes → runs (x .running) f ≡ true → RowsWithin k (part (4 * p .triples) f s)
+    rows-done f h l e = subst (RowsWithin k) (sym (ap (λ (a : State). a .rows) (rw e at (taken f h)))) (r .lanes .small f l .rows)
+
+    out : (f : ℕ) → f < F → (code : Code) (costs : List ℤ)
+        → endFrom p o code ts costs k (runs (x .running) f) (endedIn p (x .ks) (x .settled) S c s f) ≡ endOf (systemFor code p ts) o costs (frame (1 - i) k w x f)
+    out f h code costs = by (runs (x .running) f) refl (taken f h)
+      where
+        by : (t : Bool) → runs (x .running) f ≡ t → partState p S c s f ≡ cond t (laneState p (1 - i) w f) (partState p (x .sums) (x .values) (x .rows) f)
+            → endFrom p o code ts costs k t (endedIn p (x .ks) (x .settled) S c s f) ≡ endOf (systemFor code p ts) o costs (frame (1 - i) k w x f)
+        by true e a = rw (e, some) (ap (runFrom quotient (systemFor code p ts) o costs (o .limit - k) k) a)
+        by false e a = rw e (ap (λ (a : State). record { k = getD (x .ks) f 0; settled = getD (x .settled) f 0; last = a }) a)
+
+    pub taken-out : (f : ℕ) → f < F → (code : Code) (costs : List ℤ) → (runs (x₀ .running) f ≡ true → Weighed p (o .weight) costs w₀ f)
+        → endFrom p o code ts costs k (runs (x .running) f) (endedIn p (x .ks) (x .settled) S c s f) ≡ endOf (systemFor code p ts) o costs (frame 1 0 w₀ x₀ f)
+    taken-out f h code costs own = out f h code costs ∙ r .rest f h code costs own

@@ -1,23 +1,40 @@
 -- How the frames of a group go on, and how they end. Definitions only.
-use mathlib.Core.Bool.{true, false, cond}
+use mathlib.Core.Bool.{Bool, true, false, not, cond}
 use mathlib.Core.List.{List}
 use mathlib.Core.Path.{_≡_}
-use Prim.Native.Nat.{ℕ, _<_}
+use Prim.Native.Nat.{ℕ, _-_, _*_, _<_}
+use lib.Dec.{eqb}
 use lib.IntN.{ℤ}
 use Rattle.lists.specs.Tabulated.{part}
+use Rattle.lists.specs.Entries.{total}
 use Rattle.quotient.specs.Quotient.{quotient}
 use Rattle.model.specs.declared.Settings.{Settings}
+use Rattle.model.specs.Causes.{_if_}
 use Rattle.model.specs.Code.{Code}
-use Rattle.model.specs.Run.{Ended, run}
+use Rattle.model.specs.Run.{Ended, runFrom, run}
+use Rattle.model.specs.Bounds.{RowsWithin}
 use Rattle.lanes.specs.declared.Plan.{Plan}
 use Rattle.lanes.specs.Lanes.{inLane, weighedAt, Fits}
 use Rattle.lane_step.specs.Step.{runs, systemFor, Weighed, Summed, Small}
 use Rattle.group_step.specs.Frames.{endedIn}
 
--- how frame f ends: where it runs by its run, of which nothing is done, otherwise as it has ended
-abbrev pub ends : Plan → Settings → Code → List ℕ → List ℤ → List ℕ → List ℕ → List ℕ → List ℤ → List ℤ → List ℤ → ℕ → Ended
-ends p o k ts costs running ks settled S c s f =
-    cond (runs running f) (run quotient (systemFor k p ts) o (part (p .bits) f costs)) (endedIn p ks settled S c s f)
+-- how many frames run, by their marks
+abbrev pub countRunning : List ℕ → ℕ
+countRunning running = total (λ x. 1 if not (eqb x 0)) running
+
+-- how a frame with these costs ends, which runs or has ended as e, d iterations being done: from the start where none is, otherwise from the state that e has
+abbrev pub endFrom : Plan → Settings → Code → List ℕ → List ℤ → ℕ → Bool → Ended → Ended
+endFrom p o k ts costs d r e =
+    let g = systemFor k p ts in
+    cond r (cond (eqb d 0) (run quotient g o costs) (runFrom quotient g o costs (o .limit - d) d (e .last))) e
+
+-- how frame f does, by its mark and its parts of the lists
+abbrev pub ends : Plan → Settings → Code → List ℕ → List ℤ → ℕ → List ℕ → List ℕ → List ℕ → List ℤ → List ℤ → List ℤ → ℕ → Ended
+ends p o k ts costs d running ks settled S c s f = endFrom p o k ts (part (p .bits) f costs) d (runs running f) (endedIn p ks settled S c s f)
+
+-- the rows of the frames that run are such as d iterations reach, where some are done
+abbrev pub RowsDone : Plan → ℕ → List ℕ → List ℤ → Type 0
+RowsDone p d running s = (f : ℕ) → runs running f ≡ true → eqb d 0 ≡ false → RowsWithin d (part (4 * p .triples) f s)
 
 -- lanes that were w and are w′: those of the first n frames, where these run, have their costs, and all else is as it was
 pub record Put (p : Plan) (W : ℕ) (costs : List ℤ) (running : List ℕ) (n : ℕ) (w w′ : List ℤ) : Type 0 where

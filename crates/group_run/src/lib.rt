@@ -1,29 +1,28 @@
-// The run of a group (document 02, L7): group steps until no frame runs. Up to three frames run by themselves: in lanes they might take longer.
+// The run of a group (document 02, L7): group steps, until at most three frames run. These go on by themselves: in lanes they might take longer.
 ghost use mathlib.Core.Path.{_≡_};
-ghost use mathlib.Core.Bool.{true, false, not, cond};
+ghost use mathlib.Core.Bool.{true, false, cond};
 ghost use mathlib.Core.List.{List};
-ghost use Prim.Native.Nat.{ℕ, suc, _*_, _≤_, _<_};
+ghost use Prim.Native.Nat.{ℕ, suc, _+_, _*_, _≤_, _<_};
 ghost use lib.Dec.{eqb};
-ghost use lib.IntN.{ℤ, natAbs};
+ghost use lib.IntN.{ℤ, pos, natAbs};
 ghost use lib.ListN.{length};
+ghost use lib.Signed.{_≤ℤ_};
 ghost use Rattle.lists.specs.Tabulated.{part};
-ghost use Rattle.lists.specs.Entries.{total};
-ghost use Rattle.quotient.specs.Quotient.{quotient};
+ghost use Rattle.quotient.specs.Quotient.{unit, quotient};
 ghost use Rattle.model.specs.Limits.{mostWeight, mostCost, mostRatio, mostIterations};
-ghost use Rattle.model.specs.Causes.{_if_};
 ghost use Rattle.model.specs.Code.{Code};
 ghost use Rattle.model.specs.Iteration.{at};
 ghost use Rattle.model.specs.Run as Run;
-ghost use Rattle.model.specs.Bounds.{Lent};
+ghost use Rattle.model.specs.Bounds.{RowsWithin, Lent};
 ghost use Rattle.model.specs.Group.{endOf};
 ghost use Rattle.values.specs.Divisors.{Tables};
-ghost use Rattle.lanes.specs.Lanes.{Fits};
+ghost use Rattle.lanes.specs.Lanes.{inLane, valuesAt, laneState, Fits};
 ghost use Rattle.lane_values.specs.Valued.{NarrowTables, Counted};
 ghost use Rattle.lane_triples.specs.Walk.{Tripled, Narrow};
 ghost use Rattle.lane_step.specs.Step.{runs, systemFor, Weighed};
-ghost use Rattle.group_step.specs.Frames.{endedIn, frameNow, Held, Marks};
+ghost use Rattle.group_step.specs.Frames.{partState, endedIn, frameNow, Held, Marks};
 ghost use Rattle.group_run.specs.Given.{Given};
-ghost use Rattle.group_run.specs.Course.{ends, Put, InLanes};
+ghost use Rattle.group_run.specs.Course.{countRunning, endFrom, ends, RowsDone, Put, InLanes};
 use lanes::Plan;
 use model::Settings;
 
@@ -32,7 +31,7 @@ use model::Settings;
 // How many frames run.
 fn count_running(running: &[u32]) -> usize
     requires { ⌜ length (now running) ≤ 8 ⌝ }
-    ensures { λ n. ⌜ n ≡ total (λ x. 1 if not (eqb x 0)) (now (running .entry)) ⌝ }
+    ensures { λ n. ⌜ n ≡ countRunning (now (running .entry)) ⌝ }
 {
     let mut n = 0;
     for f in 0..running.len() {
@@ -68,7 +67,34 @@ fn put_all_costs(
     }
 }
 
-// Group steps until no frame runs. It may be known that all is narrow.
+// The frames that run are taken out of their lanes, with the sums of list i.
+fn take_out_all(
+    work: &[i32],
+    p: Plan,
+    i: usize,
+    frames: usize,
+    running: &[u32],
+    sums: &mut [i64],
+    values: &mut [i16],
+    rows: &mut [i32],
+)
+    requires { ⌜ Fits p (now work) × (i ≤ 1) × (frames ≤ p .lanes) × (frames ≤ length (now running)) ⌝ }
+    requires { ⌜ Held p frames (now sums) (now values) (now rows) ⌝ }
+    requires { ⌜ ((l v : ℕ) → l < p .lanes → v < p .variables
+        → let x = inLane (p .lanes) (now work) l (valuesAt p + v) in (pos 0 ≤ℤ x) × (natAbs x ≤ 2 * unit)) ⌝ }
+    ensures { λ _. ⌜ Held p frames (now (sums .exit)) (now (values .exit)) (now (rows .exit)) ⌝ }
+    ensures { λ _. ⌜ ((f : ℕ) → f < frames → partState p (now (sums .exit)) (now (values .exit)) (now (rows .exit)) f
+        ≡ cond (runs (now (running .entry)) f) (laneState p i (now (work .entry)) f)
+        (partState p (now (sums .entry)) (now (values .entry)) (now (rows .entry)) f)) ⌝ }
+{
+    for f in 0..frames {
+        if running[f] != 0 {
+            group_step::take_out(work, p, i, f, sums, values, rows);
+        }
+    }
+}
+
+// Group steps until at most three frames run, which are then taken out. It answers how many. It may be known that all is narrow.
 fn step_on(
     settings: Settings,
     triples: &[u16],
@@ -88,7 +114,7 @@ fn step_on(
     sums: &mut [i64],
     values: &mut [i16],
     rows: &mut [i32],
-)
+) -> u32
     requires { ⌜ (settings .ratio ≤ mostRatio) × (settings .limit ≤ mostIterations) × Counted p (now counts) ⌝ }
     requires { ⌜ Tripled p (now triples) (now counts) × (known ≡ true → Narrow p (now triples) (now counts)) ⌝ }
     requires { ⌜ (length (now bounds) ≡ 9) × (length (now factors) ≡ 9) × (length (now raises) ≡ 9) ⌝ }
@@ -97,18 +123,23 @@ fn step_on(
     requires { ⌜ (frames ≤ p .lanes) × Marks frames (now running) (now ks) (now settled)
         × Held p frames (now sums) (now values) (now rows) ⌝ }
     requires { ⌜ InLanes p settings (now triples) (now counts) 0 0 (now running) (now work) ⌝ }
+    requires { ⌜ 3 < countRunning (now running) ⌝ }
+    ensures { λ k. ⌜ (1 ≤ k) × (k ≤ settings .limit) ⌝ }
     ensures { λ _. ⌜ Marks frames (now (running .exit)) (now (ks .exit)) (now (settled .exit))
         × Held p frames (now (sums .exit)) (now (values .exit)) (now (rows .exit)) ⌝ }
-    ensures { λ _. ⌜ ((f : ℕ) → f < frames → (c : Code) (costs : List ℤ)
+    ensures { λ k. ⌜ ((f : ℕ) → runs (now (running .exit)) f ≡ true
+        → (runs (now (running .entry)) f ≡ true) × RowsWithin k (part (4 * p .triples) f (now (rows .exit)))) ⌝ }
+    ensures { λ k. ⌜ ((f : ℕ) → f < frames → (c : Code) (costs : List ℤ)
         → (runs (now (running .entry)) f ≡ true → Weighed p (settings .weight) costs (now (work .entry)) f)
-        → endedIn p (now (ks .exit)) (now (settled .exit)) (now (sums .exit)) (now (values .exit)) (now (rows .exit)) f
+        → endFrom p settings c (now (triples .entry)) costs k (runs (now (running .exit)) f)
+        (endedIn p (now (ks .exit)) (now (settled .exit)) (now (sums .exit)) (now (values .exit)) (now (rows .exit)) f)
         ≡ endOf (systemFor c p (now (triples .entry))) settings costs
         (frameNow p 1 0 (now (work .entry)) (now (running .entry)) (now (ks .entry)) (now (settled .entry))
         (now (sums .entry)) (now (values .entry)) (now (rows .entry)) f)) ⌝ }
 {
     let mut i = 0;
     let mut k: u32 = 0;
-    while 0 < count_running(running) {
+    while 3 < count_running(running) {
         group_step::step(
             settings,
             triples,
@@ -134,9 +165,11 @@ fn step_on(
         i = 1 - i;
         k += 1;
     }
+    take_out_all(work, p, 1 - i, frames, running, sums, values, rows);
+    k
 }
 
-// The frames in lanes, from the start. The divisors are made ready, and whether all is narrow is found.
+// The frames in lanes, from the start, until at most three run. The divisors are made ready, and whether all is narrow is found.
 fn run_in_lanes(
     settings: Settings,
     triples: &[u16],
@@ -151,15 +184,19 @@ fn run_in_lanes(
     sums: &mut [i64],
     values: &mut [i16],
     rows: &mut [i32],
-)
+) -> u32
     requires { ⌜ Fits p (now work) × Given p frames settings (now triples) (now counts) (now costs) (now running) ⌝ }
     requires { ⌜ Marks frames (now running) (now ks) (now settled) × Held p frames (now sums) (now values) (now rows) ⌝ }
-    requires { ⌜ ((f : ℕ) × (runs (now running) f ≡ true)) ⌝ }
+    requires { ⌜ 3 < countRunning (now running) ⌝ }
+    ensures { λ k. ⌜ (1 ≤ k) × (k ≤ settings .limit) ⌝ }
     ensures { λ _. ⌜ Marks frames (now (running .exit)) (now (ks .exit)) (now (settled .exit))
         × Held p frames (now (sums .exit)) (now (values .exit)) (now (rows .exit)) ⌝ }
-    ensures { λ _. ⌜ ((f : ℕ) → f < frames → (c : Code)
-        → endedIn p (now (ks .exit)) (now (settled .exit)) (now (sums .exit)) (now (values .exit)) (now (rows .exit)) f
-        ≡ ends p settings c (now (triples .entry)) (now (costs .entry)) (now (running .entry)) (now (ks .entry)) (now (settled .entry))
+    ensures { λ k. ⌜ ((f : ℕ) → runs (now (running .exit)) f ≡ true
+        → (runs (now (running .entry)) f ≡ true) × RowsWithin k (part (4 * p .triples) f (now (rows .exit)))) ⌝ }
+    ensures { λ k. ⌜ ((f : ℕ) → f < frames → (c : Code)
+        → ends p settings c (now (triples .entry)) (now (costs .entry)) k (now (running .exit)) (now (ks .exit)) (now (settled .exit))
+        (now (sums .exit)) (now (values .exit)) (now (rows .exit)) f
+        ≡ ends p settings c (now (triples .entry)) (now (costs .entry)) 0 (now (running .entry)) (now (ks .entry)) (now (settled .entry))
         (now (sums .entry)) (now (values .entry)) (now (rows .entry)) f) ⌝ }
 {
     lane_lists::begin(p, work);
@@ -192,12 +229,12 @@ fn run_in_lanes(
         sums,
         values,
         rows,
-    );
+    )
 }
 
 // ---- by themselves
 
-// Frame f by itself.
+// Frame f by itself, `done` iterations being done.
 fn run_frame(
     settings: Settings,
     triples: &[u16],
@@ -205,6 +242,7 @@ fn run_frame(
     costs: &[i16],
     p: Plan,
     f: usize,
+    done: u32,
     running: &mut [u32],
     ks: &mut [u32],
     settled: &mut [u32],
@@ -217,10 +255,12 @@ fn run_frame(
     requires { ⌜ (f < length (now running)) × (f < length (now ks)) × (f < length (now settled)) ⌝ }
     requires { ⌜ Lent settings (now triples) (now counts) (part (p .bits) f (now costs)) (p .triples)
         (part (p .variables) f (now sums)) (part (p .variables) f (now values)) (part (4 * p .triples) f (now rows)) ⌝ }
-    requires { ⌜ (1 ≤ settings .limit) × (settings .limit ≤ mostIterations) ⌝ }
+    requires { ⌜ (eqb done 0 ≡ false → RowsWithin done (part (4 * p .triples) f (now rows))) ⌝ }
+    requires { ⌜ (1 ≤ settings .limit) × (done ≤ settings .limit) × (settings .limit ≤ mostIterations) ⌝ }
     ensures { λ _. ⌜ ((g : ℕ) (c : Code)
         → endedIn p (now (ks .exit)) (now (settled .exit)) (now (sums .exit)) (now (values .exit)) (now (rows .exit)) g
-        ≡ cond (eqb g f) (Run.run quotient (systemFor c p (now (triples .entry))) settings (part (p .bits) f (now (costs .entry))))
+        ≡ cond (eqb g f) (endFrom p settings c (now (triples .entry)) (part (p .bits) f (now (costs .entry))) done true
+        (endedIn p (now (ks .entry)) (now (settled .entry)) (now (sums .entry)) (now (values .entry)) (now (rows .entry)) f))
         (endedIn p (now (ks .entry)) (now (settled .entry)) (now (sums .entry)) (now (values .entry)) (now (rows .entry)) g)) ⌝ }
     ensures { λ _. ⌜ ((g : ℕ) → runs (now (running .exit)) g ≡ cond (eqb g f) false (runs (now (running .entry)) g)) ⌝ }
 {
@@ -230,12 +270,13 @@ fn run_frame(
     let v_end = v + p.variables;
     let r = f * (4 * p.triples);
     let r_end = r + 4 * p.triples;
-    let ending = run::run(
+    let ending = run::go_on(
         settings,
         triples,
         counts,
         &costs[b..b_end],
         p.triples,
+        done,
         &mut sums[v..v_end],
         &mut values[v..v_end],
         &mut rows[r..r_end],
@@ -245,7 +286,7 @@ fn run_frame(
     settled[f] = ending.settled;
 }
 
-// Each frame that runs, by itself.
+// Each frame that runs, by itself, `done` iterations being done.
 fn run_frames(
     settings: Settings,
     triples: &[u16],
@@ -253,6 +294,7 @@ fn run_frames(
     costs: &[i16],
     p: Plan,
     frames: usize,
+    done: u32,
     running: &mut [u32],
     ks: &mut [u32],
     settled: &mut [u32],
@@ -262,11 +304,12 @@ fn run_frames(
 )
     requires { ⌜ Given p frames settings (now triples) (now counts) (now costs) (now running) ⌝ }
     requires { ⌜ Marks frames (now running) (now ks) (now settled) × Held p frames (now sums) (now values) (now rows) ⌝ }
+    requires { ⌜ (done ≤ settings .limit) × RowsDone p done (now running) (now rows) ⌝ }
     ensures { λ _. ⌜ Marks frames (now (running .exit)) (now (ks .exit)) (now (settled .exit))
         × Held p frames (now (sums .exit)) (now (values .exit)) (now (rows .exit)) ⌝ }
     ensures { λ _. ⌜ ((f : ℕ) → f < frames → (c : Code)
         → endedIn p (now (ks .exit)) (now (settled .exit)) (now (sums .exit)) (now (values .exit)) (now (rows .exit)) f
-        ≡ ends p settings c (now (triples .entry)) (now (costs .entry)) (now (running .entry)) (now (ks .entry)) (now (settled .entry))
+        ≡ ends p settings c (now (triples .entry)) (now (costs .entry)) done (now (running .entry)) (now (ks .entry)) (now (settled .entry))
         (now (sums .entry)) (now (values .entry)) (now (rows .entry)) f) ⌝ }
 {
     for f in 0..frames {
@@ -278,6 +321,7 @@ fn run_frames(
                 costs,
                 p,
                 f,
+                done,
                 running,
                 ks,
                 settled,
@@ -318,7 +362,7 @@ pub fn run(
         (endedIn p (now (ks .entry)) (now (settled .entry)) (now (sums .entry)) (now (values .entry)) (now (rows .entry)) f)) ⌝ }
 {
     if 3 < count_running(running) {
-        run_in_lanes(
+        let done = run_in_lanes(
             settings,
             triples,
             counts,
@@ -326,6 +370,21 @@ pub fn run(
             p,
             frames,
             work,
+            running,
+            ks,
+            settled,
+            sums,
+            values,
+            rows,
+        );
+        run_frames(
+            settings,
+            triples,
+            counts,
+            costs,
+            p,
+            frames,
+            done,
             running,
             ks,
             settled,
@@ -341,6 +400,7 @@ pub fn run(
             costs,
             p,
             frames,
+            0,
             running,
             ks,
             settled,

@@ -1,12 +1,13 @@
 -- `group_run::count_running` meets its contract. Assumes nothing.
 use mathlib.Core.Logic.{⊎-elim}
 use Rattle.integers.proofs.Prelude.{_≡_, refl, ap, _∙_, _-_, _≤_, arith, needs, length, take, take-all}
-use Rattle.group_run.proofs.Running.{marked, unmarked, counted, counted-next}
+use Rattle.group_run.proofs.Running.{marked, unmarked, counted-next}
+use Rattle.group_run.specs.Course.{countRunning}
 use Rattle.group_run.proofs.count_running.Statement.{statement}
 use Rattle.group_run.proofs.count_running.Tie as tie
 
 abbrev Inv-loop : tie.InvT-loop
-Inv-loop running n₀ f₀ f-end n f = (f ≤ length running) × (n ≤ f) × (n ≡ counted (take f running))
+Inv-loop running n₀ f₀ f-end n f = (f ≤ length running) × (n ≤ f) × (n ≡ countRunning (take f running))
 
 abbrev μ-loop : tie.MeasureT-loop
 μ-loop running n₀ f₀ f-end n f = length running - f
@@ -25,7 +26,7 @@ loop-again c =
 returns : tie.Need-returns Inv-loop μ-loop
 returns c =
     let l = c .before in
-    l .loop .inv .2 ∙ ap counted (take-all (l .loop .f) (l .before .args .running .now) (c .loop-test .left))
+    l .loop .inv .2 ∙ ap countRunning (take-all (l .loop .f) (l .before .args .running .now) (c .loop-test .left))
 
 pub count-running-spec : {M : Type 1} → statement M
 count-running-spec =

@@ -42,39 +42,38 @@ at-r c = at-v (c .before)
 abbrev at-costs : tie.After-struct-known6 → tie.Start
 at-costs c = at-r (c .before)
 
-abbrev at-sums : tie.After-run-arg → tie.Start
+abbrev at-sums : tie.After-go-on-arg → tie.Start
 at-sums c = at-costs (c .before)
 
-abbrev at-values : tie.After-run-arg2 → tie.Start
+abbrev at-values : tie.After-go-on-arg2 → tie.Start
 at-values c = at-sums (c .before)
 
-abbrev at-rows : tie.After-run-arg3 → tie.Start
+abbrev at-rows : tie.After-go-on-arg3 → tie.Start
 at-rows c = at-values (c .before)
 
-abbrev at-run : tie.After-run-arg4 → tie.Start
+abbrev at-run : tie.After-go-on-arg4 → tie.Start
 at-run c = at-rows (c .before)
 
 abbrev start : tie.After-rows → tie.Start
 start c = at-run (c .before .before .before .before)
 
-run-requires : tie.Need-run-requires
-run-requires c κs = let s = at-run c in rw (size-is s (p s .bits), size-is s (p s .variables), size-is s (4 * p s .triples)) (s .pre .1 .1)
+go-on-requires : tie.Need-go-on-requires
+go-on-requires c κs = let s = at-run c in rw (size-is s (p s .bits), size-is s (p s .variables), size-is s (4 * p s .triples)) (s .pre .1 .1)
 
 returns : tie.Need-returns
 returns c =
-    let r = c .before .before .before .run in
+    let r = c .before .before .before .go-on in
     let s = start c in
     let a = s .args in
     let n = p s .variables in
     let m = 4 * p s .triples in
     let long = s .pre .0 in
-    let room = s .pre .1 .0 in
-    let system : Code → ℕ → System = λ k v. record { code = k; variables = v; triples = p s .triples; members = a .triples .now } in (
+    let room = s .pre .1 .0 in (
       λ g k. ended-alone (p s) (f s) (a .ks .now) (a .settled .now) (a .sums .now) (a .values .now) (a .rows .now) (room .1) (room .2) (long .1) (long .2) (long .3)
-          _ _ _ _ (r .last .1 .1 .1 .1 .1 .0) (r .last .1 .1 .1 .1 .1 .1 .0) (r .last .1 .1 .1 .1 .1 .1 .1 .0) (size-is s n) (size-is s m)
-          (r .kept .1 .1 .1 .1 .1 .0 ∙ lent-long s n (a .sums .now) (long .1)) (r .kept .1 .1 .1 .1 .1 .1 .0 ∙ lent-long s n (a .values .now) (long .2))
-          (r .kept .1 .1 .1 .1 .1 .1 .1 .0 ∙ lent-long s m (a .rows .now) (long .3)) _
-          (r .ensures k ∙ ap₂ (λ (v : ℕ) (l : List ℤ). run quotient (system k v) (a .settings) l) (lent-long s n (a .values .now) (long .2)) (lent-is s (p s .bits) (a .costs .now))) g,
+          _ _ _ _ (r .last .1 .1 .1 .1 .1 .1 .0) (r .last .1 .1 .1 .1 .1 .1 .1 .0) (r .last .1 .1 .1 .1 .1 .1 .1 .1 .0) (size-is s n) (size-is s m)
+          (r .kept .1 .1 .1 .1 .1 .1 .0 ∙ lent-long s n (a .sums .now) (long .1)) (r .kept .1 .1 .1 .1 .1 .1 .1 .0 ∙ lent-long s n (a .values .now) (long .2))
+          (r .kept .1 .1 .1 .1 .1 .1 .1 .1 .0 ∙ lent-long s m (a .rows .now) (long .3)) _
+          (rw (length-part n (f s) (a .values .now) (long .2)) at (rw (size-is s (p s .bits), size-is s n, size-is s m) at (r .ensures k))) g,
       λ g. stops (a .running .now) (f s) (room .0) g,
     )
 
@@ -84,34 +83,35 @@ run-frame-spec =
     (tie.spec
     (λ c. search needs)
     (λ c. search needs)
+    (λ c. (let s = c .before .before .before .before .before .before .before .before in
+    record { fits = omega (arith, s .pre .0 .1, s .good .1 .1 .1 .1 .1 .1 .1 .1 .1 .1 .0) }))
+    (λ c. (let s = at-v c in record { fits = omega (arith, s .pre .0 .1, s .good .1 .1 .1 .1 .1 .1 .1 .1 .1 .1 .0) }))
     (λ c. search needs)
-    (λ c. (let s = at-v c in record { fits = omega (arith, s .pre .0 .1, s .good .1 .1 .1 .1 .1 .1 .1 .1 .1 .0) }))
+    (λ c. (let s = at-r c in record { fits = omega (arith, s .pre .0 .3, s .good .1 .1 .1 .1 .1 .1 .1 .1 .1 .1 .1 .1 .0) }))
     (λ c. search needs)
-    (λ c. (let s = at-r c in record { fits = omega (arith, s .pre .0 .3, s .good .1 .1 .1 .1 .1 .1 .1 .1 .1 .1 .1 .0) }))
-    (λ c. search needs)
-    (λ c. (let s = at-costs c in record { fits = omega (arith, s .pre .0 .3, s .good .1 .1 .1 .1 .1 .1 .1 .1 .1 .1 .1 .0) }))
-    (λ c. search needs)
-    (λ c. search needs)
-    (λ c. search needs)
-    (λ c. search needs)
-    (λ c. (let s = at-sums c in record { fits = omega (arith, s .pre .0 .1, s .good .1 .1 .1 .1 .1 .1 .1 .1 .1 .0) }))
+    (λ c. (let s = at-costs c in record { fits = omega (arith, s .pre .0 .3, s .good .1 .1 .1 .1 .1 .1 .1 .1 .1 .1 .1 .1 .0) }))
     (λ c. search needs)
     (λ c. search needs)
     (λ c. search needs)
-    (λ c. (let s = at-values c in record { fits = omega (arith, s .pre .0 .2, s .good .1 .1 .1 .1 .1 .1 .1 .1 .1 .1 .0) }))
+    (λ c. search needs)
+    (λ c. (let s = at-sums c in record { fits = omega (arith, s .pre .0 .1, s .good .1 .1 .1 .1 .1 .1 .1 .1 .1 .1 .0) }))
     (λ c. search needs)
     (λ c. search needs)
     (λ c. search needs)
-    (λ c. (let s = at-rows c in record { fits = omega (arith, s .pre .0 .3, s .good .1 .1 .1 .1 .1 .1 .1 .1 .1 .1 .1 .0) }))
+    (λ c. (let s = at-values c in record { fits = omega (arith, s .pre .0 .2, s .good .1 .1 .1 .1 .1 .1 .1 .1 .1 .1 .1 .0) }))
     (λ c. search needs)
     (λ c. search needs)
     (λ c. search needs)
-    run-requires
-    (λ c. (let s = start c in record { fits = omega (arith, s .pre .1 .0 .0, s .good .1 .1 .1 .1 .1 .1 .0) }))
+    (λ c. (let s = at-rows c in record { fits = omega (arith, s .pre .0 .3, s .good .1 .1 .1 .1 .1 .1 .1 .1 .1 .1 .1 .1 .0) }))
+    (λ c. search needs)
+    (λ c. search needs)
+    (λ c. search needs)
+    go-on-requires
+    (λ c. (let s = start c in record { fits = omega (arith, s .pre .1 .0 .0, s .good .1 .1 .1 .1 .1 .1 .1 .0) }))
     (λ c. start c .pre .1 .0 .0)
-    (λ c. (let s = start c in record { fits = omega (arith, s .pre .1 .0 .1, s .good .1 .1 .1 .1 .1 .1 .1 .0) }))
+    (λ c. (let s = start c in record { fits = omega (arith, s .pre .1 .0 .1, s .good .1 .1 .1 .1 .1 .1 .1 .1 .0) }))
     (λ c. start c .pre .1 .0 .1)
-    (λ c. (let s = start c in record { fits = omega (arith, s .pre .1 .0 .2, s .good .1 .1 .1 .1 .1 .1 .1 .1 .0) }))
+    (λ c. (let s = start c in record { fits = omega (arith, s .pre .1 .0 .2, s .good .1 .1 .1 .1 .1 .1 .1 .1 .1 .0) }))
     (λ c. start c .pre .1 .0 .2)
     (λ c. search needs)
     (λ c. search needs)

@@ -1,10 +1,10 @@
--- `group_run::run_in_lanes` meets its contract: the lanes begin at the start of each run, and the steps end it. Assumes nothing.
+-- `group_run::run_in_lanes` meets its contract: the lanes begin at the start of each run, and the steps go on with it. Assumes nothing.
 use Rattle.integers.proofs.Prelude.{_≡_, refl, _∙_, true, List, ℕ, _<_, arith, needs, ℤ}
 use Rattle.model.specs.Bounds.{Ready}
 use Rattle.lists.specs.Tabulated.{part}
 use Rattle.lane_step.specs.Step.{runs}
 use Rattle.group_run.specs.Course.{InLanes}
-use Rattle.group_run.proofs.Running.{mark-of}
+use Rattle.group_run.proofs.Running.{mark-of, some-runs}
 use Rattle.group_run.proofs.Givens.{counted, tripled, narrow}
 use Rattle.group_run.proofs.Begun.{in-lanes, from-start}
 use Rattle.group_run.proofs.run_in_lanes.Statement.{statement}
@@ -16,11 +16,11 @@ module _ (s : tie.Start) where
   below f r = s .pre .1 .0 .0 .below f (mark-of (s .args .running .now) f r)
 
   -- a frame that runs
-  abbrev one : ℕ
-  one = s .pre .1 .1 .0
+  one : (f : ℕ) × (runs (s .args .running .now) f ≡ true)
+  one = some-runs (s .args .running .now) (omega (arith, s .pre .1 .1))
 
-  ready : Ready (s .args .p .variables) (s .args .triples .now) (s .args .p .triples) (s .args .settings) (part (s .args .p .bits) one (s .args .costs .now))
-  ready = s .pre .0 .1 .ready one (below one (s .pre .1 .1 .1)) (s .pre .1 .1 .1)
+  ready : Ready (s .args .p .variables) (s .args .triples .now) (s .args .p .triples) (s .args .settings) (part (s .args .p .bits) (one .0) (s .args .costs .now))
+  ready = s .pre .0 .1 .ready (one .0) (below (one .0) (one .1)) (one .1)
 
 abbrev start : tie.After-begin → tie.Start
 start c = c .before .before .before .before .before .before .before
@@ -68,12 +68,12 @@ step-on-requires c κs =
     let m = put t in
     let s = start (begun m) in
     let g = s .pre .0 .1 in (
-      (ready s .ratio, g .limit .1, counted g (one s) (below s (one s) (s .pre .1 .1 .1)) (s .pre .1 .1 .1)),
+      (ready s .ratio, g .limit .1, counted g (one s .0) (below s (one s .0) (one s .1)) (one s .1)),
       (
         (tripled g, narrow g _ _ (n .before .without-blank .ensures) (n .all-narrow .ensures)),
         (
           (t .prepare .kept .1 .0, t .prepare .kept .1 .1 .0, t .prepare .kept .1 .1 .1 .0),
-          ((t .prepare .ensures, q .prepare2 .ensures), ((g .lanes, s .pre .1 .0 .0, s .pre .1 .0 .1), lanes m)),
+          ((t .prepare .ensures, q .prepare2 .ensures), ((g .lanes, s .pre .1 .0 .0, s .pre .1 .0 .1), (lanes m, s .pre .1 .1))),
         ),
       ),
     )
@@ -101,8 +101,14 @@ returns c =
     let x = e .step-on .ensures in
     let y = b .begin .ensures in (
       x .0,
-      λ f h k. x .1 f h k (part (a .p .bits) f (a .costs .now)) (m .put-all-costs .ensures .weighed f h)
-          ∙ from-start (s .pre .0 .1) (below s) (y .1 .0) (y .1 .1 .0) (y .1 .1 .1) (m .put-all-costs .ensures) k (a .ks .now) (a .settled .now) (a .sums .now) (a .values .now) (a .rows .now) f,
+      (
+        x .1 .0,
+        (
+          x .1 .1 .0,
+          λ f h k. x .1 .1 .1 f h k (part (a .p .bits) f (a .costs .now)) (m .put-all-costs .ensures .weighed f h)
+              ∙ from-start (s .pre .0 .1) (below s) (y .1 .0) (y .1 .1 .0) (y .1 .1 .1) (m .put-all-costs .ensures) k (a .ks .now) (a .settled .now) (a .sums .now) (a .values .now) (a .rows .now) f,
+        ),
+      ),
     )
 
 pub run-in-lanes-spec : {M : Type 1} → statement M

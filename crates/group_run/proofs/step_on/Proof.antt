@@ -1,8 +1,10 @@
--- `group_run::step_on` meets its contract: what has been done and what remains is the whole, and at the end nothing remains. Assumes nothing.
-use Rattle.integers.proofs.Prelude.{_≡_, refl, sym, _∙_, true, ℕ, _-_, _<_, arith}
+-- `group_run::step_on` meets its contract: what has been done and what remains is the whole. Assumes nothing.
+use Rattle.integers.proofs.Prelude.{_≡_, refl, sym, ap, _∙_, true, false, ℕ, _-_, _<_, arith, eqb, ne-eqb}
+use Rattle.lanes.proofs.Places.{lanes-few}
 use Rattle.lane_step.specs.Step.{runs}
-use Rattle.group_run.proofs.Running.{some-runs, none-runs}
-use Rattle.group_run.proofs.Steps.{Stepped, stepped-next, stepped-end}
+use Rattle.group_run.specs.Course.{countRunning}
+use Rattle.group_run.proofs.Running.{some-runs, mark-of}
+use Rattle.group_run.proofs.Steps.{Stepped, stepped-next, rows-done, taken-out}
 use Rattle.group_run.proofs.step_on.Statement.{statement}
 use Rattle.group_run.proofs.step_on.Tie as tie
 
@@ -20,7 +22,7 @@ loop-holds : tie.Need-loop-holds Inv-loop μ-loop
 loop-holds c =
     let s = c .before .before .before .before .before .before .before in
     let a = s .pre .1 .1 .1 .1 in
-    record { two = omega arith; lanes = a .1; marks = a .0 .1; held = a .0 .2; ran = λ f h. h; kept = λ l v h. refl; rest = λ f h c costs w. refl }
+    record { two = omega arith; few = omega arith; first = λ e. refl; lanes = a .1 .0; marks = a .0 .1; held = a .0 .2; ran = λ f h. h; kept = λ l v h. refl; rest = λ f h c costs w. refl }
 
 -- ---- in the loop
 abbrev start : tie.At-loop Inv-loop μ-loop → tie.Start Inv-loop μ-loop
@@ -32,7 +34,7 @@ module _ (t : tie.Then1 Inv-loop μ-loop) where
   turn = t .before .before .before
 
   one : (f : ℕ) × (runs (turn .loop .running) f ≡ true)
-  one = some-runs (turn .loop .running) (rw (t .before .count-running .ensures) at (t .if1 .taken))
+  one = some-runs (turn .loop .running) (omega (arith, t .before .count-running .ensures, t .if1 .taken))
 
   more : turn .loop .k < start turn .args .settings .limit
   more = turn .loop .inv .lanes .more (one .0) (one .1)
@@ -69,25 +71,55 @@ loop-again c =
     let l = turn (taken d) in
     let s = start l in
     let e = d .step .ensures in
-    stepped-next (s .args .p) (s .args .settings) (s .args .triples .now) (s .args .counts .now) (s .args .frames) (s .pre .1 .1 .1 .1 .0 .0) (l .loop .inv)
+    stepped-next (s .args .p) (s .args .settings) (s .args .triples .now) (s .args .counts .now) (s .args .frames) (s .pre .1 .1 .1 .1 .0 .0) (more (taken d)) (l .loop .inv)
     (e .0 .0) (e .0 .1) (e .0 .2) (e .1 .0) (e .1 .1 .0) (e .1 .1 .1 .0) (e .1 .1 .1 .1)
 
 -- ---- behind it
-module _ (c : tie.Else1 Inv-loop μ-loop) where
+module _ (e : tie.Else1 Inv-loop μ-loop) where
   abbrev last : tie.At-loop Inv-loop μ-loop
-  last = c .before .before .before
+  last = e .before .before .before
 
   abbrev first : tie.Start Inv-loop μ-loop
   first = start last
 
+  -- at first more than three ran, so there was a step
+  some : last .loop .k ≡ 0 → ⊥
+  some z = omega (arith, first .pre .1 .1 .1 .1 .1 .1, ap countRunning (last .loop .inv .first z), e .before .count-running .ensures, e .if1 .left)
+
+take-out-all-requires : tie.Need-take-out-all-requires Inv-loop μ-loop
+take-out-all-requires c κs =
+    let e = c .before .before .before .before .before in
+    let x = last e .loop .inv in
+    let room = first e .pre .1 .1 .1 .1 .0 .0 in (
+      (x .lanes .fits, omega arith, room, omega (arith, room, lanes-few (x .lanes .fits), x .marks .running-long)),
+      (x .held, λ l v h. x .lanes .small l h .values v),
+    )
+
+-- ---- when the frames that still run are out
+abbrev out : tie.After-rows2 Inv-loop μ-loop → tie.After-take-out-all Inv-loop μ-loop
+out c = c .before .before .before
+
+abbrev left : tie.After-rows2 Inv-loop μ-loop → tie.Else1 Inv-loop μ-loop
+left c = out c .before .before .before .before .before .before
+
 returns : tie.Need-returns Inv-loop μ-loop
 returns c =
-    let l = last c in
-    let s = first c in
-    let x = l .loop .inv in (
-      (x .marks, x .held),
-      stepped-end (s .args .p) (s .args .settings) (s .args .triples .now) (s .args .counts .now) (s .args .frames) x
-          (none-runs (l .loop .running) (rw (c .before .count-running .ensures) at (c .if1 .left))),
+    let e = left c in
+    let l = last e in
+    let a = first e .args in
+    let x = l .loop .inv in
+    let room = first e .pre .1 .1 .1 .1 .0 .0 in
+    let t = out c .take-out-all .ensures in
+    let k = ne-eqb (l .loop .k) 0 (some e) in (
+      (omega (arith, some e), x .few),
+      (
+        (x .marks, t .0),
+        (
+          λ f h. (let less = x .marks .below f (mark-of (l .loop .running) f h) in
+              (x .ran f h, rows-done (a .p) (a .settings) (a .triples .now) (a .counts .now) (a .frames) x k _ _ _ (t .1) f less (omega arith) h)),
+          λ f h code costs own. taken-out (a .p) (a .settings) (a .triples .now) (a .counts .now) (a .frames) x k _ _ _ (t .1) f h code costs own,
+        ),
+      ),
     )
 
 pub step-on-spec : {M : Type 1} → statement M
@@ -95,10 +127,11 @@ step-on-spec =
     tie.close (tie.spec Inv-loop μ-loop loop-holds (λ c κs. omega (arith, c .before .loop .inv .marks .running-long)) step-requires
     (λ c. omega (arith, turn (taken (stepped c)) .loop .inv .two))
     (λ c. (let t = taken (stepped c) in omega (arith, more t, start (turn t) .pre .0 .1))) (λ c. omega (arith, more (taken (stepped c)))) loop-again
-    (λ c. last c .loop .inv .lanes .fits .long ∙ sym (first c .pre .1 .1 .1 .1 .1 .fits .long))
-    (λ c. last c .loop .inv .marks .running-long ∙ sym (first c .pre .1 .1 .1 .1 .0 .1 .running-long))
-    (λ c. last c .loop .inv .marks .ks-long ∙ sym (first c .pre .1 .1 .1 .1 .0 .1 .ks-long))
-    (λ c. last c .loop .inv .marks .settled-long ∙ sym (first c .pre .1 .1 .1 .1 .0 .1 .settled-long))
-    (λ c. last c .loop .inv .held .sums-long ∙ sym (first c .pre .1 .1 .1 .1 .0 .2 .sums-long))
-    (λ c. last c .loop .inv .held .values-long ∙ sym (first c .pre .1 .1 .1 .1 .0 .2 .values-long))
-    (λ c. last c .loop .inv .held .rows-long ∙ sym (first c .pre .1 .1 .1 .1 .0 .2 .rows-long)) returns)
+    (λ c. omega (arith, last (c .before) .loop .inv .two)) take-out-all-requires
+    (λ c. last (left c) .loop .inv .lanes .fits .long ∙ sym (first (left c) .pre .1 .1 .1 .1 .1 .0 .fits .long))
+    (λ c. last (left c) .loop .inv .marks .running-long ∙ sym (first (left c) .pre .1 .1 .1 .1 .0 .1 .running-long))
+    (λ c. last (left c) .loop .inv .marks .ks-long ∙ sym (first (left c) .pre .1 .1 .1 .1 .0 .1 .ks-long))
+    (λ c. last (left c) .loop .inv .marks .settled-long ∙ sym (first (left c) .pre .1 .1 .1 .1 .0 .1 .settled-long))
+    (λ c. out c .take-out-all .ensures .0 .sums-long ∙ sym (first (left c) .pre .1 .1 .1 .1 .0 .2 .sums-long))
+    (λ c. out c .take-out-all .ensures .0 .values-long ∙ sym (first (left c) .pre .1 .1 .1 .1 .0 .2 .values-long))
+    (λ c. out c .take-out-all .ensures .0 .rows-long ∙ sym (first (left c) .pre .1 .1 .1 .1 .0 .2 .rows-long)) returns)
