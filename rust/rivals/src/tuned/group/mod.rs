@@ -12,9 +12,9 @@ mod quotient;
 mod totals;
 mod work;
 
-use super::{run_tuned, safe_iterations, EXACT};
+use super::{run_tuned, run_tuned_on, safe_iterations, EXACT};
 use crate::plain::group::{run_each, Frame};
-use crate::plain::run::{run_on, Task};
+use crate::plain::run::{run_on, State, Task};
 use layout::Layout;
 use quotient::{divisor, is_exact};
 use totals::MOST_TOLERANCE;
@@ -22,6 +22,13 @@ use work::{Work, LANES};
 
 /// So many frames are as fast one after the other.
 const FEW: usize = 2;
+
+/// A frame that is alone for so many iterations leaves its lane: it runs faster by itself, but
+/// takes some iterations' time to be taken over.
+const LONG: u32 = 8;
+
+/// Goes on with a run whose rows stand after so many iterations.
+type RunOn = fn(&Task, &mut State, u32) -> (u32, bool);
 
 /// Runs frames of one code with the same settings.
 pub fn run_frames(frames: &mut [Frame], list: &mut [i32]) {
@@ -87,17 +94,26 @@ impl<'a> Group<'a> {
         for lane in 0..LANES {
             self.fill(lane, frames);
         }
-        let mut safe = self.safe_iterations(65536);
-        while self.lanes.iter().any(Option::is_some) {
+        let (mut safe, mut alone) = (self.safe_iterations(65536), 0);
+        while self.running() > 0 {
             if safe == 0 {
                 safe = self.safe_iterations(self.work.largest());
             }
             if safe == 0 {
-                return self.finish(frames);
+                return self.finish(frames, run_on);
+            }
+            if alone == LONG {
+                return self.finish(frames, run_tuned_on);
             }
             self.iterate(frames);
             safe -= 1;
+            alone += u32::from(self.running() == 1);
         }
+    }
+
+    /// How many lanes have a frame.
+    fn running(&self) -> usize {
+        self.lanes.iter().flatten().count()
     }
 
     /// Iterations for which all sums stay exact, their costs added, if this is the largest s.
@@ -138,8 +154,8 @@ impl<'a> Group<'a> {
         }
     }
 
-    /// Leaves the frames in lanes to the plain rival, and those that wait to the single one.
-    fn finish(self, frames: &mut [Frame]) {
+    /// Lets the frames in lanes go on one after the other, and runs those that wait.
+    fn finish(self, frames: &mut [Frame], run_on: RunOn) {
         for (lane, runner) in self.lanes.into_iter().enumerate() {
             if let Some(Runner { frame, k }) = runner {
                 let Frame { task, state, end } = &mut frames[frame];
