@@ -15,6 +15,33 @@ pub struct Input<'a> {
     pub costs: &'a [i16],
 }
 
+/// Makes a type the decoder of groups that runs frames in this way.
+macro_rules! grouping {
+    ($rival:ident, $run:expr) => {
+        impl interface::Grouping for $rival {
+            fn decode_group(
+                &self,
+                code: &[u8],
+                settings: interface::Settings,
+                frames: usize,
+                costs: &[i16],
+                lists: interface::Lists,
+                work: &mut [i32],
+            ) -> interface::GroupAnswer {
+                let input = $crate::plain::group::Input {
+                    code,
+                    settings,
+                    frames,
+                    costs,
+                };
+                $crate::plain::group::decode(input, lists, work, $run)
+            }
+        }
+    };
+}
+
+pub(crate) use grouping;
+
 /// A frame to run, and what came of it.
 pub struct Frame<'a> {
     /// Which of the given frames it is.

@@ -15,10 +15,10 @@ mod layout;
 mod lists;
 mod work;
 
-use crate::plain::group::{decode as decode_group, Input};
+use crate::plain::group::grouping;
 use crate::plain::run::{decode, run, run_on, State, Task};
 use group::run_frames;
-use interface::{DecodeAnswer, Decoder, GroupAnswer, Grouping, Lists, Settings};
+use interface::{DecodeAnswer, Decoder, Lists, Settings};
 use layout::{Layout, MOST_COUNT};
 use work::Work;
 
@@ -31,25 +31,7 @@ impl Decoder for Tuned {
     }
 }
 
-impl Grouping for Tuned {
-    fn decode_group(
-        &self,
-        code: &[u8],
-        settings: Settings,
-        frames: usize,
-        costs: &[i16],
-        lists: Lists,
-        work: &mut [i32],
-    ) -> GroupAnswer {
-        let input = Input {
-            code,
-            settings,
-            frames,
-            costs,
-        };
-        decode_group(input, lists, work, run_frames)
-    }
-}
+grouping! { Tuned, run_frames }
 
 /// With a ratio above this a quotient might not fit 32 bits.
 const MOST_RATIO: u32 = 512;
