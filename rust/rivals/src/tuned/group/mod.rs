@@ -26,7 +26,7 @@ const FEW: usize = 2;
 
 /// A frame that is alone for so many iterations leaves its lane: it runs faster by itself, but
 /// takes some iterations' time to be taken over.
-const LONG: u32 = 8;
+const LONG: u32 = 2;
 
 /// Goes on with a run whose rows stand after so many iterations.
 type RunOn = fn(&Task, &mut State, u32) -> (u32, bool);
