@@ -1,5 +1,5 @@
-//! Rivals to measure against. Two decoders: a plain one, as a good engineer would
-//! first write it, and one tuned for x86-64. One for import and export, with as much
+//! Rivals to measure against. Two decoders, of single frames and of groups: a plain one, as a
+//! good engineer would first write it, and one tuned for x86-64. One for import and export, with as much
 //! memory as it likes. An encoder. The reflector and the sum of two words.
 
 mod packed;

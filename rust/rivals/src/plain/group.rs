@@ -2,10 +2,10 @@
 //! lists.
 
 use super::records::Code;
-use super::run::{has_room, in_range, write_word, Run, State, Task};
+use super::run::{conclude, has_room, in_range, Run, State, Task};
 use super::split::fill;
 use super::Refused;
-use interface::{work_length, DecodeAnswer, GroupAnswer, Lists, Settings, MOST_FRAMES};
+use interface::{work_length, GroupAnswer, Lists, Settings, MOST_FRAMES};
 
 /// What the caller gives, but for the lists.
 pub struct Input<'a> {
@@ -15,8 +15,37 @@ pub struct Input<'a> {
     pub costs: &'a [i16],
 }
 
+/// Makes a type the decoder of groups that runs frames in this way.
+macro_rules! grouping {
+    ($rival:ident, $run:expr) => {
+        impl interface::Grouping for $rival {
+            fn decode_group(
+                &self,
+                code: &[u8],
+                settings: interface::Settings,
+                frames: usize,
+                costs: &[i16],
+                lists: interface::Lists,
+                work: &mut [i32],
+            ) -> interface::GroupAnswer {
+                let input = $crate::plain::group::Input {
+                    code,
+                    settings,
+                    frames,
+                    costs,
+                };
+                $crate::plain::group::decode(input, lists, work, $run)
+            }
+        }
+    };
+}
+
+pub(crate) use grouping;
+
 /// A frame to run, and what came of it.
 pub struct Frame<'a> {
+    /// Which of the given frames it is.
+    place: usize,
     pub task: Task<'a>,
     pub state: State<'a>,
     /// The iterations done, and whether it settled.
@@ -70,7 +99,7 @@ fn decode_accepted(
     work: &mut [i32],
     run: RunFrames,
 ) -> GroupAnswer {
-    let (triples, variables) = (code.triples(), code.variables());
+    let (bits, triples, variables) = (code.bits, code.triples(), code.variables());
     fill(code, lists.triples, lists.counts);
     let task = |costs| Task {
         code,
@@ -79,47 +108,35 @@ fn decode_accepted(
         triples: &lists.triples[..3 * triples],
         counts: &lists.counts[..variables],
     };
-    let mut sums = lists.sums.chunks_exact_mut(variables);
-    let mut values = lists.values.chunks_exact_mut(variables);
-    let mut rows = lists.rows.chunks_exact_mut(4 * triples);
-    let mut frames = Vec::with_capacity(MOST_FRAMES);
-    let mut words = Vec::with_capacity(MOST_FRAMES);
-    let costs = input.costs.chunks_exact(code.bits);
-    for (costs, word) in costs.zip(lists.word.chunks_exact_mut(code.bits)) {
-        let parts = sums.next().zip(values.next()).zip(rows.next());
-        let ((sums, values), rows) = parts.expect("room for every frame");
-        let is_false = costs.contains(&i16::MIN);
-        words.push((word, is_false));
-        if !is_false {
-            frames.push(Frame {
-                task: task(costs),
-                state: State { sums, values, rows },
-                end: (0, false),
-            });
-        }
-    }
+    let sums = lists.sums.chunks_exact_mut(variables);
+    let values = lists.values.chunks_exact_mut(variables);
+    let rows = lists.rows.chunks_exact_mut(4 * triples);
+    let states = sums.zip(values).zip(rows);
+    let frames = input.costs.chunks_exact(bits).zip(states).enumerate();
+    let frames = frames.map(|(place, (costs, ((sums, values), rows)))| Frame {
+        place,
+        task: task(costs),
+        state: State { sums, values, rows },
+        end: (0, false),
+    });
+    let mut frames: Vec<Frame> = frames.filter(has_true_costs).collect();
     run(&mut frames, work);
-    answer(code, frames, words)
+    answer(code, input.frames, frames, lists.word)
 }
 
-/// Writes the word of each frame that ran. Each given frame has its word's place, and whether a
-/// cost is false.
-fn answer(code: &Code, frames: Vec<Frame>, words: Vec<(&mut [u8], bool)>) -> GroupAnswer {
-    let mut group = GroupAnswer::default();
-    let mut ran = frames.into_iter();
-    for (answer, (word, is_false)) in group.frames.iter_mut().zip(words) {
-        if is_false {
-            answer.number = 13;
-        } else if let Some(Frame { state, end, .. }) = ran.next() {
-            let (number, place) = write_word(code, &state.values[..code.bits], word);
-            let (k, settled) = end;
-            *answer = DecodeAnswer {
-                number,
-                place,
-                k,
-                settled: settled.into(),
-            };
-        }
+fn has_true_costs(frame: &Frame) -> bool {
+    !frame.task.costs.contains(&i16::MIN)
+}
+
+/// What so many frames are answered: 13, unless they ran.
+fn answer(code: &Code, given: usize, ran: Vec<Frame>, words: &mut [u8]) -> GroupAnswer {
+    let mut answer = GroupAnswer::default();
+    let given = answer.frames[..given].iter_mut();
+    given.for_each(|frame| frame.number = 13);
+    for frame in ran {
+        let word = &mut words[frame.place * code.bits..][..code.bits];
+        let values = &frame.state.values[..code.bits];
+        answer.frames[frame.place] = conclude(code, frame.end, values, word);
     }
-    group
+    answer
 }

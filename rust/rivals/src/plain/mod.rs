@@ -5,7 +5,8 @@ pub mod records;
 pub mod run;
 mod split;
 
-use interface::{DecodeAnswer, Decoder, GroupAnswer, Grouping, Lists, Settings};
+use group::grouping;
+use interface::{DecodeAnswer, Decoder, Lists, Settings};
 
 /// The number of a cause, where a call is refused.
 pub type Refused<T> = Result<T, u32>;
@@ -18,24 +19,4 @@ impl Decoder for Plain {
     }
 }
 
-impl Grouping for Plain {
-    fn decode_group(
-        &self,
-        code: &[u8],
-        settings: Settings,
-        frames: usize,
-        costs: &[i16],
-        lists: Lists,
-        work: &mut [i32],
-    ) -> GroupAnswer {
-        let input = group::Input {
-            code,
-            settings,
-            frames,
-            costs,
-        };
-        group::decode(input, lists, work, |frames, _| {
-            group::run_each(frames, run::run)
-        })
-    }
-}
+grouping! { Plain, |frames, _| group::run_each(frames, run::run) }

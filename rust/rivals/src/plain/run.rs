@@ -101,8 +101,14 @@ fn decode_accepted(
         values: &mut lists.values[..variables],
         rows: &mut lists.rows[..4 * triples],
     };
-    let (k, settled) = run(&task, &mut state);
-    let (number, place) = write_word(code, &lists.values[..code.bits], lists.word);
+    let end = run(&task, &mut state);
+    conclude(code, end, &lists.values[..code.bits], lists.word)
+}
+
+/// Writes the word if there is one, and tells how the run ended.
+pub fn conclude(code: &Code, end: (u32, bool), values: &[i16], word: &mut [u8]) -> DecodeAnswer {
+    let (number, place) = write_word(code, values, word);
+    let (k, settled) = end;
     DecodeAnswer {
         number,
         place,
@@ -112,7 +118,7 @@ fn decode_accepted(
 }
 
 /// Writes the word if there is one; the outcome's number and place.
-pub fn write_word(code: &Code, values: &[i16], word: &mut [u8]) -> (u32, usize) {
+fn write_word(code: &Code, values: &[i16], word: &mut [u8]) -> (u32, usize) {
     if let Some(bit) = values.iter().position(|&value| value == 0) {
         return (16, bit);
     }

@@ -1,6 +1,7 @@
-//! From lanes to the caller's lists.
+//! From lanes to the caller's lists, and back.
 
-use super::lanes::auxiliary_value;
+use super::lanes::{auxiliary_value, shares_of};
+use super::layout::NO_TRIPLE;
 use std::arch::x86_64::*;
 
 // SAFETY for every block below: each x86-64 processor has SSE2; the slice that
@@ -34,6 +35,45 @@ pub fn write_auxiliaries(
         for (&first, (sum, value)) in firsts.iter().zip(both) {
             sums[first + place] = sum as i64;
             values[first + place] = value as i16;
+        }
+    }
+}
+
+/// Reads the rows of a block from the checks whose first triples these are. Lanes without a
+/// check stay.
+pub fn read_rows(to: &mut [__m128], origins: &[(u32, u32); 4], rows: &[i32]) {
+    for (place, vectors) in to.chunks_exact_mut(4).enumerate() {
+        let mut lanes = [vectors[0], vectors[1], vectors[2], vectors[3]];
+        transpose(&mut lanes);
+        for (lane, &(triple, _)) in lanes.iter_mut().zip(origins) {
+            if triple != NO_TRIPLE {
+                let start = 4 * (triple as usize + place);
+                let from = &rows[start..start + 4];
+                *lane = unsafe { _mm_cvtepi32_ps(_mm_loadu_si128(from.as_ptr().cast())) };
+            }
+        }
+        transpose(&mut lanes);
+        vectors.copy_from_slice(&lanes);
+    }
+}
+
+fn transpose([a, b, c, d]: &mut [__m128; 4]) {
+    unsafe { _MM_TRANSPOSE4_PS(a, b, c, d) };
+}
+
+/// Puts what the rows of a block add to the S of its bits into their slots, and adds it to the
+/// S of its auxiliaries. A blank has neither.
+pub fn add_shares(rows: &[__m128], slots: &mut [__m128], sums: &mut [__m128]) {
+    let degree = slots.len();
+    for (triple, rows) in rows.chunks_exact(4).enumerate() {
+        let shares = unsafe { shares_of([rows[0], rows[1], rows[2], rows[3]]) };
+        let third = (degree + triple).min(2 * degree.max(3) - 4);
+        for (item, share) in [2 * triple, 2 * triple + 1, third].into_iter().zip(shares) {
+            if let Some(slot) = slots.get_mut(item) {
+                *slot = share;
+            } else if let Some(sum) = sums.get_mut(item - degree) {
+                *sum = unsafe { _mm_add_ps(*sum, share) };
+            }
         }
     }
 }

@@ -15,10 +15,10 @@ mod layout;
 mod lists;
 mod work;
 
-use crate::plain::group::{decode as decode_group, Input};
+use crate::plain::group::grouping;
 use crate::plain::run::{decode, run, run_on, State, Task};
 use group::run_frames;
-use interface::{DecodeAnswer, Decoder, GroupAnswer, Grouping, Lists, Settings};
+use interface::{DecodeAnswer, Decoder, Lists, Settings};
 use layout::{Layout, MOST_COUNT};
 use work::Work;
 
@@ -31,25 +31,7 @@ impl Decoder for Tuned {
     }
 }
 
-impl Grouping for Tuned {
-    fn decode_group(
-        &self,
-        code: &[u8],
-        settings: Settings,
-        frames: usize,
-        costs: &[i16],
-        lists: Lists,
-        work: &mut [i32],
-    ) -> GroupAnswer {
-        let input = Input {
-            code,
-            settings,
-            frames,
-            costs,
-        };
-        decode_group(input, lists, work, run_frames)
-    }
-}
+grouping! { Tuned, run_frames }
 
 /// With a ratio above this a quotient might not fit 32 bits.
 const MOST_RATIO: u32 = 512;
@@ -58,17 +40,48 @@ const MOST_RATIO: u32 = 512;
 const EXACT: usize = 1 << 24;
 
 fn run_tuned(task: &Task, state: &mut State) -> (u32, bool) {
-    let bits = &task.counts[..task.code.bits];
-    let most = usize::from(bits.iter().copied().max().unwrap_or(0));
-    if most > MOST_COUNT || task.settings.ratio > MOST_RATIO {
+    if !is_suited(task) {
         return run(task, state);
     }
     let layout = Layout::of(task.code, task.counts);
+    iterate(task, state, Work::new(&layout, task), 0, 65536)
+}
+
+/// Goes on with a run whose rows stand after so many iterations.
+fn run_tuned_on(task: &Task, state: &mut State, done: u32) -> (u32, bool) {
+    if !is_suited(task) {
+        return run_on(task, state, done);
+    }
+    let layout = Layout::of(task.code, task.counts);
     let mut work = Work::new(&layout, task);
-    let (mut k, mut largest) = (0, 65536);
+    work.resume(state.rows);
+    let largest = work.largest();
+    iterate(task, state, work, done, largest)
+}
+
+/// The most checks of a bit.
+fn most_checks(task: &Task) -> usize {
+    let bits = &task.counts[..task.code.bits];
+    bits.iter().copied().max().unwrap_or(0).into()
+}
+
+fn is_suited(task: &Task) -> bool {
+    most_checks(task) <= MOST_COUNT && task.settings.ratio <= MOST_RATIO
+}
+
+/// Iterations behind the k-th, until the run settles or is at its limit; no s is larger than
+/// the largest yet.
+fn iterate(
+    task: &Task,
+    state: &mut State,
+    mut work: Work,
+    mut k: u32,
+    mut largest: usize,
+) -> (u32, bool) {
+    // An auxiliary lies in two triples.
+    let most = most_checks(task).max(2);
     loop {
-        // An auxiliary lies in two triples.
-        let safe = safe_iterations(EXACT, most.max(2), largest);
+        let safe = safe_iterations(EXACT, most, largest);
         if safe == 0 {
             work.write(state);
             return run_on(task, state, k);

@@ -4,7 +4,7 @@ use super::bits::renew_bits;
 use super::checks::{renew_checks, Blocks};
 use super::lanes::Totals;
 use super::layout::{CheckClass, Layout, NO_TRIPLE};
-use super::lists::{write_auxiliaries, write_rows};
+use super::lists::{add_shares, read_rows, write_auxiliaries, write_rows};
 
 use crate::plain::run::{State, Task};
 use std::arch::x86_64::{__m128, _mm_setr_ps, _mm_setzero_ps};
@@ -100,6 +100,23 @@ impl<'a> Work<'a> {
             });
             let last = self.rows[end - vectors..end].chunks_exact_mut(4);
             last.for_each(|triple| triple.copy_from_slice(&rows));
+        }
+    }
+
+    /// Takes over rows as the caller has them, and what they add to every S.
+    pub fn resume(&mut self, rows: &[i32]) {
+        let mut place = Place::default();
+        let mut origins = self.layout.origins.iter();
+        for class in &self.layout.check_classes {
+            for origins in origins.by_ref().take(class.blocks) {
+                let start = place;
+                place.advance(class, 1);
+                let vectors = &mut self.rows[start.row..place.row];
+                read_rows(vectors, origins, rows);
+                let slots = &mut self.slots[start.slot..place.slot];
+                let sums = &mut self.sums[start.auxiliary..place.auxiliary];
+                add_shares(vectors, slots, sums);
+            }
         }
     }
 

@@ -49,6 +49,22 @@ fn offset(place: usize) -> u32 {
     16 * place as u32
 }
 
+/// Where each check comes from, in the order of the code.
+fn origins(code: &Code) -> impl Iterator<Item = Origin> + '_ {
+    let (mut triple, mut auxiliary) = (0, code.bits);
+    code.degrees.iter().map(move |&degree| {
+        let degree = usize::from(degree).max(3);
+        let origin = Origin {
+            degree,
+            triple,
+            auxiliary,
+        };
+        triple += degree - 2;
+        auxiliary += degree - 3;
+        origin
+    })
+}
+
 impl Layout {
     /// The layout of a code whose bits have these counts.
     pub fn of(code: &Code, counts: &[u16]) -> Layout {
@@ -73,19 +89,7 @@ impl Layout {
     }
 
     fn place_checks(&mut self, code: &Code) {
-        let (mut triple, mut auxiliary) = (0, code.bits);
-        let mut checks = Vec::with_capacity(code.degrees.len());
-        for check in code.checks() {
-            let degree = check.len().max(3);
-            let origin = Origin {
-                degree,
-                triple,
-                auxiliary,
-            };
-            checks.push((check, origin));
-            triple += degree - 2;
-            auxiliary += degree - 3;
-        }
+        let mut checks: Vec<(&[u16], Origin)> = code.checks().zip(origins(code)).collect();
         checks.sort_by_key(|(_, origin)| origin.degree);
         for (check, origin) in checks {
             let places = check.iter().map(|&bit| self.places[usize::from(bit)]);

@@ -3,7 +3,7 @@
 use super::layout::Origin;
 use super::quotient::{Quotient, UNIT};
 use crate::plain::run::State;
-use std::arch::x86_64::__m128;
+use std::arch::x86_64::*;
 
 /// The entries of a vector, one for each lane.
 pub fn entries(vector: &__m128) -> &[f32; 4] {
@@ -71,11 +71,16 @@ pub fn write_auxiliaries(
 
 /// Writes the rows of the triples.
 pub fn write_rows(lane: usize, origins: &[Origin], from: &[__m128], rows: &mut [i32]) {
-    let mut from = from.iter();
+    let mut triples = from.chunks_exact(4);
     for origin in origins {
         let written = &mut rows[4 * origin.triple..][..4 * (origin.degree - 2)];
-        for (s, from) in written.iter_mut().zip(&mut from) {
-            *s = whole(entries(from)[lane]);
+        for (to, from) in written.chunks_exact_mut(4).zip(&mut triples) {
+            let s = |row: usize| entries(&from[row])[lane];
+            // SAFETY: every x86-64 processor has SSE2; there are four entries.
+            unsafe {
+                let s = _mm_cvttps_epi32(_mm_setr_ps(s(0), s(1), s(2), s(3)));
+                _mm_storeu_si128(to.as_mut_ptr().cast(), s);
+            }
         }
     }
 }

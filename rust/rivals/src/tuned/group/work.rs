@@ -109,21 +109,19 @@ impl<'a> Work<'a> {
         entries(&most).iter().copied().fold(0.0, f32::max) as usize
     }
 
-    /// c of every bit.
+    /// c of every bit. The sums of the next iteration begin with what the costs add.
     pub fn renew_bits(&mut self) {
+        self.next_sums[..self.whole.len()].copy_from_slice(self.whole);
         let mut from = 0;
         for (class, quotient) in self.layout.bit_classes.iter().zip(&self.bit_quotients) {
             let places = from..from + class.members;
             let sums = self.sums[places.clone()].iter();
-            let costs = self.whole[places.clone()].iter();
-            let costs = costs.zip(&self.parts[places.clone()]);
-            let next = self.next_sums[places.clone()].iter_mut();
+            let sums = sums.zip(&self.parts[places.clone()]);
             let values = self.values[places].iter_mut();
-            for (((value, next), sum), (whole, part)) in values.zip(next).zip(sums).zip(costs) {
+            values.zip(sums).for_each(|(value, (&sum, &part))| {
                 // SAFETY: every x86-64 processor has SSE2.
-                *value = unsafe { quotient.of_bit(*sum, *part) };
-                *next = *whole;
-            }
+                *value = unsafe { quotient.of_bit(sum, part) };
+            });
             from += class.members;
         }
     }
