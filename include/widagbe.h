@@ -29,8 +29,7 @@
  *   - Nothing else writes to any list of a call, or reads a list that it fills, until the call returns.
  *   No call keeps a pointer, allocates memory or has state of its own: calls in different threads do not disturb each other.
  *   A call needs less than 16 kilobytes of stack, but widagbe_import, which needs less than 272, widagbe_export and
- *   widagbe_export_size, which need less than 56, the functions of the encoder, which need less than 80, and
- *   widagbe_decode_group, which needs less than 64 kilobytes.
+ *   widagbe_export_size, which need less than 56, and the functions of the encoder, which need less than 80.
  */
 #ifndef WIDAGBE_H
 #define WIDAGBE_H
