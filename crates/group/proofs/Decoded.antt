@@ -1,5 +1,5 @@
 -- The whole answer from its parts. Assumes nothing.
-use Rattle.integers.proofs.Prelude.{_≡_, refl, sym, ap, subst, _∙_, Bool, true, false, cond, List, _++_, append-nil, ℕ, suc, _*_, _≤_, _<_, arith, ltb-true, ne-eqb, ltb}
+use Rattle.integers.proofs.Prelude.{_≡_, refl, sym, ap, _∙_, Bool, true, false, cond, List, _++_, append-nil, ℕ, suc, _*_, _≤_, _<_, arith, ltb-true, ne-eqb, ltb}
 use Rattle.integers.proofs.Prelude.{ℤ, length, getD, length-take, drop-of-length-le}
 use lib.ListN.{replicate}
 use Rattle.lists.specs.Tabulated.{tab, written, part, blocks}

@@ -12,7 +12,7 @@ use Rattle.model.specs.declared.Settings.{Settings}
 use Rattle.model.specs.Limits.{mostFrames}
 use Rattle.model.specs.Causes.{_if_}
 use Rattle.model.specs.Code.{Code, triples, variables}
-use Rattle.model.specs.Splitting.{System, systemOf}
+use Rattle.model.specs.Splitting.{systemOf}
 use Rattle.model.specs.Iteration.{State, countsOf}
 use Rattle.model.specs.Run.{Ended, run}
 use Rattle.model.specs.Calls.{outOfRange, forbidden}

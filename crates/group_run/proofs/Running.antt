@@ -1,5 +1,5 @@
 -- The lists of a group that tell how far its frames are; which frames run, and how many. Assumes nothing.
-use Rattle.integers.proofs.Prelude.{_≡_, refl, ap, Bool, true, false, not, List, [], _∷_, ℕ, zero, suc, _+_, _≤_, _<_, arith, add-one, eqb, eqb-false, eq-eqb, ne-eqb, not-true, ℤ, length, getD, take}
+use Rattle.integers.proofs.Prelude.{_≡_, true, false, not, List, [], _∷_, ℕ, zero, suc, _+_, _<_, arith, add-one, eqb, eqb-false, eq-eqb, ne-eqb, not-true, ℤ, length, getD, take}
 use Rattle.lists.proofs.Entries.{total-next}
 use Rattle.model.specs.Causes.{_if_}
 use Rattle.lane_step.specs.Step.{runs}

@@ -1,5 +1,5 @@
 -- Frames that go on by themselves, one after the other. Assumes nothing.
-use Rattle.integers.proofs.Prelude.{_≡_, refl, sym, ap, subst, _∙_, Bool, true, false, cond, List, ℕ, _+_, _*_, _≤_, _<_, arith, T, eqb, eqb-true, eq-eqb, ℤ, length}
+use Rattle.integers.proofs.Prelude.{_≡_, refl, sym, ap, subst, _∙_, Bool, true, false, cond, List, ℕ, _+_, _≤_, _<_, arith, T, eqb, eqb-true, eq-eqb, ℤ, length}
 use Rattle.lists.specs.Tabulated.{part}
 use Rattle.lists.proofs.Entries.{below-next}
 use Rattle.model.specs.declared.Settings.{Settings}

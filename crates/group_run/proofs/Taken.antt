@@ -1,5 +1,5 @@
 -- Frames that are taken out of their lanes, one after the other. Assumes nothing.
-use Rattle.integers.proofs.Prelude.{_≡_, refl, ap, _∙_, Bool, true, false, cond, List, ℕ, _+_, _≤_, _<_, arith, eqb, eqb-true, eq-eqb, ne-eqb, ℤ, length}
+use Rattle.integers.proofs.Prelude.{_≡_, refl, _∙_, true, false, cond, List, ℕ, _+_, _≤_, _<_, arith, eqb, eq-eqb, ne-eqb, ℤ, length}
 use Rattle.lists.proofs.Entries.{below-next}
 use Rattle.lanes.specs.declared.Plan.{Plan}
 use Rattle.lanes.specs.Lanes.{laneState}

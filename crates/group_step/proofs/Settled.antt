@@ -1,18 +1,17 @@
 -- What becomes of the frames when one of them may have stopped. Assumes nothing.
-use Rattle.integers.proofs.Prelude.{_≡_, refl, sym, ap, subst, _∙_, Bool, true, false, cond, not, _&&_, List, ℕ, zero, suc, _+_, _-_, _<_, arith, decLt, eqb, eqb-true, eqb-false, eq-eqb, ne-eqb, ltb, lt-ltb, le-ltb, ℤ}
+use Rattle.integers.proofs.Prelude.{_≡_, refl, sym, ap, subst, _∙_, Bool, true, false, cond, not, _&&_, List, ℕ, suc, _+_, _-_, _<_, arith, decLt, eqb, eqb-true, eqb-false, eq-eqb, ne-eqb, ltb, lt-ltb, le-ltb, ℤ}
 use Rattle.integers.proofs.Prelude.{length, getD, set, length-set}
 use lib.Seq.{getD-set-same, getD-set-other}
 use Rattle.quotient.specs.Quotient.{quotient}
 use Rattle.model.specs.declared.Settings.{Settings}
-use Rattle.model.specs.Limits.{mostFrames}
-use Rattle.model.specs.Iteration.{State, iterate}
+use Rattle.model.specs.Iteration.{iterate}
 use Rattle.model.specs.Splitting.{System}
 use Rattle.model.specs.Run.{stop}
 use Rattle.model.specs.Group.{Frame, onward}
 use Rattle.lanes.specs.declared.Plan.{Plan}
 use Rattle.lanes.specs.Lanes.{laneState}
 use Rattle.lane_step.specs.Step.{runs}
-use Rattle.group_step.specs.Frames.{partState, endedIn, frameNow, Marks, stoppedBy}
+use Rattle.group_step.specs.Frames.{partState, frameNow, Marks, stoppedBy}
 
 -- at f one thing holds, and elsewhere nothing has changed
 at-one : {A : Type 0} (f : ℕ) (x y z : ℕ → A) → x f ≡ y f → ((g : ℕ) → (g ≡ f → ⊥) → x g ≡ z g) → (g : ℕ) → x g ≡ cond (eqb g f) (y g) (z g)

@@ -1,5 +1,5 @@
 -- The fours of lanes in which a frame runs. Assumes nothing.
-use Rattle.integers.proofs.Prelude.{_≡_, refl, sym, ap, _∙_, Bool, true, false, not, cond, _||_, List, ℕ, zero, suc, _+_, _-_, _≤_, _<_, arith, decLt, ne-eqb, eqb-false, not-true, eqb, getD}
+use Rattle.integers.proofs.Prelude.{_≡_, refl, Bool, true, false, cond, _||_, List, ℕ, zero, suc, _+_, _-_, _≤_, _<_, arith, decLt, ne-eqb, eqb-false, not-true, eqb, getD}
 use mathlib.Core.Logic.{_⊎_, inl, inr}
 use Rattle.lanes.specs.declared.Plan.{Plan}
 use Rattle.lane_triples.specs.Walk.{Halves}

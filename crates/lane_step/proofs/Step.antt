@@ -1,7 +1,6 @@
 -- A lane before an iteration, when its values are written, and when its rows are renewed. Assumes nothing.
 use Rattle.integers.proofs.Prelude.{_≡_, refl, sym, ap, ap₂, _∙_, Bool, true, false, List, ℕ, zero, suc, _+_, _-_, _*_, _^_, _≤_, _<_, arith, decLt}
 use Rattle.integers.proofs.Prelude.{ltb, lt-ltb, le-ltb, ℤ, pos, natAbs, negℤ, _+ℤ_, _-ℤ_, _*ℤ_, _≤ℤ_, getD}
-use native.Mathlib.Nat.{mul-le-mul}
 use Rattle.integers.proofs.Linear.{split, toℕ, readℤ, about, about-sum, abs-add}
 use Rattle.lists.specs.Tabulated.{tab}
 use Rattle.lists.proofs.Tabulated.{tab-same, getD-tab}
@@ -16,8 +15,8 @@ use Rattle.model.specs.Bounds.{RowsWithin}
 use Rattle.model.proofs.Rows.{at-tab}
 use Rattle.model.proofs.Bounds.{renewed-within}
 use Rattle.lanes.specs.declared.Plan.{Plan}
-use Rattle.lanes.specs.Lanes.{inLane, valuesAt, sumsAt, weighedAt, laneRows, laneValues, laneSum, laneSums, lowPart, highPart, laneWeighed, laneState, Kept, SumsKept}
-use Rattle.lane_values.specs.Valued.{laneValue, LaneValued, WeighedWithin}
+use Rattle.lanes.specs.Lanes.{inLane, valuesAt, sumsAt, weighedAt, laneRows, laneValues, laneSum, laneSums, lowPart, highPart, laneWeighed, laneState, SumsKept}
+use Rattle.lane_values.specs.Valued.{laneValue, LaneValued}
 use Rattle.lane_triples.specs.Walk.{Tripled, Due, newRows, Walked}
 use Rattle.lane_step.specs.Step.{systemFor, Weighed, Summed, Small}
 

@@ -1,8 +1,8 @@
 -- One triple in four lanes: it may be renewed as `Step` says, and the walk is one triple further in these lanes. Assumes nothing.
 use Rattle.integers.proofs.Prelude.{_≡_, refl, sym, ap, subst, _∙_, Bool, true, false, cond, List, ℕ, zero, suc, _+_, _-_, _*_, _^_, _≤_, _<_, arith, decLt}
 use Rattle.integers.proofs.Prelude.{ltb-true, ltb-false, lt-ltb, eqb-true, eqb-false, eq-eqb, eqb, ℤ, pos, natAbs, _+ℤ_, _-ℤ_, _*ℤ_, length, getD, List·getD-eq-default, sets}
-use mathlib.Core.Logic.{_⊎_, inl, inr, ⊎-elim, _≢_}
-use native.Mathlib.Nat.{add-zero, add-suc, mul-le-mul, mul-le-mul-left}
+use mathlib.Core.Logic.{_⊎_, inl, inr, _≢_}
+use native.Mathlib.Nat.{add-zero, add-suc, mul-le-mul-left}
 use lib.Seq.{length-sets}
 use lib.Signed.{shrZ}
 use Rattle.integers.specs.Sum.{sumℕ, sumℤ}
@@ -11,7 +11,7 @@ use Rattle.integers.proofs.Sums.{sumℕ-split, sumℕ-bound, sumℤ-same}
 use Rattle.lists.specs.Tabulated.{tab}
 use Rattle.lists.proofs.Tabulated.{getD-tab}
 use Rattle.quotient.specs.Quotient.{unit}
-use Rattle.model.specs.Limits.{mostTriples, mostVariables, mostDone, mostRow}
+use Rattle.model.specs.Limits.{mostTriples, mostDone, mostRow}
 use Rattle.model.specs.Causes.{_if_}
 use Rattle.model.specs.Splitting.{blank, member}
 use Rattle.model.specs.Iteration.{at, row, sign, valueAt, slack, multiplier, share, renewedAt, occurrences}
@@ -20,6 +20,7 @@ use Rattle.model.proofs.Bounds.{renewed-within, row-small}
 use Rattle.fours.proofs.Parts.{high-small, low-small}
 use Rattle.fours.proofs.Rows.{share-small}
 use Rattle.lanes.specs.declared.Plan.{Plan}
+use Rattle.lanes.proofs.Places.{list-short, fits-same}
 use Rattle.lanes.specs.Lanes.{inLane, valuesAt, sumsAt, laneSize, Fits, laneRows, laneValues, mostNarrow, Kept}
 use Rattle.lane_triples.specs.Step.{added, MayAdd, highsOf, lowsOf, given, MayGive, withRows, MayRenew, Places, isWide, valuesIn, rowIn, sharesIn, after, MayStep}
 use Rattle.lane_triples.specs.Walk.{Tripled, Due, newRows, Walked, InWalk, SameBeside}
@@ -124,22 +125,6 @@ module _ (p : Plan) (h : ℕ) (room : h + 4 ≤ p .lanes) where
           beside = s .beside;
         }
 
-pub refit : {p : Plan} {w w′ : List ℤ} → Fits p w → length w′ ≡ length w → Fits p w′
-refit f e = record { lanes = f .lanes; triples = f .triples; variables = f .variables; bits = f .bits; long = e ∙ f .long }
-
-pub eight-most : {p : Plan} {w : List ℤ} → Fits p w → p .lanes ≤ 8
-eight-most f = ⊎-elim (λ e. omega arith) (λ e. omega arith) (f .lanes)
-
--- no lane has more entries
-abbrev pub mostEntries : ℕ
-mostEntries = 4 * mostTriples + 6 * mostVariables
-
-pub entries-most : {p : Plan} {w : List ℤ} → Fits p w → laneSize p ≤ mostEntries
-entries-most f = omega (arith, f .triples, f .variables, f .bits)
-
-fits-short : {p : Plan} {w : List ℤ} → Fits p w → length w < 2 ^ 32
-fits-short f = omega (arith, f .long, mul-le-mul (eight-most f) (entries-most f))
-
 -- ---- what the triple is renewed with
 module _ {p : Plan} {ts counts : List ℕ} {i : ℕ} {w : List ℤ} {t h : ℕ} {w₀ : List ℤ} (turn : Turn p ts counts i w t h w₀) {s : Places} (st : Stands p ts counts i t h s) where
   abbrev L : ℕ
@@ -231,7 +216,7 @@ module _ {p : Plan} {ts counts : List ℕ} {i : ℕ} {w : List ℤ} {t h : ℕ} 
     beside : SameBeside p h (h + 4) w₀ w′
 
   now-fits : {n q : ℕ} {w′ : List ℤ} → State n q w′ → Fits p w′
-  now-fits a = refit (turn .fits) (a .long)
+  now-fits a = fits-same (turn .fits) _ (a .long)
 
   -- ---- rows
   start : State (4 * t + 0) 0 w₀
@@ -337,7 +322,7 @@ module _ {p : Plan} {ts counts : List ℕ} {i : ℕ} {w : List ℤ} {t h : ℕ} 
       between = added w′ (s .sum q) (lowsOf x)
 
       then-fits : Fits p between
-      then-fits = refit (now-fits a) (put-low (lowsOf x) .long)
+      then-fits = fits-same (now-fits a) _ (put-low (lowsOf x) .long)
 
       at-high : s .sum q + s .apart ≡ L * (sumsAt p i + (p .variables + m)) + h
       at-high = omega (arith, at-sum, st .apart q l some e)
@@ -398,7 +383,7 @@ module _ {p : Plan} {ts counts : List ℕ} {i : ℕ} {w : List ℤ} {t h : ℕ} 
 
   pub may-step : MayStep L w₀ s
   may-step = record {
-    long = fits-short (turn .fits);
+    long = omega (arith, list-short (turn .fits));
     values = λ q l e. omega (arith, st .value q l e, in-list p h (turn .room) w₀ (turn .fits) (valuesAt p + member ts t q) (omega (arith, variable q l e)));
     renew = may-renew;
     give = λ q l e. may-give q l e (after-state q (omega arith));

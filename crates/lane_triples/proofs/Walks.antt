@@ -10,7 +10,8 @@ use Rattle.lanes.specs.Lanes.{inLane, valuesAt, sumsAt, Fits, mostNarrow}
 use Rattle.lane_triples.specs.Step as Step
 use Rattle.lane_triples.specs.Step.{Places, narrowPlaces, anyPlaces, isWide, after}
 use Rattle.lane_triples.specs.Walk.{Tripled, Narrow, Halves, Due, Walked, InWalk, SameBeside, Course}
-use Rattle.lane_triples.proofs.Step.{refit, eight-most, Turn, Stands, stepped, stepped-long, stepped-beside}
+use Rattle.lanes.proofs.Places.{lanes-few, fits-same}
+use Rattle.lane_triples.proofs.Step.{Turn, Stands, stepped, stepped-long, stepped-beside}
 
 -- a lane that is as it was
 walked-same : {p : Plan} {ts counts : List ℕ} {i : ℕ} {w : List ℤ} {l t : ℕ} {w′ w″ : List ℤ} → ((j : ℕ) → inLane (p .lanes) w″ l j ≡ inLane (p .lanes) w′ l j)
@@ -85,7 +86,7 @@ module _ {p : Plan} {from to l : ℕ} {w₀ w′ : List ℤ} (a : AtFour p from 
   a-four = omega (arith, a .whole)
 
   pub lane-low : l + 4 ≤ 8
-  lane-low = omega (arith, a-four, a .room, eight-most (a .fits))
+  lane-low = omega (arith, a-four, a .room, lanes-few (a .fits))
 
   pub next-four : {ts counts : List ℕ} {i : ℕ} {w : List ℤ} {t : ℕ} {s : Places} → Turn p ts counts i w t l w′ → Stands p ts counts i t l s
       → AtFour p from to (l + 4) w₀ (after (p .lanes) w′ s 3)
@@ -94,7 +95,7 @@ module _ {p : Plan} {from to l : ℕ} {w₀ w′ : List ℤ} (a : AtFour p from 
     last = a-four;
     whole = omega (arith, a .whole);
     room = a .room;
-    fits = refit (a .fits) (stepped-long turn st);
+    fits = fits-same (a .fits) _ (stepped-long turn st);
     long = stepped-long turn st ∙ a .long;
     beside = λ n j m o. stepped-beside turn st n j m (by n o) ∙ a .beside n j m o;
   }
@@ -117,11 +118,11 @@ at-begin fits h = record { first = omega arith; last = h; fits = fits; long = re
 pub next-triple : {p : Plan} {from to t end u : ℕ} {w₀ w′ w″ : List ℤ} → AtTriple p from to t end u w₀ w′ → u < end → length w″ ≡ length w′ → SameBeside p from to w′ w″
     → AtTriple p from to t end (u + 1) w₀ w″
 next-triple a less long same =
-    record { first = omega (arith, a .first); last = omega arith; fits = refit (a .fits) long; long = long ∙ a .long; beside = λ l j m o. same l j m o ∙ a .beside l j m o }
+    record { first = omega (arith, a .first); last = omega arith; fits = fits-same (a .fits) _ long; long = long ∙ a .long; beside = λ l j m o. same l j m o ∙ a .beside l j m o }
 
 -- no index is too large
 pub product-low : {p : Plan} {w : List ℤ} → Fits p w → (v n : ℕ) → v ≤ n → p .lanes * v ≤ 8 * n
-product-low fits v n h = mul-le-mul (eight-most fits) h
+product-low fits v n h = mul-le-mul (lanes-few fits) h
 
 -- ---- the places of triple t, in the lanes from h on
 abbrev place : (ℕ → ℕ) → ℕ → ℕ

@@ -1,5 +1,5 @@
 -- `group::cause` meets its contract: the first test that passes. Assumes nothing.
-use Rattle.integers.proofs.Prelude.{_≡_, refl, sym, ap, _∙_, Bool, false, not, ℕ, _*_, arith, needs, eq-eqb, ne-eqb, length}
+use Rattle.integers.proofs.Prelude.{_≡_, refl, sym, ap, _∙_, Bool, false, not, _*_, arith, needs, eq-eqb, ne-eqb, length}
 use Rattle.model.specs.Limits.{mostFrames}
 use Rattle.model.specs.Causes.{outside}
 use Rattle.model.specs.Calls.{outOfRange, unequal}

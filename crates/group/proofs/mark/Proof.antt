@@ -1,5 +1,5 @@
 -- `group::mark` meets its contract: by what was found. Assumes nothing.
-use Rattle.integers.proofs.Prelude.{_≡_, sym, ap, _∙_, Bool, true, not, needs}
+use Rattle.integers.proofs.Prelude.{sym, ap, _∙_, Bool, not, needs}
 use Rattle.model.specs.Causes.{_if_}
 use Rattle.group.proofs.mark.Statement.{statement}
 use Rattle.group.proofs.mark.Tie as tie

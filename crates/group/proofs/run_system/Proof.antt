@@ -1,5 +1,5 @@
 -- `group::run_system` meets its contract: the parts that are lent hold the code's system, and the frames end as the run leaves them. Assumes nothing.
-use Rattle.integers.proofs.Prelude.{_≡_, sym, ap, _∙_, List, ℕ, _*_, _≤_, arith, needs, length, take, length-take-le}
+use Rattle.integers.proofs.Prelude.{_≡_, sym, _∙_, _*_, _≤_, arith, needs, length, take, length-take-le}
 use Rattle.model.specs.Limits.{mostTriples, mostVariables}
 use Rattle.model.specs.Code.{Code}
 use Rattle.model.specs.Records.{codeOf}
@@ -10,7 +10,6 @@ use Rattle.model.proofs.Sound.{variables-most}
 use Rattle.lanes.specs.declared.Plan.{Plan}
 use Rattle.lanes.specs.Lanes.{Fits}
 use Rattle.group_step.specs.Frames.{Held}
-use Rattle.group.specs.Ends.{planOf}
 use Rattle.group.proofs.Sizes.{product-fits}
 use Rattle.group.proofs.Runs.{Begun, all-marks, lent-long, counts-lent-long, work-room, work-fits, given, ran}
 use Rattle.group.proofs.run_system.Statement.{statement}

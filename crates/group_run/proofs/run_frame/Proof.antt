@@ -1,11 +1,7 @@
 -- `group_run::run_frame` meets its contract: the parts that are lent hold the system, and come back. Assumes nothing.
-use Rattle.integers.proofs.Prelude.{_≡_, ap, ap₂, _∙_, List, ℕ, suc, _+_, _-_, _*_, _≤_, arith, needs, ℤ, length, take, drop}
+use Rattle.integers.proofs.Prelude.{_≡_, ap, _∙_, List, ℕ, suc, _+_, _-_, _*_, _≤_, arith, needs, ℤ, length, take, drop}
 use Rattle.lists.specs.Tabulated.{part}
 use Rattle.lists.proofs.Parts.{length-part}
-use Rattle.quotient.specs.Quotient.{quotient}
-use Rattle.model.specs.Code.{Code}
-use Rattle.model.specs.Splitting.{System}
-use Rattle.model.specs.Run.{run}
 use Rattle.lanes.specs.declared.Plan.{Plan}
 use Rattle.group_run.proofs.Alone.{stops, ended-alone}
 use Rattle.group_run.proofs.run_frame.Statement.{statement}

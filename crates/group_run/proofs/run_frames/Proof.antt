@@ -1,7 +1,6 @@
 -- `group_run::run_frames` meets its contract: the frames so far have ended as they do by themselves. Assumes nothing.
 use mathlib.Core.Logic.{⊎-elim}
 use Rattle.integers.proofs.Prelude.{refl, sym, _∙_, ℕ, _-_, _<_, arith, needs}
-use Rattle.lane_step.specs.Step.{runs}
 use Rattle.group_run.proofs.Running.{marked, unmarked}
 use Rattle.group_run.proofs.Givens.{costs-end, sums-end, values-end, rows-end, lent}
 use Rattle.group_run.proofs.Singles.{Done, done-none, done-next, done-all}

@@ -1,5 +1,5 @@
 -- `group_run::step_on` meets its contract: what has been done and what remains is the whole. Assumes nothing.
-use Rattle.integers.proofs.Prelude.{_≡_, refl, sym, ap, _∙_, true, false, ℕ, _-_, _<_, arith, eqb, ne-eqb}
+use Rattle.integers.proofs.Prelude.{_≡_, refl, sym, ap, _∙_, true, ℕ, _-_, _<_, arith, ne-eqb}
 use Rattle.lanes.proofs.Places.{lanes-few}
 use Rattle.lane_step.specs.Step.{runs}
 use Rattle.group_run.specs.Course.{countRunning}

@@ -1,8 +1,7 @@
 -- `group_step::settle` meets its contract. Assumes nothing.
-use Rattle.integers.proofs.Prelude.{_≡_, refl, sym, ap, _∙_, Bool, true, false, cond, not, _&&_, _||_, List, ℕ, suc, _*_, _≤_, _<_, arith, needs, eqb, ne-eqb, not-false, not-true, eqb-true, ltb, ltb-true, length, getD, set, length-set}
+use Rattle.integers.proofs.Prelude.{_≡_, refl, sym, ap, _∙_, Bool, true, false, cond, not, _&&_, ℕ, suc, _*_, _≤_, _<_, arith, needs, eqb, ne-eqb, not-false, not-true, eqb-true, ltb, ltb-true, length}
 use native.Mathlib.Nat.{mul-le-mul-right}
 use Rattle.lists.proofs.Tests.{and-left, and-right}
-use Rattle.model.specs.Limits.{mostFrames}
 use Rattle.model.specs.Group.{Frame}
 use Rattle.lanes.specs.declared.Plan.{Plan}
 use Rattle.lanes.proofs.Places.{lanes-few}

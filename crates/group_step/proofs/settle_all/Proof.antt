@@ -1,5 +1,5 @@
 -- `group_step::settle_all` meets its contract: the frames below f are settled. Assumes nothing.
-use Rattle.integers.proofs.Prelude.{_≡_, refl, sym, _∙_, List, ℕ, _-_, _≤_, _<_, arith, needs, lt-ltb, ℤ, length}
+use Rattle.integers.proofs.Prelude.{refl, sym, _∙_, List, ℕ, _-_, _≤_, arith, lt-ltb, ℤ, length}
 use Rattle.model.specs.declared.Settings.{Settings}
 use Rattle.model.specs.Group.{Frame}
 use Rattle.lanes.specs.declared.Plan.{Plan}

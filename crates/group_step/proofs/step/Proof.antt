@@ -1,10 +1,10 @@
 -- `group_step::step` meets its contract: every running frame goes one iteration on, then those that stop are taken out. Assumes nothing.
-use Rattle.integers.proofs.Prelude.{_≡_, refl, sym, ap, _∙_, true, List, ℕ, suc, _+_, _-_, _*_, _≤_, _<_, arith, needs, add-one, ℤ, getD}
+use Rattle.integers.proofs.Prelude.{refl, _∙_, ℕ, _+_, _-_, _<_, arith, needs, add-one, getD}
 use Rattle.model.specs.Limits.{mostDone}
 use Rattle.lanes.specs.declared.Plan.{Plan}
 use Rattle.lane_renewal.specs.Counting.{settledIn}
 use Rattle.lane_step.specs.Step.{systemFor, Small}
-use Rattle.lane_step.proofs.Running.{mark, marked}
+use Rattle.lane_step.proofs.Running.{mark}
 use Rattle.lane_step.proofs.Step.{small-more}
 use Rattle.group_step.specs.Frames.{Marks, Held}
 use Rattle.group_step.proofs.Settled.{steps-on, ran}

@@ -1,5 +1,5 @@
 -- `lane_step::end_of_lanes` meets its contract. Assumes nothing.
-use Rattle.integers.proofs.Prelude.{refl, sym, _∙_, needs, not-true, not-false}
+use Rattle.integers.proofs.Prelude.{refl, sym, _∙_, needs}
 use Rattle.lane_step.proofs.end_of_lanes.Statement.{statement}
 use Rattle.lane_step.proofs.end_of_lanes.Tie as tie
 

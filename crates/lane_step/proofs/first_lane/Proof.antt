@@ -1,5 +1,5 @@
 -- `lane_step::first_lane` meets its contract. Assumes nothing.
-use Rattle.integers.proofs.Prelude.{refl, sym, _∙_, needs, not-true, not-false}
+use Rattle.integers.proofs.Prelude.{refl, sym, _∙_, needs}
 use Rattle.lane_step.proofs.first_lane.Statement.{statement}
 use Rattle.lane_step.proofs.first_lane.Tie as tie
 

@@ -1,7 +1,7 @@
 -- `lane_triples::renew_range` meets its contract. Assumes nothing.
 use Rattle.integers.proofs.Prelude.{arith, needs}
 use Rattle.lane_triples.specs.Walk.{Narrow, Course}
-use Rattle.lane_triples.proofs.Step.{refit, eight-most}
+use Rattle.lanes.proofs.Places.{lanes-few, fits-same}
 use Rattle.lane_triples.proofs.renew_range.Statement.{statement}
 use Rattle.lane_triples.proofs.renew_range.Tie as tie
 
@@ -19,7 +19,7 @@ sums-at-requires : tie.Need-sums-at-requires
 sums-at-requires c κs =
     let s = c .before .before .before in
     let f = s .pre .0 .0 in
-    (eight-most f, f .triples, f .variables, f .bits, omega (arith, s .pre .0 .1))
+    (lanes-few f, f .triples, f .variables, f .bits, omega (arith, s .pre .0 .1))
 
 walk-all-narrow-requires : tie.Need-walk-all-narrow-requires
 walk-all-narrow-requires c κs =
@@ -38,15 +38,15 @@ returns c =
     let w = c .before in
     let t = w .before .before in
     let d = t .before in
-    (refit (start d .pre .0 .0) (w .walk-all-narrow .kept .1 .1 .1 .1 .1 .1 .1 .1 .0), ((λ v begin l a b. w .walk-all-narrow .ensures .0 _ (narrow t) _ v (course d) begin l a b .1), w .walk-all-narrow .ensures .1))
+    (fits-same (start d .pre .0 .0) _ (w .walk-all-narrow .kept .1 .1 .1 .1 .1 .1 .1 .1 .0), ((λ v begin l a b. w .walk-all-narrow .ensures .0 _ (narrow t) _ v (course d) begin l a b .1), w .walk-all-narrow .ensures .1))
 
 returns-2 : tie.Need-returns-2
 returns-2 c =
     let w = c .before in
     let d = w .before .before .before in
-    (refit (start d .pre .0 .0) (w .walk-all .kept .1 .1 .1 .1 .1 .1 .1 .1 .1 .0), ((λ v begin l a b. w .walk-all .ensures .0 _ v (course d) begin l a b .1), w .walk-all .ensures .1))
+    (fits-same (start d .pre .0 .0) _ (w .walk-all .kept .1 .1 .1 .1 .1 .1 .1 .1 .1 .0), ((λ v begin l a b. w .walk-all .ensures .0 _ v (course d) begin l a b .1), w .walk-all .ensures .1))
 
 pub renew-range-spec : {M : Type 1} → statement M
 renew-range-spec =
-    tie.close (tie.spec (λ c κs. let f = c .before .before .pre .0 .0 in (eight-most f, f .triples)) sums-at-requires walk-all-narrow-requires walk-all-requires
+    tie.close (tie.spec (λ c κs. let f = c .before .before .pre .0 .0 in (lanes-few f, f .triples)) sums-at-requires walk-all-narrow-requires walk-all-requires
     (λ c. search needs) returns (λ c. search needs) returns-2)

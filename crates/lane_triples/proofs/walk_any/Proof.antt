@@ -1,5 +1,5 @@
 -- `lane_triples::walk_any` meets its contract: the lanes before l have the triple done, those from l on have not. Assumes nothing.
-use Rattle.integers.proofs.Prelude.{_≡_, ap, subst, _∙_, false, ℕ, suc, _+_, _-_, _*_, _≤_, _<_, arith, add-one, eqb-false, eqb, length}
+use Rattle.integers.proofs.Prelude.{_≡_, ap, subst, _∙_, false, ℕ, suc, _+_, _-_, _*_, _^_, _≤_, _<_, arith, add-one, eqb-false, eqb, length}
 use Rattle.lists.proofs.Tabulated.{length-tab}
 use Rattle.model.specs.Limits.{mostTriples, mostVariables}
 use Rattle.model.specs.Splitting.{blank}
@@ -8,7 +8,8 @@ use Rattle.lanes.specs.Lanes.{valuesAt, sumsAt}
 use Rattle.lane_triples.specs.Step.{Places, anyPlaces}
 use Rattle.lane_triples.specs.Walk.{Course, InWalk}
 use Rattle.lane_triples.proofs.Lane.{before-weighed}
-use Rattle.lane_triples.proofs.Step.{Turn, Stands, eight-most, mostEntries, entries-most, may-step}
+use Rattle.lanes.proofs.Places.{lanes-few, lane-short}
+use Rattle.lane_triples.proofs.Step.{Turn, Stands, may-step}
 use Rattle.lane_triples.proofs.Walks.{InTurn, turn-of, four-more, AtFour, at-first, a-four, lane-low, next-four, product-low, first-below, second-below, third-below, third-most, may-read, any-stands}
 use Rattle.lane_triples.proofs.walk_any.Statement.{statement}
 use Rattle.lane_triples.proofs.walk_any.Tie as tie
@@ -37,10 +38,10 @@ module _ (s : tie.Start Inv-loop μ-loop) where
   values-low : s .args .values ≤ 8 * (4 * mostTriples)
   values-low = omega (arith, course .at-values, product-low (s .pre .0 .0) (valuesAt (s .args .p)) (4 * mostTriples) (omega (arith, s .pre .0 .0 .triples)))
 
-  next-low : s .args .next ≤ 8 * mostEntries
+  next-low : s .args .next ≤ 8 * 2 ^ 17
   next-low =
-      let low : sumsAt (s .args .p) (s .pre .1 .0) ≤ mostEntries = omega (arith, before-weighed (s .args .p) (s .pre .1 .0) (course .list), entries-most (s .pre .0 .0)) in
-      omega (arith, course .at-sums, product-low (s .pre .0 .0) (sumsAt (s .args .p) (s .pre .1 .0)) mostEntries low)
+      let low : sumsAt (s .args .p) (s .pre .1 .0) ≤ 2 ^ 17 = omega (arith, before-weighed (s .args .p) (s .pre .1 .0) (course .list), lane-short (s .pre .0 .0)) in
+      omega (arith, course .at-sums, product-low (s .pre .0 .0) (sumsAt (s .args .p) (s .pre .1 .0)) (2 ^ 17) low)
 
   counts-long : length (s .args .counts .now) ≡ s .args .p .variables
   counts-long = ap length (course .tripled .counted) ∙ length-tab (s .args .p .variables) (occurrences (s .args .triples .now) (s .args .p .triples))
@@ -113,7 +114,7 @@ walk-any-spec =
     tie.close (tie.spec Inv-loop μ-loop (λ c κs. reads (c .before .before) 0 (omega arith)) (λ c κs. reads (c .before .before .before) 1 (omega arith))
     (λ c κs. reads (c .before .before .before .before) 2 (omega arith)) (λ c. omega (arith, apart-low (c .before .before .before .before .before .before)))
     (λ c. let s = c .before .before .before .before .before .before in (at-first (s .pre .0 .0) (s .pre .0 .1), λ i k w begin. ((λ l a b. absurd (omega arith)), begin)))
-    (λ c. omega (arith, eight-most (s (c .before .before .before) .pre .0 .0))) (λ c. omega (arith, row-low (s (c .before .before .before))))
+    (λ c. omega (arith, lanes-few (s (c .before .before .before) .pre .0 .0))) (λ c. omega (arith, row-low (s (c .before .before .before))))
     (λ c. omega (arith, row-low (s (c .before .before .before)), lane (c .before .before)))
     (λ c. omega (arith, values-low (s (c .before .before .before)), lane (c .before .before)))
     (λ c. omega (arith, next-low (s (c .before .before .before)), lane (c .before .before)))

@@ -4,7 +4,8 @@ use Rattle.model.specs.Limits.{mostTriples, mostVariables}
 use Rattle.model.specs.Splitting.{member}
 use Rattle.lane_triples.specs.Step.{Places, narrowPlaces}
 use Rattle.lane_triples.specs.Walk.{Narrow, Course, InWalk}
-use Rattle.lane_triples.proofs.Step.{Turn, Stands, eight-most, may-step}
+use Rattle.lanes.proofs.Places.{lanes-few}
+use Rattle.lane_triples.proofs.Step.{Turn, Stands, may-step}
 use Rattle.lane_triples.proofs.Walks.{InTurn, turn-of, four-more, AtFour, at-first, a-four, lane-low, next-four, product-low, first-below, second-below, third-narrow, may-read, narrow-stands}
 use Rattle.lane_triples.proofs.walk_narrow.Statement.{statement}
 use Rattle.lane_triples.proofs.walk_narrow.Tie as tie
@@ -101,7 +102,7 @@ walk-narrow-spec =
     (λ c κs. reads (c .before .before .before) 1 (omega arith)) (λ c. omega (arith, low-2 (c .before .before .before .before .before) (c .before .variable2 .ensures)))
     (λ c κs. reads (c .before .before .before .before .before) 2 (omega arith)) (λ c. omega (arith, low-3 (start (c .before)) (c .before .variable3 .ensures)))
     (λ c. let s = start (c .before) in (at-first (s .pre .0 .0) (s .pre .0 .1), λ counts i n k w begin. ((λ l a b. absurd (omega arith)), begin)))
-    (λ c. omega (arith, eight-most (s (c .before .before .before) .pre .0 .0))) (λ c. omega (arith, row-low (s (c .before .before .before))))
+    (λ c. omega (arith, lanes-few (s (c .before .before .before) .pre .0 .0))) (λ c. omega (arith, row-low (s (c .before .before .before))))
     (λ c. omega (arith, row-low (s (c .before .before .before)), lane (c .before .before)))
     (λ c. let l = c .before .before .before in omega (arith, low-1 (s l) (named l .before .before .before .before .variable .ensures), lane (c .before .before)))
     (λ c. let l = c .before .before .before in omega (arith, low-2 (s l) (named l .before .before .variable2 .ensures), lane (c .before .before)))

@@ -1,5 +1,5 @@
 -- `lanes::size` meets its contract. Assumes nothing.
-use Rattle.integers.proofs.Prelude.{ℕ, _+_, _*_, _≤_, ap, arith, needs}
+use Rattle.integers.proofs.Prelude.{_+_, _*_, _≤_, ap, arith, needs}
 use native.Mathlib.Nat.{mul-le-mul}
 use Rattle.model.specs.Limits.{mostTriples, mostVariables}
 use Rattle.lanes.proofs.size.Statement.{statement}

@@ -1,5 +1,5 @@
 -- `rows::change` meets its contract. Assumes nothing.
-use Rattle.integers.proofs.Prelude.{_≡_, ap, _∙_, _*_, _≤_, arith, needs, ℤ, ℕ, natAbs, w32}
+use Rattle.integers.proofs.Prelude.{_≡_, ap, _∙_, _*_, arith, needs, ℤ, natAbs, w32}
 use native.Mathlib.Nat.{mul-le-mul}
 use Rattle.integers.proofs.Machine.{param, read-back}
 use Rattle.model.specs.Limits.{mostRow}

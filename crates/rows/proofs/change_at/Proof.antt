@@ -1,5 +1,5 @@
 -- `rows::change_at` meets its contract. Assumes nothing.
-use Rattle.integers.proofs.Prelude.{_≡_, _∙_, arith, needs, w32}
+use Rattle.integers.proofs.Prelude.{_≡_, arith, needs, w32}
 use Rattle.integers.proofs.Machine.{param}
 use Rattle.model.specs.Limits.{mostRow}
 use Rattle.model.specs.Iteration.{at}
