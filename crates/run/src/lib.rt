@@ -186,31 +186,31 @@ pub fn go_on(
     triples: &[u16],
     counts: &[u16],
     costs: &[i16],
-    count: usize,
+    total: usize,
     done: u32,
     sums: &mut [i64],
     values: &mut [i16],
     rows: &mut [i32],
 ) -> Ending
-    requires { ⌜ Lent settings (now triples) (now counts) (now costs) count (now sums) (now values) (now rows) ⌝ }
+    requires { ⌜ Lent settings (now triples) (now counts) (now costs) total (now sums) (now values) (now rows) ⌝ }
     requires { ⌜ (eqb done 0 ≡ false → RowsWithin done (now rows)) ⌝ }
     requires { ⌜ (1 ≤ settings .limit) × (done ≤ settings .limit) × (settings .limit ≤ mostIterations) ⌝ }
-    ensures { λ e. ⌜ ((k : Code) → let g = systemIn k (now (triples .entry)) count (now (values .entry)) in
+    ensures { λ e. ⌜ ((k : Code) → let g = systemIn k (now (triples .entry)) total (now (values .entry)) in
         let first : State = record { sums = now (sums .entry); values = now (values .entry); rows = now (rows .entry) } in
         let last : State = record { sums = now (sums .exit); values = now (values .exit); rows = now (rows .exit) } in
         record { k = e .k; settled = e .settled; last = last } ≡ cond (eqb done 0) (Run.run quotient g settings (now (costs .entry)))
         (Run.runFrom quotient g settings (now (costs .entry)) (settings .limit - done) done first)) ⌝ }
 {
     if done == 0 {
-        return run(settings, triples, counts, costs, count, sums, values, rows);
+        return run(settings, triples, counts, costs, total, sums, values, rows);
     }
-    layout::straighten(rows, count);
+    layout::straighten(rows, total);
     run_from(
         settings,
         triples,
         counts,
         costs,
-        count,
+        total,
         done,
         sums,
         values,

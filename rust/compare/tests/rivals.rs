@@ -1,4 +1,5 @@
-//! The rivals against the reference: written apart.
+//! The rivals against the reference: written apart. An eighth of the random cases, since
+//! nobody links them.
 
 use compare::comparison::compare;
 use compare::families::{calls, conversions, encodings, Effort};
@@ -10,9 +11,9 @@ use reference::SOUND;
 use rivals::{Packed, Plain, Tuned, Vectors};
 
 fn assert_equals_the_reference(decoder: &dyn Decoder) {
-    let tally = compare(|case| decoded(decoder, case), calls(), Effort::Full).unwrap();
+    let tally = compare(|case| decoded(decoder, case), calls(), Effort::Quick).unwrap();
     println!("{}", tally.summary());
-    tally.assert_complete(&["decode"], 20);
+    tally.assert_complete(&["decode"], 3);
 }
 
 #[test]
@@ -34,9 +35,9 @@ fn the_rivals_reflect() {
 #[test]
 fn vectors_equals_the_reference() {
     let families = calls().into_iter().chain(conversions()).collect();
-    let tally = compare(|case| converted(&Vectors, case), families, Effort::Full).unwrap();
+    let tally = compare(|case| converted(&Vectors, case), families, Effort::Quick).unwrap();
     println!("{}", tally.summary());
-    tally.assert_complete(&["import", "export", "export_size"], 20);
+    tally.assert_complete(&["import", "export", "export_size"], 3);
 }
 
 #[test]

@@ -40,10 +40,10 @@ abbrev left : tie.After-straighten → tie.Else1
 left z = z .before .before
 
 -- the rows, as a run reads them
-as-they-were : (z : tie.After-straighten) → straight (start (left z) .args .count) (z .straighten .last .0) ≡ start (left z) .args .rows .now
+as-they-were : (z : tie.After-straighten) → straight (start (left z) .args .total) (z .straighten .last .0) ≡ start (left z) .args .rows .now
 as-they-were z =
     let s = start (left z) in
-    ap (straight (s .args .count)) (z .straighten .ensures) ∙ straight-straight (s .args .count) (s .args .rows .now) (sym (s .pre .0 .rows))
+    ap (straight (s .args .total)) (z .straighten .ensures) ∙ straight-straight (s .args .total) (s .args .rows .now) (sym (s .pre .0 .rows))
 
 run-from-requires : tie.Need-run-from-requires
 run-from-requires c κs =
