@@ -3,14 +3,14 @@
 ghost use mathlib.Core.Path.{_≡_};
 ghost use Prim.Native.Nat.{_≤_};
 ghost use lib.ListN.{length};
-use crate::decoder_calls::each_list;
-use crate::decoder_calls::settings;
-use crate::show::Lists;
-use crate::show::lent;
-use crate::show::number;
-use crate::show::placed;
-use crate::show::text;
-use crate::table::numbers;
+use example_calls::decoder_calls::each_list;
+use example_calls::decoder_calls::settings;
+use example_calls::show::Lists;
+use example_calls::show::lent;
+use example_calls::show::number;
+use example_calls::show::placed;
+use example_calls::show::text;
+use example_calls::fields::numbers;
 use model::DecodeAnswer;
 use model::GroupAnswer;
 

@@ -1,7 +1,7 @@
--- `examples::table::numbers` meets its contract. Assumes nothing.
+-- `example_calls::fields::numbers` meets its contract. Assumes nothing.
 use Rattle.integers.proofs.Prelude.{_≡_, _-_, _≤_, needs, length}
-use Rattle.examples.proofs.table.numbers.Statement.{statement}
-use Rattle.examples.proofs.table.numbers.Tie as tie
+use Rattle.example_calls.proofs.fields.numbers.Statement.{statement}
+use Rattle.example_calls.proofs.fields.numbers.Tie as tie
 
 abbrev Inv-loop : tie.InvT-loop
 Inv-loop s base out₀ at₀ n₀ out at n = (n ≤ 8) × (length out ≡ length out₀)

@@ -1,8 +1,8 @@
--- `examples::cost_calls::size` meets its contract: bits up to those of infinity are no NaN's. Assumes nothing.
+-- `example_calls::cost_calls::size` meets its contract: bits up to those of infinity are no NaN's. Assumes nothing.
 use Rattle.integers.proofs.Prelude.{_≡_, refl, subst, Bool, true, false, not, ℕ, _/_, _%_, _≤_, arith, needs, ltb-true, ltb-false, ne-eqb, T, ltb}
 use lib.Ieee.{binary32, nanBits}
-use Rattle.examples.proofs.cost_calls.size.Statement.{statement}
-use Rattle.examples.proofs.cost_calls.size.Tie as tie
+use Rattle.example_calls.proofs.cost_calls.size.Statement.{statement}
+use Rattle.example_calls.proofs.cost_calls.size.Tie as tie
 
 number : (b : ℕ) → b ≤ 0x7f800000 → T (not (nanBits binary32 b))
 unfolding nanBits

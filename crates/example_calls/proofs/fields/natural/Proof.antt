@@ -1,8 +1,8 @@
--- `examples::table::natural` meets its contract: the number stays below 2^32. Assumes nothing.
+-- `example_calls::fields::natural` meets its contract: the number stays below 2^32. Assumes nothing.
 use Rattle.integers.proofs.Prelude.{_-_, _*_, _≤_, arith, length}
 use native.Mathlib.Nat.{mul-le-mul}
-use Rattle.examples.proofs.table.natural.Statement.{statement}
-use Rattle.examples.proofs.table.natural.Tie as tie
+use Rattle.example_calls.proofs.fields.natural.Statement.{statement}
+use Rattle.example_calls.proofs.fields.natural.Tie as tie
 
 abbrev Inv-loop : tie.InvT-loop
 Inv-loop s at base value₀ i₀ value i = (i ≤ length s) × (value ≤ 4294967295)

@@ -7,8 +7,8 @@ use crate::show::list;
 use crate::show::nines;
 use crate::show::number;
 use crate::show::text;
-use crate::table::numbers;
-use crate::table::room;
+use crate::fields::numbers;
+use crate::fields::room;
 
 // The number and, of a code that is taken, how long a message is.
 fn length(code: &[u8]) {

@@ -1,8 +1,8 @@
--- `examples::show::wide_row` meets its contract. Assumes nothing.
+-- `example_calls::show::wide_row` meets its contract. Assumes nothing.
 use Rattle.integers.proofs.Prelude.{w32, toZ-ofZ}
 use Rattle.integers.proofs.Machine.{widen}
-use Rattle.examples.proofs.show.wide_row.Statement.{statement}
-use Rattle.examples.proofs.show.wide_row.Tie as tie
+use Rattle.example_calls.proofs.show.wide_row.Statement.{statement}
+use Rattle.example_calls.proofs.show.wide_row.Tie as tie
 
 cast-result : tie.Need-cast-result
 cast-result c = rw (toZ-ofZ (c .fits .x)) (widen {w = w32} (c .fits .x) tt)

@@ -1,11 +1,11 @@
--- `examples::show::magnitude` meets its contract: a number below 0 is -m - 1, and m fits. Assumes nothing.
+-- `example_calls::show::magnitude` meets its contract: a number below 0 is -m - 1, and m fits. Assumes nothing.
 use Rattle.integers.proofs.Prelude.{_≡_, refl, true, _+_, arith, ℤ, pos, natAbs, negℤ, _+ℤ_, _-ℤ_, ltZ, w64, toZ, ofZ}
 use lib.IntN.{negℤ-negℤ}
 use lib.Signed.{mag}
 use Rattle.integers.proofs.Linear.{readℤ, about, about-neg, about-sum, abs-neg, above-abs}
 use Rattle.integers.proofs.Machine.{Worth, abs-fits, literal, local, negative, plus, also, fits, stored}
-use Rattle.examples.proofs.show.magnitude.Statement.{statement}
-use Rattle.examples.proofs.show.magnitude.Tie as tie
+use Rattle.example_calls.proofs.show.magnitude.Statement.{statement}
+use Rattle.example_calls.proofs.show.magnitude.Tie as tie
 
 next-is : (x : ℤ) → ltZ x (pos 0) ≡ true → x +ℤ pos 1 ≡ negℤ (pos (mag x))
 next-is x e = omega (arith, readℤ, about x, about-sum x (pos 1), about-neg (pos (mag x)))

@@ -5,8 +5,8 @@ use crate::show::list;
 use crate::show::nines;
 use crate::show::number;
 use crate::show::text;
-use crate::table::numbers;
-use crate::table::room;
+use crate::fields::numbers;
+use crate::fields::room;
 use model::Channel;
 use model::Erasure;
 

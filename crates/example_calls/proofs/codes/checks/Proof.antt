@@ -1,7 +1,7 @@
--- `examples::codes::checks` meets its contract: the place stays within the list. Assumes nothing.
+-- `example_calls::codes::checks` meets its contract: the place stays within the list. Assumes nothing.
 use Rattle.integers.proofs.Prelude.{_≡_, _-_, _≤_, arith, length}
-use Rattle.examples.proofs.codes.checks.Statement.{statement}
-use Rattle.examples.proofs.codes.checks.Tie as tie
+use Rattle.example_calls.proofs.codes.checks.Statement.{statement}
+use Rattle.example_calls.proofs.codes.checks.Tie as tie
 
 abbrev Inv-loop : tie.InvT-loop
 Inv-loop code₀ at count degree step next₀ first₀ j₀ code next first j = (next ≤ length code) × (length code ≡ length code₀) × (first ≤ 65535)

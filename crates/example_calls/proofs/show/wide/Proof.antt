@@ -1,8 +1,8 @@
--- `examples::show::wide` meets its contract. Assumes nothing.
+-- `example_calls::show::wide` meets its contract. Assumes nothing.
 use Rattle.integers.proofs.Prelude.{w16, toZ-ofZ}
 use Rattle.integers.proofs.Machine.{widen}
-use Rattle.examples.proofs.show.wide.Statement.{statement}
-use Rattle.examples.proofs.show.wide.Tie as tie
+use Rattle.example_calls.proofs.show.wide.Statement.{statement}
+use Rattle.example_calls.proofs.show.wide.Tie as tie
 
 cast-result : tie.Need-cast-result
 cast-result c = rw (toZ-ofZ (c .fits .x)) (widen {w = w16} (c .fits .x) tt)

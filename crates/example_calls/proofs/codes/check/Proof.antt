@@ -1,7 +1,7 @@
--- `examples::codes::check` meets its contract: the record has room. Assumes nothing.
+-- `example_calls::codes::check` meets its contract: the record has room. Assumes nothing.
 use Rattle.integers.proofs.Prelude.{_≡_, _-_, needs, length}
-use Rattle.examples.proofs.codes.check.Statement.{statement}
-use Rattle.examples.proofs.codes.check.Tie as tie
+use Rattle.example_calls.proofs.codes.check.Statement.{statement}
+use Rattle.example_calls.proofs.codes.check.Tie as tie
 
 abbrev Inv-loop : tie.InvT-loop
 Inv-loop code at degree first indices₀ i₀ indices i = (length indices ≡ 64)

@@ -11,7 +11,7 @@ use crate::show::number;
 use crate::show::placed;
 use crate::show::text;
 use crate::show::wide;
-use crate::table::numbers;
+use crate::fields::numbers;
 use model::Decoding;
 use model::Ending;
 use model::Settings;

@@ -1,7 +1,7 @@
--- `examples::show::list` meets its contract. Assumes nothing.
+-- `example_calls::show::list` meets its contract. Assumes nothing.
 use Rattle.integers.proofs.Prelude.{_-_, arith}
-use Rattle.examples.proofs.show.list.Statement.{statement}
-use Rattle.examples.proofs.show.list.Tie as tie
+use Rattle.example_calls.proofs.show.list.Statement.{statement}
+use Rattle.example_calls.proofs.show.list.Tie as tie
 
 abbrev Inv-loop : tie.InvT-loop
 Inv-loop name lists which n end i₀ i = Unit {0}

@@ -1,7 +1,7 @@
--- `examples::codes::append` meets its contract: the place stays within the list. Assumes nothing.
+-- `example_calls::codes::append` meets its contract: the place stays within the list. Assumes nothing.
 use Rattle.integers.proofs.Prelude.{_≡_, _-_, _≤_, arith, length}
-use Rattle.examples.proofs.codes.append.Statement.{statement}
-use Rattle.examples.proofs.codes.append.Tie as tie
+use Rattle.example_calls.proofs.codes.append.Statement.{statement}
+use Rattle.example_calls.proofs.codes.append.Tie as tie
 
 abbrev Inv-loop : tie.InvT-loop
 Inv-loop code₀ at s next₀ i₀ i-end code next i = (next ≤ length code) × (length code ≡ length code₀) × (i-end ≡ length s)

@@ -9,8 +9,8 @@ use crate::show::nines;
 use crate::show::number;
 use crate::show::placed;
 use crate::show::text;
-use crate::table::numbers;
-use crate::table::room;
+use crate::fields::numbers;
+use crate::fields::room;
 use model::Reading;
 use model::Verdict;
 
