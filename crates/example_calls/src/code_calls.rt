@@ -1,5 +1,7 @@
 // Examples of calls with code records: the reader, the splitting, the codeword test and the extension.
 use crate::codes;
+use crate::fields::numbers;
+use crate::fields::room;
 use crate::show::Which;
 use crate::show::ends;
 use crate::show::index;
@@ -9,8 +11,6 @@ use crate::show::nines;
 use crate::show::number;
 use crate::show::placed;
 use crate::show::text;
-use crate::fields::numbers;
-use crate::fields::room;
 use model::Reading;
 use model::Verdict;
 

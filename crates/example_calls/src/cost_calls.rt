@@ -1,12 +1,12 @@
 // Examples of calls with samples, costs and words: the channel front, the reflector, the sum of two words, chains.
 ghost use Prim.Native.Nat.{_≤_};
+use crate::fields::numbers;
+use crate::fields::room;
 use crate::show::Which;
 use crate::show::list;
 use crate::show::nines;
 use crate::show::number;
 use crate::show::text;
-use crate::fields::numbers;
-use crate::fields::room;
 use model::Channel;
 use model::Erasure;
 

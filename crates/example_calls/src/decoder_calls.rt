@@ -1,5 +1,6 @@
 // Examples of calls of the decoder.
 use crate::cost_calls::costs;
+use crate::fields::numbers;
 use crate::show::Lists;
 use crate::show::Which;
 use crate::show::ends;
@@ -11,7 +12,6 @@ use crate::show::number;
 use crate::show::placed;
 use crate::show::text;
 use crate::show::wide;
-use crate::fields::numbers;
 use model::Decoding;
 use model::Ending;
 use model::Settings;

@@ -1,10 +1,10 @@
 // An example of a table, and the call that it is for. What is printed of it is its label, the answer and the lists after the call. Their entries are 9
 // before, and a field `room` says how many are lent.
+use crate::group_calls;
 use example_calls::code_calls;
 use example_calls::cost_calls;
 use example_calls::decoder_calls;
 use example_calls::encoder_calls;
-use crate::group_calls;
 use example_calls::show::text;
 use model::Channel;
 

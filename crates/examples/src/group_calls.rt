@@ -5,12 +5,12 @@ ghost use Prim.Native.Nat.{_≤_};
 ghost use lib.ListN.{length};
 use example_calls::decoder_calls::each_list;
 use example_calls::decoder_calls::settings;
+use example_calls::fields::numbers;
 use example_calls::show::Lists;
 use example_calls::show::lent;
 use example_calls::show::number;
 use example_calls::show::placed;
 use example_calls::show::text;
-use example_calls::fields::numbers;
 use model::DecodeAnswer;
 use model::GroupAnswer;
 
