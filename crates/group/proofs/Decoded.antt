@@ -26,7 +26,7 @@ use Rattle.model.proofs.Causes.{stays}
 use Rattle.model.proofs.Groups.{passes, group-is, frame-cause, own-lists}
 use Rattle.model.proofs.GroupPromises.{group-call}
 use Rattle.group_step.specs.Frames.{partState, endedIn}
-use Rattle.group.specs.Ends.{planOf, endOf, Ran, answerOf, wordLeft}
+use Rattle.group.specs.Ends.{planOf, endGiven, Ran, answerOf, wordLeft}
 
 -- a list that is written to one that is not longer
 whole : {A : Type 0} (new old : List A) → length old ≤ length new → written new old ≡ new
@@ -38,7 +38,7 @@ part-short size f l = simp length-take (omega arith)
 -- ---- one frame: what the definition says of it, from how it ended
 module _ (k : Code) (o : Settings) (costs : List ℤ) (l : Lists) where
   abbrev ended : Ended
-  ended = endOf k o costs (record { sums = l .sums; values = l .values; rows = l .rows })
+  ended = endGiven k o costs (record { sums = l .sums; values = l .values; rows = l .rows })
 
   record FrameEnd : Type 0 where
     sums : frameDecoded k o costs l .lists .sums ≡ ended .last .sums
@@ -91,7 +91,7 @@ module _ (b : List ℕ) (o : Settings) (F : ℕ) (costs : List ℤ) (l : Lists) 
 
     -- frame f's part of a list, which P picks
     by-end : {A : Type 0} (P : Ended → A) (f : ℕ) → f < F → {x : A}
-        → x ≡ P (endOf k o (part (k .bits) f costs) (partState (planOf k F) (l .sums) (l .values) (l .rows) f))
+        → x ≡ P (endGiven k o (part (k .bits) f costs) (partState (planOf k F) (l .sums) (l .values) (l .rows) f))
         → P (endedIn (planOf k F) ks settled (m .sums) (m .values) (m .rows) f) ≡ x
     by-end P f h e = ap P (ran .ended f h) ∙ sym e
 

@@ -28,7 +28,7 @@ use Rattle.lane_step.specs.Step.{runs}
 use Rattle.group_step.specs.Frames.{partState, endedIn, Held, Marks}
 use Rattle.lane_step.specs.Step.{systemFor}
 use Rattle.group_run.specs.Given.{Given}
-use Rattle.group.specs.Ends.{planOf, endOf, Ran}
+use Rattle.group.specs.Ends.{planOf, endGiven, Ran}
 
 -- ---- the lanes
 pub lanes-enough : (F : ℕ) → F ≤ mostFrames → F ≤ lanes F
@@ -204,7 +204,7 @@ module _ {k : Code} {o : Settings} {F : ℕ} {p : Plan} {costs : List ℤ} {ts c
     cond-not true x y = refl
     cond-not false x y = refl
 
-    frame-ended : (f : ℕ) → f < F → endedIn p ks′ settled′ (S′ ++ drop n S) (c′ ++ drop n c) (s′ ++ drop m s) f ≡ endOf k o (part (p .bits) f costs) (partState p S c s f)
+    frame-ended : (f : ℕ) → f < F → endedIn p ks′ settled′ (S′ ++ drop n S) (c′ ++ drop n c) (s′ ++ drop m s) f ≡ endGiven k o (part (p .bits) f costs) (partState p S c s f)
     frame-ended f h =
         ap (λ (a : State). record { k = getD ks′ f 0; settled = getD settled′ f 0; last = a }) (back f h)
         ∙ ended f h k
@@ -217,7 +217,7 @@ module _ {k : Code} {o : Settings} {F : ℕ} {p : Plan} {costs : List ℤ} {ts c
 
     pub ran : Ran k o F costs ks′ settled′ S c s (S′ ++ drop n S) (c′ ++ drop n c) (s′ ++ drop m s)
     ran = record {
-      ended = subst (λ (q : Plan). (f : ℕ) → f < F → endedIn q ks′ settled′ (S′ ++ drop n S) (c′ ++ drop n c) (s′ ++ drop m s) f ≡ endOf k o (part (q .bits) f costs) (partState q S c s f)) (b .plan) frame-ended;
+      ended = subst (λ (q : Plan). (f : ℕ) → f < F → endedIn q ks′ settled′ (S′ ++ drop n S) (c′ ++ drop n c) (s′ ++ drop m s) f ≡ endGiven k o (part (q .bits) f costs) (partState q S c s f)) (b .plan) frame-ended;
       small = subst (λ (j : ℕ). (f : ℕ) → f < F → some forbidden (part j f costs) ≡ false → Small (part j f costs)) bits-is (b .small);
       sums = rw (← variables-is) (drop-at S′ (drop n S) n (held .sums-long));
       values = rw (← variables-is) (drop-at c′ (drop n c) n (held .values-long));

@@ -27,12 +27,12 @@ abbrev pub planOf : Code → ℕ → Plan
 planOf k F = record { lanes = lanes F; triples = triples k; variables = variables k; bits = k .bits }
 
 -- how a frame ended that held a: by its run, or, where a cost is false, with no iteration
-abbrev pub endOf : Code → Settings → List ℤ → State → Ended
-endOf k o costs a = cond (some forbidden costs) (record { k = 0; settled = 0; last = a }) (run quotient (systemOf k) o costs)
+abbrev pub endGiven : Code → Settings → List ℤ → State → Ended
+endGiven k o costs a = cond (some forbidden costs) (record { k = 0; settled = 0; last = a }) (run quotient (systemOf k) o costs)
 
 -- F frames were run in lists that were S, c and s and are now S′, c′ and s′
 pub record Ran (k : Code) (o : Settings) (F : ℕ) (costs : List ℤ) (ks settled : List ℕ) (S c s S′ c′ s′ : List ℤ) : Type 0 where
-  pub ended : (f : ℕ) → f < F → endedIn (planOf k F) ks settled S′ c′ s′ f ≡ endOf k o (part (k .bits) f costs) (partState (planOf k F) S c s f)
+  pub ended : (f : ℕ) → f < F → endedIn (planOf k F) ks settled S′ c′ s′ f ≡ endGiven k o (part (k .bits) f costs) (partState (planOf k F) S c s f)
   pub small : (f : ℕ) → f < F → some forbidden (part (k .bits) f costs) ≡ false → Small (part (k .bits) f costs)
   -- what lies behind the frames stays
   pub sums : drop (F * variables k) S′ ≡ drop (F * variables k) S
