@@ -94,7 +94,7 @@ fn take_out_all(
     }
 }
 
-// Group steps until at most three frames run, which are then taken out. It answers how many. It may be known that all is narrow.
+// Group steps until at most three frames run, which are then taken out. It answers how many steps there were. It may be known that all is narrow.
 fn step_on(
     settings: Settings,
     triples: &[u16],

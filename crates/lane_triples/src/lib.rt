@@ -17,11 +17,9 @@ ghost use Rattle.layout.specs.Transposed.{cell};
 ghost use Rattle.lanes.specs.Lanes.{inLane, Fits, mostNarrow};
 ghost use Rattle.lane_triples.specs.Step.{MayGive, given, withRows, newRow, newShares, MayRenew, narrowPlaces, anyPlaces, isWide, after, MayStep};
 ghost use Rattle.lane_triples.specs.Walk.{Tripled, Narrow, Halves, Due, Walked, SameBeside, Begun, Walks};
+use lanes::MOST_NARROW;
 use lanes::Plan;
 use model::BLANK;
-
-// Up to so many triples a sum has no high part.
-const MOST_NARROW: usize = 8;
 
 // ---- one triple, in four lanes
 

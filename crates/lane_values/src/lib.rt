@@ -14,10 +14,8 @@ ghost use Rattle.lanes.specs.Lanes.{Fits, SumsKept};
 ghost use Rattle.lane_values.specs.Stored.{Parts, Stored};
 ghost use Rattle.lane_values.specs.Valued.{NarrowTables, Counted, WeighedWithin, LaneValued};
 ghost use Rattle.lane_values.specs.Places.{whole, wideValue, narrowValue, auxiliaryValue, wideParts, bitParts, bitValue, Entries};
+use lanes::MOST_NARROW;
 use lanes::Plan;
-
-// Up to so many triples a sum and its divisor are narrow.
-const MOST_NARROW: usize = 8;
 
 // The divisors of 2 to 8 triples, made ready.
 pub fn prepare(ratio: u32, limits: &mut [i32], inverses: &mut [u32], raises: &mut [u64])

@@ -4,6 +4,9 @@ ghost use Prim.Native.Nat.{_*_, _≤_};
 ghost use Rattle.model.specs.Limits.{mostTriples, mostVariables};
 ghost use Rattle.lanes.specs.Lanes.{valuesAt, sumsAt, weighedAt, laneSize};
 
+// Up to so many triples a sum has no high part, and its divisor is narrow (specs/Lanes.antt).
+pub const MOST_NARROW: usize = 8;
+
 // How many lanes the work list has, and the sizes of the code: triples, variables and bits.
 pub struct Plan {
     pub lanes: usize,
