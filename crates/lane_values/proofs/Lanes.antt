@@ -70,8 +70,9 @@ module _ (p : Plan) (w : List ℤ) (k : ℕ) where
 
 -- an auxiliary's, in two triples
 pub auxiliary-value-is : {p : Plan} {counts : List ℕ} → Counted p counts → (w : List ℤ) (A i l v : ℕ) → p .bits ≤ v → v < p .variables
-    → quotient (negℤ (pos 256 *ℤ lowPart p i w l v +ℤ pos 0)) (divisor (4 * 2) A) ≡ laneValue p counts A i w l v
-auxiliary-value-is {p} {counts} c w A i l v h k = rw (le-ltb v (p .bits) h, c .auxiliaries v h k, +ℤ-idr (lowPart p i w l v))
+    → quotient (negℤ (pos 256 *ℤ lowPart p i w l v)) (divisor (4 * 2) A) ≡ laneValue p counts A i w l v
+auxiliary-value-is {p} {counts} c w A i l v h k =
+    rw (le-ltb v (p .bits) h, c .auxiliaries v h k, +ℤ-idr (lowPart p i w l v), +ℤ-idr (pos 256 *ℤ lowPart p i w l v))
 
 -- ---- what is known of all lanes, of the entries
 both-lists : (P : ℕ → Type 0) (i : ℕ) → i ≤ 1 → P 0 → P 1 → P i × P (1 - i)

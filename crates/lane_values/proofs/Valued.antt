@@ -105,7 +105,7 @@ module _ {p : Plan} {counts : List ℕ} (A : ℕ) {i : ℕ} {w w₁ w₂ : List 
       let place : p .lanes * sumsAt p i + (p .lanes * v + l) ≡ p .lanes * (sumsAt p i + v) + l = omega arith in
       let sum = ap (at w₁) place ∙ sum-left counts A f list bits l h v k in
       lane-new (p .bits) (p .variables) (begins p i) (auxiliary-places p i) refl refl others l h 0 v (omega arith) m k
-      ∙ ap (λ (z : ℤ). quotient (negℤ (pos 256 *ℤ z +ℤ pos 0)) (divisor (4 * 2) A) +ℤ pos unit) sum
+      ∙ ap (λ (z : ℤ). quotient (negℤ (pos 256 *ℤ z)) (divisor (4 * 2) A) +ℤ pos unit) sum
       ∙ ap (λ (z : ℤ). z +ℤ pos unit) (auxiliary-value-is counted w A i l v m k)
 
   written : (v : ℕ) → v < p .variables → (t : Bool) → ltb v (p .bits) ≡ t

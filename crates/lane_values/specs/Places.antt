@@ -29,7 +29,7 @@ abbrev pub narrowValue : List ℤ → ℕ → ℕ → ℤ → ℕ → ℤ
 narrowValue w sums weighed d k = quotient (negℤ (pos 256 *ℤ at w (sums + k) +ℤ at w (weighed + k))) d +ℤ pos unit
 
 abbrev pub auxiliaryValue : List ℤ → ℕ → ℤ → ℕ → ℤ
-auxiliaryValue w sums d k = quotient (negℤ (pos 256 *ℤ at w (sums + k) +ℤ pos 0)) d +ℤ pos unit
+auxiliaryValue w sums d k = quotient (negℤ (pos 256 *ℤ at w (sums + k))) d +ℤ pos unit
 
 -- of the bit that entry k belongs to
 abbrev pub bitValue : Plan → List ℕ → ℕ → ℕ → List ℤ → ℕ → ℤ

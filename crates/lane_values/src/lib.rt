@@ -81,7 +81,7 @@ fn write_auxiliaries(
 {
     for i in from..to {
         let s = work[sums + i];
-        work[values + i] = quotient::divide_narrow(s, 0, limit, inverse, raise);
+        work[values + i] = quotient::divide_alone(s, limit, inverse, raise);
         work[next + i] = 0;
     }
 }

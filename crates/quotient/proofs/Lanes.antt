@@ -2,13 +2,14 @@
 use Rattle.integers.proofs.Prelude.{_≡_, refl, sym, ap, _∙_, ℕ, suc, _+_, _-_, _*_, _/_, _^_, _≤_, _<_, arith, decLt, ℤ, pos, negsuc, natAbs, negℤ, _+ℤ_, _-ℤ_, _*ℤ_, w32, toZ, ofZ}
 use native.Mathlib.Omega.{by-contra}
 use native.Mathlib.Nat.{mul-le-mul, mul-le-mul-left}
+use lib.IntN.{+ℤ-idr}
 use lib.Signed.{shrZ}
 use mir.Val.{SFits}
 use Rattle.integers.specs.Parts.{up, dn}
 use Rattle.integers.proofs.Linear.{toℕ, readℤ, make-≡, about, about-neg, about-sum, abs-difference}
 use Rattle.integers.proofs.Machine.{Worth, param}
 use Rattle.quotient.specs.Quotient.{unit, quotient}
-use Rattle.quotient.specs.Narrowed.{restOf, dividendOf, Narrowed, narrow-by, narrow-of}
+use Rattle.quotient.specs.Narrowed.{gapOf, restOf, dividendOf, Narrowed, narrow-by, narrow-of}
 use Rattle.quotient.proofs.Magnitudes.{divisor-is, limit-above, limit-below}
 use Rattle.quotient.proofs.Products.{inverseOf, whole, quotients}
 
@@ -149,6 +150,13 @@ module _ (d : ℕ) (s w : ℤ) where
           (make-≡ opposite (negℤ total) (omega (arith, opposite-is, total-is, about-neg total, lifted-is, rest-parts w, rest-most w, about (rest w), floor-is w)))
 
 -- ---- both
+-- the limit, whatever it is made ready for
+pub limit-most : {den limit : ℤ} {inverse raise : ℕ} → Narrowed den limit inverse raise → natAbs limit ≤ 64 * 8192
+limit-most {den} p = omega (arith, readℤ, ap natAbs (p .limit-is), p .most, about den)
+
+pub limit-above-0 : {den limit : ℤ} {inverse raise : ℕ} → Narrowed den limit inverse raise → limit ≡ pos (natAbs limit)
+limit-above-0 p = p .limit-is ∙ ap pos (sym (ap natAbs (p .limit-is)))
+
 pub divides : {den limit : ℤ} {inverse raise : ℕ} → Narrowed den limit inverse raise → (s w : ℤ)
     → pos ((dividendOf (natAbs limit) (s +ℤ shrZ w 256) w * inverse + raise) / 2 ^ 42) ≡ quotient (negℤ (pos 256 *ℤ s +ℤ w)) den +ℤ pos unit
 divides {den} {limit} {inverse} {raise} p s w =
@@ -158,3 +166,8 @@ divides {den} {limit} {inverse} {raise} p s w =
     rw (p .limit-is)
     (narrow-of (p .stands) .quotients (n d s w) (n-most d s w)
     ∙ ap (λ (q : ℤ). q +ℤ pos unit) (ap (quotient (opposite d s w)) (b .2) ∙ limited d s w k ∙ ap (quotient (negℤ (total d s w))) (sym (b .2))))
+
+-- where there is no w
+pub divides-alone : {den limit : ℤ} {inverse raise : ℕ} → Narrowed den limit inverse raise → (s : ℤ)
+    → pos (((256 * gapOf (natAbs limit) s + 255) * inverse + raise) / 2 ^ 42) ≡ quotient (negℤ (pos 256 *ℤ s)) den +ℤ pos unit
+divides-alone {den} p s = rw (+ℤ-idr s, +ℤ-idr (pos 256 *ℤ s)) at (divides p s (pos 0))

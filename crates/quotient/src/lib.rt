@@ -141,3 +141,20 @@ pub fn divide_narrow(s: i32, w: i32, limit: i32, inverse: u32, raise: u64) -> i3
 {
     scaled(dividend(s + (w >> 8), w, limit), inverse, raise)
 }
+
+// (256 n + 255) * inverse + raise at the scale of 2^42, rounded down. Its last eight bits do not matter, so n is multiplied as it is.
+fn scaled_alone(n: i32, inverse: u32, raise: u64) -> i32
+    requires { ⌜ (pos 0 ≤ℤ n) × (natAbs n ≤ 2 ^ 20) × (raise ≤ 2 ^ 41) ⌝ }
+    ensures { λ r. ⌜ r ≡ pos (((256 * natAbs n + 255) * inverse + raise) / 2 ^ 42) ⌝ }
+{
+    let rest = (255 * (inverse as u64) + raise) >> 8;
+    (((n as u32 as u64) * (inverse as u64) + rest) >> 34) as i32
+}
+
+// The same of -(256 s) / den, where there is no w.
+pub fn divide_alone(s: i32, limit: i32, inverse: u32, raise: u64) -> i32
+    requires { ⌜ (natAbs s ≤ 2 ^ 31 - 2 ^ 24) × ((den : ℤ) × Narrowed den limit inverse raise) ⌝ }
+    ensures { λ r. ⌜ ((den : ℤ) → Narrowed den limit inverse raise → r ≡ quotient (negℤ (pos 256 *ℤ s)) den +ℤ pos unit) ⌝ }
+{
+    scaled_alone(gap(s, limit), inverse, raise)
+}

@@ -59,23 +59,23 @@ module _ (c : tie.After-s Inv-loop μ-loop) where
       kept w32 _ (c .s .given)
       ∙ ahead (parts s) (omega arith) (turn now .loop .inv .2 (divisor s .0) (divisor s .1)) 2 (turn now .loop .i) (omega arith) (omega arith) (omega arith)
 
-divide-narrow-requires : tie.Need-divide-narrow-requires Inv-loop μ-loop
-divide-narrow-requires c κs =
+divide-alone-requires : tie.Need-divide-alone-requires Inv-loop μ-loop
+divide-alone-requires c κs =
     let l = turn (now c) in
     let given = start l .pre .1 .0 (l .loop .i) (l .loop .inv .0) (now c .loop-test .taken) in
-    rw (sum-is c) (given, omega arith, divisor (start l))
+    rw (sum-is c) (given, divisor (start l))
 
 loop-again : tie.Need-loop-again Inv-loop μ-loop
 loop-again c =
     let l = turn (now (c .before)) in
     let s = start l in
-    let r = c .divide-narrow in (
+    let r = c .divide-alone in (
       omega arith,
       omega arith,
       λ den p.
           store-next (parts s) (auxiliaryValue (s .args .work .now) (s .args .sums) den) (l .loop .i) (toZ w32 (ofZ w32 (r .result)))
           (read-back w32 (r .ok)
-          (r .ensures den p ∙ ap (λ (y : ℤ). quotient (negℤ (pos 256 *ℤ y +ℤ pos 0)) den +ℤ pos unit) (sum-is (c .before))))
+          (r .ensures den p ∙ ap (λ (y : ℤ). quotient (negℤ (pos 256 *ℤ y)) den +ℤ pos unit) (sum-is (c .before))))
           (now (c .before) .loop-test .taken) (l .loop .work) (long l) 2 (omega arith) (l .loop .inv .0) (l .loop .inv .2 den p),
     )
 
@@ -89,7 +89,7 @@ pub write-auxiliaries-spec : {M : Type 1} → statement M
 write-auxiliaries-spec =
     tie.close (tie.spec Inv-loop μ-loop (λ c. (omega arith, c .pre .0 .0, λ den p. nothing-stored (omega arith)))
     (λ c. let h = places c .2 in search needs) (λ c. let h = places c .2 in search needs) (λ c. places c .2)
-    divide-narrow-requires
+    divide-alone-requires
     (λ c. let h = places (now (c .before)) .0 in search needs) (λ c. let h = places (now (c .before)) .0 in search needs) (λ c. places (now (c .before)) .0)
     (λ c. let h = places (now (c .before)) .1 in search needs) (λ c. let h = places (now (c .before)) .1 in search needs)
     (λ c. let h = places (now (c .before)) .1 in search needs)

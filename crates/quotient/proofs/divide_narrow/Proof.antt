@@ -1,10 +1,10 @@
 -- `quotient::divide_narrow` meets its contract. Assumes nothing.
-use Rattle.integers.proofs.Prelude.{_≡_, sym, ap, _∙_, ℕ, _+_, _-_, _*_, _^_, _≤_, _<_, arith, ℤ, pos, natAbs, _+ℤ_, w32, toZ, ofZ}
+use Rattle.integers.proofs.Prelude.{_≡_, _∙_, ℕ, _+_, _-_, _*_, _^_, _≤_, _<_, arith, ℤ, pos, natAbs, _+ℤ_, w32, toZ, ofZ}
 use lib.Signed.{shrZ}
-use Rattle.integers.proofs.Linear.{readℤ, about}
+use Rattle.integers.proofs.Linear.{readℤ}
 use Rattle.integers.proofs.Machine.{Worth, param, also, plus, fits, stored, read-back}
 use Rattle.quotient.specs.Narrowed.{dividendOf, narrow-of}
-use Rattle.quotient.proofs.Lanes.{w-is, shifted, divides}
+use Rattle.quotient.proofs.Lanes.{limit-most, limit-above-0, w-is, shifted, divides}
 use Rattle.quotient.proofs.divide_narrow.Statement.{statement}
 use Rattle.quotient.proofs.divide_narrow.Tie as tie
 
@@ -15,12 +15,8 @@ module _ (s : tie.Start) where
   abbrev w : ℤ
   w = s .args .w
 
-  -- for the divisor that the condition has
-  limit-most : natAbs limit ≤ 64 * 8192
-  limit-most = let p = s .pre .2 .1 in omega (arith, readℤ, ap natAbs (p .limit-is), p .most, about (s .pre .2 .0))
-
   limit-is : Worth (toZ w32 (ofZ w32 limit)) (pos (natAbs limit)) (64 * 8192)
-  limit-is = let e = s .pre .2 .1 .limit-is in also (param w32 limit (64 * 8192) tt limit-most) (e ∙ ap pos (sym (ap natAbs e)))
+  limit-is = let p = s .pre .2 .1 in also (param w32 limit (64 * 8192) tt (limit-most p)) (limit-above-0 p)
 
   sum : Worth (toZ w32 (ofZ w32 (s .args .s)) +ℤ toZ w32 (ofZ w32 (shrZ (toZ w32 (ofZ w32 w)) 256))) (s .args .s +ℤ shrZ w 256) (2 ^ 31 - 2 ^ 24 + 2 ^ 23)
   sum = plus (param w32 (s .args .s) (2 ^ 31 - 2 ^ 24) tt (s .pre .0)) (stored (shifted w (s .pre .1)) w32 tt)
@@ -29,11 +25,11 @@ module _ (s : tie.Start) where
   n = dividendOf (natAbs limit) (s .args .s +ℤ shrZ w 256) w
 
   n-most : n < 2 ^ 29
-  n-most = omega (arith, limit-most)
+  n-most = omega (arith, limit-most (s .pre .2 .1))
 
 dividend-requires : tie.Need-dividend-requires
 dividend-requires c κs =
-    rw (stored (sum c) w32 tt .is, w-is (w c) (c .pre .1) .is, limit-is c .is) (sum c .within, c .pre .1, omega (arith, readℤ), limit-most c)
+    rw (stored (sum c) w32 tt .is, w-is (w c) (c .pre .1) .is, limit-is c .is) (sum c .within, c .pre .1, omega (arith, readℤ), limit-most (c .pre .2 .1))
 
 n-is : (c : tie.After-dividend) → toZ w32 (ofZ w32 (c .dividend .result)) ≡ pos (n (c .before))
 n-is c =
