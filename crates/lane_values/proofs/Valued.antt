@@ -8,15 +8,11 @@ use Rattle.lanes.specs.declared.Plan.{Plan}
 use Rattle.lanes.specs.Lanes.{inLane, valuesAt, sumsAt, weighedAt, lowPart, Fits}
 use Rattle.lane_values.specs.Stored.{Parts, Stored}
 use Rattle.lane_values.specs.Valued.{Counted, laneValue, LaneValued}
-use Rattle.lane_values.specs.Places.{bitParts, auxiliaryValue, bitValue}
+use Rattle.lane_values.specs.Places.{bitParts, auxiliaryParts, auxiliaryValue, bitValue}
 use Rattle.lane_values.proofs.Bits.{some-lanes, variable-of}
 use Rattle.lane_values.proofs.Lanes.{lane-of, lane-new, lane-old, low-is, bit-value-is, auxiliary-value-is}
 
 -- ---- where the parts begin
--- in all lanes together, of the auxiliaries: c, the sums that come next and those that are read
-abbrev auxiliaryParts : Plan → ℕ → List ℕ
-auxiliaryParts p i = let L = p .lanes in L * valuesAt p ∷ L * sumsAt p (1 - i) ∷ L * sumsAt p i ∷ []
-
 -- in a lane: those of c and of the sums that come next, low and high
 abbrev begins : Plan → ℕ → ℕ → ℕ
 begins p i q = getD (valuesAt p ∷ sumsAt p (1 - i) ∷ (sumsAt p (1 - i) + p .variables) ∷ []) q 0
@@ -66,12 +62,12 @@ module _ {p : Plan} (counts : List ℕ) (A : ℕ) {i : ℕ} {w w₁ : List ℤ} 
   sum-left : (l : ℕ) → l < p .lanes → (v : ℕ) → v < p .variables → lowPart p i w₁ l v ≡ lowPart p i w l v
   sum-left l h v k = bits-leave l h (sumsAt p i + v) (λ u n e. omega (arith, f .bits)) (λ u n e. lists-apart p i list v u (omega arith) n e)
 
-  pub sums-left : {sums : ℕ} → sums ≡ p .lanes * sumsAt p i → (n k : ℕ) → k < p .lanes * p .variables → natAbs (at w (p .lanes * sumsAt p i + k)) ≤ n
-      → natAbs (at w₁ (sums + k)) ≤ n
-  sums-left d n k m t =
+  pub sums-left : (n k : ℕ) → k < p .lanes * p .variables → natAbs (at w (p .lanes * sumsAt p i + k)) ≤ n
+      → natAbs (at w₁ (p .lanes * sumsAt p i + k)) ≤ n
+  sums-left n k m t =
       let some = some-lanes f in
       let e = sum-left (k % p .lanes) (mod-lt k some) (k / p .lanes) (variable-of {v = 0} some (omega arith) m .1) in
-      rw (d, sym (low-is p w₁ k i) ∙ e ∙ low-is p w k i) t
+      rw (sym (low-is p w₁ k i) ∙ e ∙ low-is p w k i) t
 
 module _ {p : Plan} {counts : List ℕ} (A : ℕ) {i : ℕ} {w w₁ w₂ : List ℤ} (f : Fits p w) (list : i ≤ 1) (counted : Counted p counts)
     (bits : Stored 3 (bitParts p i) (bitValue p counts A i w) 0 (p .lanes * p .bits) w w₁)

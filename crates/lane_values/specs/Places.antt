@@ -17,6 +17,10 @@ wideParts values next sums apart weighed = values ∷ next ∷ (next + apart) �
 abbrev pub bitParts : Plan → ℕ → List ℕ
 bitParts p i = let L = p .lanes in wideParts (L * valuesAt p) (L * sumsAt p (1 - i)) (L * sumsAt p i) (L * p .variables) (L * weighedAt p)
 
+-- of the auxiliaries, whose sums have no high part, and which have no W × L
+abbrev pub auxiliaryParts : Plan → ℕ → List ℕ
+auxiliaryParts p i = let L = p .lanes in L * valuesAt p ∷ L * sumsAt p (1 - i) ∷ L * sumsAt p i ∷ []
+
 -- what is divided, of parts that begin at sums, high and weighed
 abbrev pub whole : List ℤ → ℕ → ℕ → ℕ → ℕ → ℤ
 whole w sums high weighed k = pos 256 *ℤ (at w (sums + k) +ℤ pos (2 ^ 14) *ℤ at w (high + k)) +ℤ at w (weighed + k)

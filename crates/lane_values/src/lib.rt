@@ -10,10 +10,10 @@ ghost use Rattle.quotient.specs.Narrowed.{Narrowed};
 ghost use Rattle.model.specs.Limits.{mostChecks, mostWeight, mostRatio, mostCost, mostNumerator};
 ghost use Rattle.model.specs.Iteration.{at, divisor};
 ghost use Rattle.values.specs.Divisors.{Tables};
-ghost use Rattle.lanes.specs.Lanes.{Fits, SumsKept};
+ghost use Rattle.lanes.specs.Lanes.{sumsAt, Fits, SumsKept};
 ghost use Rattle.lane_values.specs.Stored.{Parts, Stored};
 ghost use Rattle.lane_values.specs.Valued.{NarrowTables, Counted, WeighedWithin, LaneValued};
-ghost use Rattle.lane_values.specs.Places.{whole, wideValue, narrowValue, auxiliaryValue, wideParts, bitParts, bitValue, Entries};
+ghost use Rattle.lane_values.specs.Places.{whole, wideValue, narrowValue, auxiliaryValue, wideParts, bitParts, auxiliaryParts, bitValue, Entries};
 use lanes::MOST_NARROW;
 use lanes::Plan;
 
@@ -246,7 +246,43 @@ fn write_all_bits(
     }
 }
 
-// "First every c is renewed": from list i of the sums, in all lanes; the other list is cleared. The bits, then the auxiliaries, which are in two triples.
+// All auxiliaries. Each is in two triples; the count is read where it stands.
+fn write_all_auxiliaries(
+    counts: &[u16],
+    limits32: &[i32],
+    inverses32: &[u32],
+    raises: &[u64],
+    p: Plan,
+    i: usize,
+    work: &mut [i32],
+)
+    requires { ⌜ Fits p (now work) × (i ≤ 1) × Counted p (now counts) ⌝ }
+    requires { ⌜ (length (now limits32) ≡ 9) × (length (now inverses32) ≡ 9) × (length (now raises) ≡ 9) ⌝ }
+    requires { ⌜ ((ratio : ℕ) × NarrowTables ratio (now limits32) (now inverses32) (now raises)) ⌝ }
+    requires { ⌜ ((k : ℕ) → p .lanes * p .bits ≤ k → k < p .lanes * p .variables
+        → natAbs (at (now work) (p .lanes * sumsAt p i + k)) ≤ 2 ^ 31 - 2 ^ 24) ⌝ }
+    ensures { λ _. ⌜ ((ratio : ℕ) → NarrowTables ratio (now (limits32 .entry)) (now (inverses32 .entry)) (now (raises .entry))
+        → Stored 2 (auxiliaryParts p i) (auxiliaryValue (now (work .entry)) (p .lanes * sumsAt p i) (divisor (4 * 2) ratio))
+        (p .lanes * p .bits) (p .lanes * p .variables) (now (work .entry)) (now (work .exit))) ⌝ }
+{
+    let first = p.bits;
+    if first < p.variables {
+        let count = slices::index(counts[first]);
+        write_auxiliaries(
+            work,
+            lanes::sums_at(p, i),
+            lanes::values_at(p),
+            lanes::sums_at(p, 1 - i),
+            p.lanes * first,
+            p.lanes * p.variables,
+            limits32[count],
+            inverses32[count],
+            raises[count],
+        );
+    }
+}
+
+// "First every c is renewed": from list i of the sums, in all lanes; the other list is cleared. The bits, then the auxiliaries.
 pub fn write_values(
     counts: &[u16],
     ratio: u32,
@@ -279,15 +315,5 @@ pub fn write_values(
         i,
         work,
     );
-    write_auxiliaries(
-        work,
-        lanes::sums_at(p, i),
-        lanes::values_at(p),
-        lanes::sums_at(p, 1 - i),
-        p.lanes * p.bits,
-        p.lanes * p.variables,
-        limits32[2],
-        inverses32[2],
-        raises[2],
-    );
+    write_all_auxiliaries(counts, limits32, inverses32, raises, p, i, work);
 }
