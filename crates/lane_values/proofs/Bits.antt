@@ -11,7 +11,7 @@ use Rattle.model.specs.Iteration.{at, divisor}
 use Rattle.lanes.specs.declared.Plan.{Plan}
 use Rattle.lanes.specs.Lanes.{valuesAt, sumsAt, weighedAt, mostNarrow, Fits}
 use Rattle.lane_values.specs.Stored.{Parts, stored, Stored}
-use Rattle.lane_values.specs.Valued.{Counted}
+use Rattle.lane_values.specs.Valued.{Same, Counted}
 use Rattle.lane_values.specs.Places.{wideParts, bitParts, wideValue, narrowValue, bitValue, Entry, Entries}
 use Rattle.lane_values.proofs.Stored.{apart-at, stored-join, ahead, stored-same}
 
@@ -111,7 +111,7 @@ pub record Handed (p : Plan) (counts : List ℕ) (i v end : ℕ) (w : List ℤ) 
   pub counted : Counted p counts
   pub some : v < end
   pub last : end ≤ p .bits
-  pub same : (u : ℕ) → v ≤ u → u < end → getD counts u 0 ≡ getD counts v 0
+  pub same : Same counts v v end
   pub entries : Entries p counts i w (p .lanes * v) (p .lanes * end)
   pub values-is : values ≡ p .lanes * valuesAt p
   pub next-is : next ≡ p .lanes * sumsAt p (1 - i)

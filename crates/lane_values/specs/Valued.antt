@@ -16,6 +16,10 @@ abbrev pub NarrowTables : ℕ → List ℤ → List ℕ → List ℕ → Type 0
 NarrowTables A limits inverses raises =
     (c : ℕ) → 2 ≤ c → c ≤ mostNarrow → Narrowed (divisor (4 * c) A) (at limits c) (getD inverses c 0) (getD raises c 0)
 
+-- the variables from..to are in as many triples as v
+abbrev pub Same : List ℕ → ℕ → ℕ → ℕ → Type 0
+Same counts v from to = (u : ℕ) → from ≤ u → u < to → getD counts u 0 ≡ getD counts v 0
+
 -- the counts of the variables: an auxiliary is in two triples
 pub record Counted (p : Plan) (counts : List ℕ) : Type 0 where
   pub long : length counts ≡ p .variables

@@ -1,5 +1,6 @@
 // c of all variables (document 01, 'One iteration') in all lanes of a group. Variables in 2 to 8 triples are divided by 32-bit factors; the others as in a single
 // run, one lane after the other.
+ghost use mathlib.Core.Bool.{true};
 ghost use mathlib.Core.List.{[], _∷_};
 ghost use mathlib.Core.Path.{_≡_};
 ghost use Prim.Native.Nat.{ℕ, _+_, _-_, _*_, _^_, _≤_, _<_};
@@ -12,10 +13,13 @@ ghost use Rattle.model.specs.Iteration.{at, divisor};
 ghost use Rattle.values.specs.Divisors.{Tables};
 ghost use Rattle.lanes.specs.Lanes.{sumsAt, Fits, SumsKept};
 ghost use Rattle.lane_values.specs.Stored.{Parts, Stored};
-ghost use Rattle.lane_values.specs.Valued.{NarrowTables, Counted, WeighedWithin, LaneValued};
+ghost use Rattle.lane_values.specs.Valued.{NarrowTables, Same, Counted, WeighedWithin, LaneValued};
 ghost use Rattle.lane_values.specs.Places.{whole, wideValue, narrowValue, auxiliaryValue, wideParts, bitParts, auxiliaryParts, bitValue, Entries};
 use lanes::MOST_NARROW;
 use lanes::Plan;
+
+// So many counts are compared at once.
+const BLOCK: usize = 64;
 
 // The divisors of 2 to 8 triples, made ready.
 pub fn prepare(ratio: u32, limits: &mut [i32], inverses: &mut [u32], raises: &mut [u64])
@@ -129,12 +133,48 @@ fn write_wide(
     }
 }
 
+// Whether the variables from..to are in as many triples as v. It has no way out, so that the compiler compares several at once.
+fn all_as(counts: &[u16], v: usize, from: usize, to: usize) -> bool
+    requires { ⌜ (v < length (now counts)) × (from ≤ to) × (to ≤ length (now counts)) ⌝ }
+    ensures { λ r. ⌜ (r ≡ true → Same (now (counts .entry)) v from to) ⌝ }
+{
+    let mut same = true;
+    for u in from..to {
+        same = same & (counts[u] == counts[v]);
+    }
+    same
+}
+
+// Where a block from u on ends.
+fn block_end(u: usize, end: usize) -> usize
+    requires { ⌜ u ≤ end ⌝ }
+    ensures { λ r. ⌜ (u ≤ r) × (r ≤ end) × (u < end → u < r) ⌝ }
+{
+    if end - u < BLOCK { end } else { u + BLOCK }
+}
+
+// From v on, before `end`, the blocks of variables that are all in as many triples as v: where they end.
+fn same_blocks(counts: &[u16], v: usize, end: usize) -> usize
+    requires { ⌜ (v < end) × (end ≤ length (now counts)) ⌝ }
+    ensures { λ e. ⌜ (v < e) × (e ≤ end) × Same (now (counts .entry)) v v e ⌝ }
+{
+    let mut u = v + 1;
+    while u < end {
+        let e = block_end(u, end);
+        if !all_as(counts, v, u, e) {
+            return u;
+        }
+        u = e;
+    }
+    end
+}
+
 // Where the variables from v on, before `end`, that are in as many triples as v end.
 fn same_until(counts: &[u16], v: usize, end: usize) -> usize
     requires { ⌜ (v < end) × (end ≤ length (now counts)) ⌝ }
-    ensures { λ e. ⌜ (v < e) × (e ≤ end) × ((u : ℕ) → v ≤ u → u < e → getD (now (counts .entry)) u 0 ≡ getD (now (counts .entry)) v 0) ⌝ }
+    ensures { λ e. ⌜ (v < e) × (e ≤ end) × Same (now (counts .entry)) v v e ⌝ }
 {
-    let mut u = v + 1;
+    let mut u = same_blocks(counts, v, end);
     while u < end {
         if counts[u] != counts[v] {
             return u;
@@ -162,7 +202,7 @@ fn write_bits(
     requires { ⌜ Fits p (now work) × (i ≤ 1) × (ratio ≤ mostRatio) × Counted p (now counts) ⌝ }
     requires { ⌜ (length (now limits32) ≡ 9) × (length (now inverses32) ≡ 9) × (length (now raises) ≡ 9) ⌝ }
     requires { ⌜ NarrowTables ratio (now limits32) (now inverses32) (now raises) × Tables ratio (now limits) (now inverses) ⌝ }
-    requires { ⌜ (v < end) × (end ≤ p .bits) × ((u : ℕ) → v ≤ u → u < end → getD (now counts) u 0 ≡ getD (now counts) v 0) ⌝ }
+    requires { ⌜ (v < end) × (end ≤ p .bits) × Same (now counts) v v end ⌝ }
     requires { ⌜ Entries p (now counts) i (now work) (p .lanes * v) (p .lanes * end) ⌝ }
     ensures { λ _. ⌜ Stored 3 (bitParts p i) (bitValue p (now (counts .entry)) ratio i (now (work .entry))) (p .lanes * v) (p .lanes * end)
         (now (work .entry)) (now (work .exit)) ⌝ }
