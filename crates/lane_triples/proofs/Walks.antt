@@ -1,5 +1,5 @@
 -- The walk: a triple in one four of lanes after the other, and the places of a triple. Assumes nothing.
-use Rattle.integers.proofs.Prelude.{_≡_, refl, sym, ap, subst, _∙_, Bool, false, List, ℕ, suc, _+_, _-_, _*_, _%_, _≤_, _<_, arith, decLt, le-ltb, ne-eqb, T, eqb, ℤ, length, getD}
+use Rattle.integers.proofs.Prelude.{_≡_, refl, sym, ap, subst, _∙_, Bool, false, List, ℕ, suc, _+_, _-_, _*_, _%_, _^_, _≤_, _<_, arith, decLt, le-ltb, ne-eqb, T, eqb, ℤ, length, getD}
 use mathlib.Core.Logic.{_⊎_, inl, inr, ⊎-elim, _≢_}
 use native.Mathlib.Nat.{mul-le-mul}
 use Rattle.model.specs.Limits.{mostTriples}
@@ -10,7 +10,8 @@ use Rattle.lanes.specs.Lanes.{inLane, valuesAt, sumsAt, Fits, mostNarrow}
 use Rattle.lane_triples.specs.Step as Step
 use Rattle.lane_triples.specs.Step.{Places, narrowPlaces, anyPlaces, isWide, after}
 use Rattle.lane_triples.specs.Walk.{Tripled, Narrow, Halves, Due, Walked, InWalk, SameBeside, Course}
-use Rattle.lanes.proofs.Places.{lanes-few, fits-same}
+use Rattle.lanes.proofs.Places.{lanes-few, lane-short, fits-same}
+use Rattle.lane_triples.proofs.Lane.{before-weighed}
 use Rattle.lane_triples.proofs.Step.{Turn, Stands, stepped, stepped-long, stepped-beside}
 
 -- a lane that is as it was
@@ -124,6 +125,15 @@ next-triple a less long same =
 pub product-low : {p : Plan} {w : List ℤ} → Fits p w → (v n : ℕ) → v ≤ n → p .lanes * v ≤ 8 * n
 product-low fits v n h = mul-le-mul (lanes-few fits) h
 
+module _ {p : Plan} {w : List ℤ} {ts counts : List ℕ} {i values next : ℕ} (fits : Fits p w) (course : Course p ts counts i values next) where
+  pub values-low : values ≤ 8 * (4 * mostTriples)
+  values-low = omega (arith, course .at-values, product-low fits (valuesAt p) (4 * mostTriples) (omega (arith, fits .triples)))
+
+  pub next-low : next ≤ 8 * 2 ^ 17
+  next-low =
+      let low : sumsAt p i ≤ 2 ^ 17 = omega (arith, before-weighed p i (course .list), lane-short fits) in
+      omega (arith, course .at-sums, product-low fits (sumsAt p i) (2 ^ 17) low)
+
 -- ---- the places of triple t, in the lanes from h on
 abbrev place : (ℕ → ℕ) → ℕ → ℕ
 place f = Step.three (f 0) (f 1) (f 2)
@@ -171,8 +181,8 @@ module _ {p : Plan} {ts counts : List ℕ} {i values next : ℕ} (course : Cours
   of-three : (f : ℕ → ℕ) (q : ℕ) → q < 3 → place f q ≡ f q
   of-three f = three (λ q. place f q ≡ f q) refl refl refl
 
-  at-entry : {at : ℕ} (a : ℕ) → at ≡ L * a → (q : ℕ) → q < 3 → at + place (λ q. L * m q + h) q ≡ L * (a + m q) + h
-  at-entry a e q l = rw (of-three (λ q. L * m q + h) q l) (omega arith)
+  at-entry : {at : ℕ} (a : ℕ) → at ≡ L * a → (q : ℕ) → q < 3 → at + h + place (λ q. L * m q) q ≡ L * (a + m q) + h
+  at-entry a e q l = rw (of-three (λ q. L * m q) q l) (omega arith)
 
   at-any : {at : ℕ} (a : ℕ) → at ≡ L * a → (q : ℕ) → q < 3 → at + h + L * place m q ≡ L * (a + m q) + h
   at-any a e q l = rw (of-three m q l) (omega arith)
@@ -197,7 +207,7 @@ module _ {p : Plan} {ts counts : List ℕ} {i values next : ℕ} (course : Cours
     variable : (q : ℕ) → q < 3 → m q < p .variables
     variable = three (λ q. m q < p .variables) first-below second-below third-narrow
 
-    pub narrow-stands : {a b c : ℕ} → a ≡ m 0 → b ≡ m 1 → c ≡ m 2 → Stands p ts counts i t h (narrowPlaces (4 * L * t + h) values next (L * a + h) (L * b + h) (L * c + h))
+    pub narrow-stands : {a b c : ℕ} → a ≡ m 0 → b ≡ m 1 → c ≡ m 2 → Stands p ts counts i t h (narrowPlaces (4 * L * t + h) (values + h) (next + h) (L * a) (L * b) (L * c))
     narrow-stands d e f = rw (d, e, f) record {
       rows = omega arith;
       none = λ q l. sym (ne-eqb (m q) blank (λ e. omega (arith, variable q l, named .few)));

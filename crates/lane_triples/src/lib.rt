@@ -189,16 +189,9 @@ fn walk_narrow(
     let w = p.lanes * layout::variable(triples, t, 2);
     let mut l = from;
     while l < to {
-        renew_narrow(
-            work,
-            p.lanes,
-            4 * p.lanes * t + l,
-            values,
-            next,
-            u + l,
-            v + l,
-            w + l,
-        );
+        let value = values + l;
+        let sum = next + l;
+        renew_narrow(work, p.lanes, 4 * p.lanes * t + l, value, sum, u, v, w);
         l += 4;
     }
 }

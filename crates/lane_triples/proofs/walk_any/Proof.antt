@@ -1,16 +1,14 @@
 -- `lane_triples::walk_any` meets its contract: the lanes before l have the triple done, those from l on have not. Assumes nothing.
-use Rattle.integers.proofs.Prelude.{_≡_, ap, subst, _∙_, false, ℕ, suc, _+_, _-_, _*_, _^_, _≤_, _<_, arith, add-one, eqb-false, eqb, length}
+use Rattle.integers.proofs.Prelude.{_≡_, ap, subst, _∙_, false, ℕ, suc, _+_, _-_, _*_, _≤_, _<_, arith, add-one, eqb-false, eqb, length}
 use Rattle.lists.proofs.Tabulated.{length-tab}
 use Rattle.model.specs.Limits.{mostTriples, mostVariables}
 use Rattle.model.specs.Splitting.{blank}
 use Rattle.model.specs.Iteration.{occurrences}
-use Rattle.lanes.specs.Lanes.{valuesAt, sumsAt}
 use Rattle.lane_triples.specs.Step.{Places, anyPlaces}
 use Rattle.lane_triples.specs.Walk.{Course, InWalk}
-use Rattle.lane_triples.proofs.Lane.{before-weighed}
-use Rattle.lanes.proofs.Places.{lanes-few, lane-short}
+use Rattle.lanes.proofs.Places.{lanes-few}
 use Rattle.lane_triples.proofs.Step.{Turn, Stands, may-step}
-use Rattle.lane_triples.proofs.Walks.{InTurn, turn-of, four-more, AtFour, at-first, a-four, lane-low, next-four, product-low, first-below, second-below, third-below, third-most, may-read, any-stands}
+use Rattle.lane_triples.proofs.Walks.{InTurn, turn-of, four-more, AtFour, at-first, a-four, lane-low, next-four, product-low, values-low, next-low, first-below, second-below, third-below, third-most, may-read, any-stands}
 use Rattle.lane_triples.proofs.walk_any.Statement.{statement}
 use Rattle.lane_triples.proofs.walk_any.Tie as tie
 
@@ -34,14 +32,6 @@ module _ (s : tie.Start Inv-loop μ-loop) where
 
   apart-low : s .args .p .lanes * s .args .p .variables ≤ 8 * mostVariables
   apart-low = product-low (s .pre .0 .0) (s .args .p .variables) mostVariables (s .pre .0 .0 .variables)
-
-  values-low : s .args .values ≤ 8 * (4 * mostTriples)
-  values-low = omega (arith, course .at-values, product-low (s .pre .0 .0) (valuesAt (s .args .p)) (4 * mostTriples) (omega (arith, s .pre .0 .0 .triples)))
-
-  next-low : s .args .next ≤ 8 * 2 ^ 17
-  next-low =
-      let low : sumsAt (s .args .p) (s .pre .1 .0) ≤ 2 ^ 17 = omega (arith, before-weighed (s .args .p) (s .pre .1 .0) (course .list), lane-short (s .pre .0 .0)) in
-      omega (arith, course .at-sums, product-low (s .pre .0 .0) (sumsAt (s .args .p) (s .pre .1 .0)) (2 ^ 17) low)
 
   counts-long : length (s .args .counts .now) ≡ s .args .p .variables
   counts-long = ap length (course .tripled .counted) ∙ length-tab (s .args .p .variables) (occurrences (s .args .triples .now) (s .args .p .triples))
@@ -86,7 +76,7 @@ renew-any-requires c κs =
     let third : eqb (n .variable3 .result) blank ≡ false → n .variable3 .result < length (a .counts .now)
     = λ e. omega (arith, counts-long (s l), n .variable3 .ensures, third-below k (a .t) 0 below (λ z. eqb-false (n .variable3 .result) blank e (n .variable3 .ensures ∙ z))) in
     let low = product-low (s l .pre .0 .0) (n .variable3 .result) blank (omega (arith, n .variable3 .ensures, third-most k (a .t) 0 below)) in
-    (may-step (turn l (i .loop-test .taken)) (stands l k), ((first, second, third), (omega (arith, low), omega (arith, values-low (s l), lane i), omega (arith, next-low (s l), lane i), omega (arith, apart-low (s l)))))
+    (may-step (turn l (i .loop-test .taken)) (stands l k), ((first, second, third), (omega (arith, low), omega (arith, values-low (s l .pre .0 .0) k, lane i), omega (arith, next-low (s l .pre .0 .0) k, lane i), omega (arith, apart-low (s l)))))
 
 loop-again : tie.Need-loop-again Inv-loop μ-loop
 loop-again c =
@@ -116,7 +106,7 @@ walk-any-spec =
     (λ c. let s = c .before .before .before .before .before .before in (at-first (s .pre .0 .0) (s .pre .0 .1), λ i k w begin. ((λ l a b. absurd (omega arith)), begin)))
     (λ c. omega (arith, lanes-few (s (c .before .before .before) .pre .0 .0))) (λ c. omega (arith, row-low (s (c .before .before .before))))
     (λ c. omega (arith, row-low (s (c .before .before .before)), lane (c .before .before)))
-    (λ c. omega (arith, values-low (s (c .before .before .before)), lane (c .before .before)))
-    (λ c. omega (arith, next-low (s (c .before .before .before)), lane (c .before .before)))
+    (λ c. let s = s (c .before .before .before) in omega (arith, values-low (s .pre .0 .0) (course s), lane (c .before .before)))
+    (λ c. let s = s (c .before .before .before) in omega (arith, next-low (s .pre .0 .0) (course s), lane (c .before .before)))
     renew-any-requires (λ c. omega (arith, lane (c .before .before .before .before))) (λ c. omega (arith, c .before .before .before .before .loop-test .taken)) loop-again
     (λ c. c .before .loop .inv .0 .long) returns)

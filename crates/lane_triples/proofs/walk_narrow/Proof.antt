@@ -6,7 +6,7 @@ use Rattle.lane_triples.specs.Step.{Places, narrowPlaces}
 use Rattle.lane_triples.specs.Walk.{Narrow, Course, InWalk}
 use Rattle.lanes.proofs.Places.{lanes-few}
 use Rattle.lane_triples.proofs.Step.{Turn, Stands, may-step}
-use Rattle.lane_triples.proofs.Walks.{InTurn, turn-of, four-more, AtFour, at-first, a-four, lane-low, next-four, product-low, first-below, second-below, third-narrow, may-read, narrow-stands}
+use Rattle.lane_triples.proofs.Walks.{InTurn, turn-of, four-more, AtFour, at-first, a-four, lane-low, next-four, product-low, values-low, next-low, first-below, second-below, third-narrow, may-read, narrow-stands}
 use Rattle.lane_triples.proofs.walk_narrow.Statement.{statement}
 use Rattle.lane_triples.proofs.walk_narrow.Tie as tie
 
@@ -55,8 +55,8 @@ module _ (l : tie.At-loop Inv-loop μ-loop) where
   abbrev at-places : Places
   at-places =
       let L = s .args .p .lanes in
-      narrowPlaces (4 * L * s .args .t + l .loop .l) (s .args .values) (s .args .next) (L * named .before .before .before .before .variable .result + l .loop .l)
-      (L * named .before .before .variable2 .result + l .loop .l) (L * named .variable3 .result + l .loop .l)
+      narrowPlaces (4 * L * s .args .t + l .loop .l) (s .args .values + l .loop .l) (s .args .next + l .loop .l)
+      (L * named .before .before .before .before .variable .result) (L * named .before .before .variable2 .result) (L * named .variable3 .result)
 
   stands : {counts : List ℕ} {i : ℕ} → Narrow (s .args .p) (s .args .triples .now) counts → Course (s .args .p) (s .args .triples .now) counts i (s .args .values) (s .args .next)
       → Stands (s .args .p) (s .args .triples .now) counts i (s .args .t) (l .loop .l) at-places
@@ -102,10 +102,9 @@ walk-narrow-spec =
     (λ c κs. reads (c .before .before .before) 1 (omega arith)) (λ c. omega (arith, low-2 (c .before .before .before .before .before) (c .before .variable2 .ensures)))
     (λ c κs. reads (c .before .before .before .before .before) 2 (omega arith)) (λ c. omega (arith, low-3 (start (c .before)) (c .before .variable3 .ensures)))
     (λ c. let s = start (c .before) in (at-first (s .pre .0 .0) (s .pre .0 .1), λ counts i n k w begin. ((λ l a b. absurd (omega arith)), begin)))
+    (λ c. let s = s (c .before) in omega (arith, values-low (s .pre .0 .0) (course s), lane c))
+    (λ c. let s = s (c .before) in omega (arith, next-low (s .pre .0 .0) (course s), lane c))
     (λ c. omega (arith, lanes-few (s (c .before .before .before) .pre .0 .0))) (λ c. omega (arith, row-low (s (c .before .before .before))))
     (λ c. omega (arith, row-low (s (c .before .before .before)), lane (c .before .before)))
-    (λ c. let l = c .before .before .before in omega (arith, low-1 (s l) (named l .before .before .before .before .variable .ensures), lane (c .before .before)))
-    (λ c. let l = c .before .before .before in omega (arith, low-2 (s l) (named l .before .before .variable2 .ensures), lane (c .before .before)))
-    (λ c. let l = c .before .before .before in omega (arith, low-3 (s l) (named l .variable3 .ensures), lane (c .before .before)))
     renew-narrow-requires (λ c. omega (arith, lane (c .before .before .before .before))) (λ c. omega (arith, c .before .before .before .before .loop-test .taken)) loop-again
     (λ c. c .before .loop .inv .0 .long) returns)
