@@ -1,9 +1,10 @@
 -- The lists of a group that tell how far its frames are; which frames run, and how many. Assumes nothing.
-use Rattle.integers.proofs.Prelude.{_≡_, true, false, not, List, [], _∷_, ℕ, zero, suc, _+_, _<_, arith, add-one, eqb, eqb-false, eq-eqb, ne-eqb, not-true, ℤ, length, getD, take}
+use Rattle.integers.proofs.Prelude.{_≡_, refl, Bool, true, false, not, _&&_, _||_, List, [], _∷_, ℕ, zero, suc, _+_, _<_, arith, add-one, ltb-true, ltb, eqb, eqb-false, eq-eqb, ne-eqb, not-true, ℤ, length, getD, take}
 use Rattle.lists.proofs.Entries.{total-next}
+use Rattle.lists.proofs.Tests.{and-left}
 use Rattle.model.specs.Causes.{_if_}
-use Rattle.lane_step.specs.Step.{runs}
-use Rattle.group_run.specs.Course.{countRunning}
+use Rattle.lane_step.specs.Step.{runs, someRun}
+use Rattle.group_run.specs.Course.{countRunning, lanesPay}
 
 -- the lists, by their names
 pub record Lists : Type 0 where
@@ -33,3 +34,11 @@ pub some-runs : (running : List ℕ) → 0 < countRunning running → (f : ℕ) 
 some-runs [] h = absurd (omega arith)
 some-runs (zero ∷ running) h = let r = some-runs running (omega arith) in (suc (r .0), r .1)
 some-runs (suc x ∷ running) h = (0, marked (suc x ∷ running) 0 (λ e. omega arith))
+
+-- where lanes pay, some frame runs
+more-run : (n : ℕ) (one t : Bool) → ltb 3 n ≡ t → (t || (ltb 2 n && one)) ≡ true → 0 < n
+more-run n one true e h = omega (arith, ltb-true 3 n e)
+more-run n one false e h = omega (arith, ltb-true 2 n (and-left (ltb 2 n) one h))
+
+pub paid-runs : (running : List ℕ) → lanesPay running ≡ true → (f : ℕ) × (runs running f ≡ true)
+paid-runs running h = let n = countRunning running in some-runs running (more-run n (not (someRun running 0 && someRun running 4)) (ltb 3 n) refl h)

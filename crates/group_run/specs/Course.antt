@@ -1,9 +1,9 @@
 -- How the frames of a group go on, and how they end. Definitions only.
-use mathlib.Core.Bool.{Bool, true, false, not, cond}
+use mathlib.Core.Bool.{Bool, true, false, not, cond, _&&_, _||_}
 use mathlib.Core.List.{List}
 use mathlib.Core.Path.{_≡_}
 use Prim.Native.Nat.{ℕ, _-_, _*_, _<_}
-use lib.Dec.{eqb}
+use lib.Dec.{eqb, ltb}
 use lib.IntN.{ℤ}
 use Rattle.lists.specs.Tabulated.{part}
 use Rattle.lists.specs.Entries.{total}
@@ -15,12 +15,16 @@ use Rattle.model.specs.Run.{Ended, runFrom, run}
 use Rattle.model.specs.Bounds.{RowsWithin}
 use Rattle.lanes.specs.declared.Plan.{Plan}
 use Rattle.lanes.specs.Lanes.{inLane, weighedAt, Fits}
-use Rattle.lane_step.specs.Step.{runs, systemFor, Weighed, Summed, Small}
+use Rattle.lane_step.specs.Step.{runs, someRun, systemFor, Weighed, Summed, Small}
 use Rattle.group_step.specs.Frames.{endedIn}
 
 -- how many frames run, by their marks
 abbrev pub countRunning : List ℕ → ℕ
 countRunning running = total (λ x. 1 if not (eqb x 0)) running
+
+-- whether lanes take less time than single runs: where four frames run, or three, all in one four
+abbrev pub lanesPay : List ℕ → Bool
+lanesPay running = let n = countRunning running in ltb 3 n || (ltb 2 n && not (someRun running 0 && someRun running 4))
 
 -- how a frame with these costs ends, which runs or has ended as e, d iterations being done: from the start where none is, otherwise from the state that e has
 abbrev pub endFrom : Plan → Settings → Code → List ℕ → List ℤ → ℕ → Bool → Ended → Ended

@@ -21,7 +21,7 @@ use lanes::Plan;
 use model::Settings;
 
 // Whether a frame runs in one of the four lanes from l on.
-fn some_run(running: &[u32], l: usize) -> bool
+pub fn some_run(running: &[u32], l: usize) -> bool
     requires { ⌜ (length (now running) ≡ 8) × (l ≤ 4) ⌝ }
     ensures { λ r. ⌜ r ≡ someRun (now (running .entry)) l ⌝ }
 {

@@ -8,7 +8,7 @@ use interface::{
 use rivals::{Plain, Tuned};
 
 /// How many frames the groups have.
-pub const SIZES: [usize; 4] = [1, 2, 4, MOST_FRAMES];
+pub const SIZES: [usize; 5] = [1, 2, 3, 4, MOST_FRAMES];
 
 /// One call for all frames of a group, or one for each.
 enum Way {
@@ -33,7 +33,7 @@ impl Entrant {
     }
 }
 
-/// The frames of a scenario in groups of one size.
+/// The frames of a scenario in groups of one size, without those that are left over.
 struct Task<'a> {
     code: &'a [u8],
     bits: usize,
@@ -45,7 +45,6 @@ struct Task<'a> {
 impl Task<'_> {
     fn new(scenario: &Scenario, frames: usize) -> Task<'_> {
         let groups = scenario.frames.chunks_exact(frames);
-        assert!(groups.remainder().is_empty(), "groups of {frames}");
         Task {
             code: &scenario.records,
             bits: scenario.code.bits,

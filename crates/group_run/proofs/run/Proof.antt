@@ -1,10 +1,10 @@
 -- `group_run::run` meets its contract: how a frame ends is the same before and after its time in lanes. Assumes nothing.
-use Rattle.integers.proofs.Prelude.{subst, _∙_, arith, needs, T}
+use Rattle.integers.proofs.Prelude.{sym, subst, _∙_, arith, needs, T}
 use Rattle.group_run.proofs.Givens.{given-still}
 use Rattle.group_run.proofs.run.Statement.{statement}
 use Rattle.group_run.proofs.run.Tie as tie
 
--- ---- more than three frames run
+-- ---- lanes pay
 abbrev more : tie.After-run-in-lanes-arg7 → tie.Then1
 more c = c .before .before .before .before .before .before .before
 
@@ -15,7 +15,7 @@ run-in-lanes-requires : tie.Need-run-in-lanes-requires
 run-in-lanes-requires c κs =
     let t = more c in
     let s = start t in
-    (s .pre .0, (s .pre .1, omega (arith, t .before .count-running .ensures, t .if1 .taken)))
+    (s .pre .0, (s .pre .1, sym (t .before .lanes-pay .ensures) ∙ t .if1 .taken))
 
 abbrev in-lanes : tie.After-run-frames-arg6 → tie.After-run-in-lanes
 in-lanes c = c .before .before .before .before .before .before .before .before .before .before .before .before .before .before .before .before
@@ -32,12 +32,12 @@ returns c =
     let e = in-lanes (r .before) .run-in-lanes .ensures in
     (r .run-frames .ensures .0, λ f h k. r .run-frames .ensures .1 f h k ∙ e .1 .1 .1 f h k)
 
--- ---- at most three do
+-- ---- they do not
 run-frames-requires-2 : tie.Need-run-frames-requires-2
 run-frames-requires-2 c κs = let s = c .before .before .before .before .before .before .before .before .before .before .before .before .before .before in (s .pre .0 .1, (s .pre .1, (omega arith, λ f h e. absurd (subst T e tt))))
 
 pub run-spec : {M : Type 1} → statement M
 run-spec =
-    tie.close (tie.spec (λ c κs. search needs) run-in-lanes-requires run-frames-requires run-frames-requires-2 (λ c. search needs) (λ c. search needs)
+    tie.close (tie.spec (λ c κs. c .before .before .before .before .before .before .pre .1 .0 .running-long) run-in-lanes-requires run-frames-requires run-frames-requires-2 (λ c. search needs) (λ c. search needs)
     (λ c. search needs) (λ c. search needs) (λ c. search needs) (λ c. search needs) (λ c. search needs) returns (λ c. search needs) (λ c. search needs)
     (λ c. search needs) (λ c. search needs) (λ c. search needs) (λ c. search needs) (λ c. search needs))

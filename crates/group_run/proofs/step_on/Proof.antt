@@ -1,9 +1,9 @@
 -- `group_run::step_on` meets its contract: what has been done and what remains is the whole. Assumes nothing.
-use Rattle.integers.proofs.Prelude.{_≡_, refl, sym, ap, _∙_, true, ℕ, _-_, _<_, arith, ne-eqb}
+use Rattle.integers.proofs.Prelude.{_≡_, refl, sym, ap, subst, _∙_, true, T, ℕ, _-_, _<_, arith, ne-eqb}
 use Rattle.lanes.proofs.Places.{lanes-few}
 use Rattle.lane_step.specs.Step.{runs}
-use Rattle.group_run.specs.Course.{countRunning}
-use Rattle.group_run.proofs.Running.{some-runs, mark-of}
+use Rattle.group_run.specs.Course.{lanesPay}
+use Rattle.group_run.proofs.Running.{paid-runs, mark-of}
 use Rattle.group_run.proofs.Steps.{Stepped, stepped-next, rows-done, taken-out}
 use Rattle.group_run.proofs.step_on.Statement.{statement}
 use Rattle.group_run.proofs.step_on.Tie as tie
@@ -34,7 +34,7 @@ module _ (t : tie.Then1 Inv-loop μ-loop) where
   turn = t .before .before .before
 
   one : (f : ℕ) × (runs (turn .loop .running) f ≡ true)
-  one = some-runs (turn .loop .running) (omega (arith, t .before .count-running .ensures, t .if1 .taken))
+  one = paid-runs (turn .loop .running) (sym (t .before .lanes-pay .ensures) ∙ t .if1 .taken)
 
   more : turn .loop .k < start turn .args .settings .limit
   more = turn .loop .inv .lanes .more (one .0) (one .1)
@@ -82,9 +82,11 @@ module _ (e : tie.Else1 Inv-loop μ-loop) where
   abbrev first : tie.Start Inv-loop μ-loop
   first = start last
 
-  -- at first more than three ran, so there was a step
+  -- at first lanes paid, so there was a step
   some : last .loop .k ≡ 0 → ⊥
-  some z = omega (arith, first .pre .1 .1 .1 .1 .1 .1, ap countRunning (last .loop .inv .first z), e .before .count-running .ensures, e .if1 .left)
+  some z =
+      let paid = sym (first .pre .1 .1 .1 .1 .1 .1) ∙ sym (ap lanesPay (last .loop .inv .first z)) ∙ sym (e .before .lanes-pay .ensures) ∙ e .if1 .left in
+      subst T paid tt
 
 take-out-all-requires : tie.Need-take-out-all-requires Inv-loop μ-loop
 take-out-all-requires c κs =
@@ -124,7 +126,7 @@ returns c =
 
 pub step-on-spec : {M : Type 1} → statement M
 step-on-spec =
-    tie.close (tie.spec Inv-loop μ-loop loop-holds (λ c κs. omega (arith, c .before .loop .inv .marks .running-long)) step-requires
+    tie.close (tie.spec Inv-loop μ-loop loop-holds (λ c κs. c .before .loop .inv .marks .running-long) step-requires
     (λ c. omega (arith, turn (taken (stepped c)) .loop .inv .two))
     (λ c. (let t = taken (stepped c) in omega (arith, more t, start (turn t) .pre .0 .1))) (λ c. omega (arith, more (taken (stepped c)))) loop-again
     (λ c. omega (arith, last (c .before) .loop .inv .two)) take-out-all-requires
