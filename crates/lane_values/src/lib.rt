@@ -5,7 +5,7 @@ ghost use mathlib.Core.List.{[], _∷_};
 ghost use mathlib.Core.Path.{_≡_};
 ghost use Prim.Native.Nat.{ℕ, _+_, _-_, _*_, _^_, _≤_, _<_};
 ghost use lib.IntN.{ℤ, pos, natAbs, _+ℤ_, _*ℤ_};
-ghost use lib.ListN.{length, getD};
+ghost use lib.ListN.{length};
 ghost use Rattle.quotient.specs.Quotient.{unit};
 ghost use Rattle.quotient.specs.Narrowed.{Narrowed};
 ghost use Rattle.model.specs.Limits.{mostChecks, mostWeight, mostRatio, mostCost, mostNumerator};

@@ -1,5 +1,5 @@
 -- `quotient::divide_narrow` meets its contract. Assumes nothing.
-use Rattle.integers.proofs.Prelude.{_≡_, _∙_, ℕ, _+_, _-_, _*_, _^_, _≤_, _<_, arith, ℤ, pos, natAbs, _+ℤ_, w32, toZ, ofZ}
+use Rattle.integers.proofs.Prelude.{_≡_, _∙_, ℕ, _+_, _-_, _*_, _^_, _<_, arith, ℤ, pos, natAbs, _+ℤ_, w32, toZ, ofZ}
 use lib.Signed.{shrZ}
 use Rattle.integers.proofs.Linear.{readℤ}
 use Rattle.integers.proofs.Machine.{Worth, param, also, plus, fits, stored, read-back}
