@@ -42,7 +42,7 @@ fn count_running(running: &[u32]) -> usize
     n
 }
 
-// Whether lanes take less time than single runs: four take as long as two or three of these.
+// Whether lanes take less time than single runs: a four of lanes takes as long as two or three of these.
 fn lanes_pay(running: &[u32]) -> bool
     requires { ⌜ length (now running) ≡ 8 ⌝ }
     ensures { λ r. ⌜ r ≡ lanesPay (now (running .entry)) ⌝ }

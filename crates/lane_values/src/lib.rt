@@ -133,7 +133,7 @@ fn write_wide(
     }
 }
 
-// Whether the variables from..to are in as many triples as v. It has no way out, so that the compiler compares several at once.
+// Whether the variables from..to are in as many triples as v. All are looked at, so that the compiler compares several at once.
 fn all_as(counts: &[u16], v: usize, from: usize, to: usize) -> bool
     requires { ⌜ (v < length (now counts)) × (from ≤ to) × (to ≤ length (now counts)) ⌝ }
     ensures { λ r. ⌜ (r ≡ true → Same (now (counts .entry)) v from to) ⌝ }
@@ -286,7 +286,7 @@ fn write_all_bits(
     }
 }
 
-// All auxiliaries. Each is in two triples; the count is read where it stands.
+// All auxiliaries. Each is in two triples; the count is read from the list all the same, for the sake of the compiled loop.
 fn write_all_auxiliaries(
     counts: &[u16],
     limits32: &[i32],
