@@ -4,7 +4,7 @@ use Rattle.lists.proofs.Entries.{total-next}
 use Rattle.lists.proofs.Tests.{and-left}
 use Rattle.model.specs.Causes.{_if_}
 use Rattle.lane_step.specs.Step.{runs, someRun}
-use Rattle.group_run.specs.Course.{countRunning, lanesPay}
+use Rattle.group_run.specs.Course.{countRunning, enoughRun}
 
 -- the lists, by their names
 pub record Lists : Type 0 where
@@ -35,10 +35,10 @@ some-runs [] h = absurd (omega arith)
 some-runs (zero ∷ running) h = let r = some-runs running (omega arith) in (suc (r .0), r .1)
 some-runs (suc x ∷ running) h = (0, marked (suc x ∷ running) 0 (λ e. omega arith))
 
--- where lanes pay, some frame runs
+-- where enough frames run, one does
 more-run : (n : ℕ) (one t : Bool) → ltb 3 n ≡ t → (t || (ltb 2 n && one)) ≡ true → 0 < n
 more-run n one true e h = omega (arith, ltb-true 3 n e)
 more-run n one false e h = omega (arith, ltb-true 2 n (and-left (ltb 2 n) one h))
 
-pub paid-runs : (running : List ℕ) → lanesPay running ≡ true → (f : ℕ) × (runs running f ≡ true)
-paid-runs running h = let n = countRunning running in some-runs running (more-run n (not (someRun running 0 && someRun running 4)) (ltb 3 n) refl h)
+pub one-runs : (running : List ℕ) → enoughRun running ≡ true → (f : ℕ) × (runs running f ≡ true)
+one-runs running h = let n = countRunning running in some-runs running (more-run n (not (someRun running 0 && someRun running 4)) (ltb 3 n) refl h)

@@ -22,9 +22,9 @@ use Rattle.group_step.specs.Frames.{endedIn}
 abbrev pub countRunning : List ℕ → ℕ
 countRunning running = total (λ x. 1 if not (eqb x 0)) running
 
--- whether lanes take less time than single runs: where four frames run, or three, all in one four
-abbrev pub lanesPay : List ℕ → Bool
-lanesPay running = let n = countRunning running in ltb 3 n || (ltb 2 n && not (someRun running 0 && someRun running 4))
+-- whether enough frames run for group steps: four, or three, all in one four
+abbrev pub enoughRun : List ℕ → Bool
+enoughRun running = let n = countRunning running in ltb 3 n || (ltb 2 n && not (someRun running 0 && someRun running 4))
 
 -- how a frame with these costs ends, which runs or has ended as e, d iterations being done: from the start where none is, otherwise from the state that e has
 abbrev pub endFrom : Plan → Settings → Code → List ℕ → List ℤ → ℕ → Bool → Ended → Ended

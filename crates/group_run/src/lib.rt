@@ -1,4 +1,4 @@
-// The run of a group (document 02, L7): group steps, while enough frames run that lanes take less time than single runs. The others go on by themselves.
+// The run of a group (document 02, L7): group steps while enough frames run; the others go on by themselves, which takes less time (docs/PERFORMANCE.md).
 ghost use mathlib.Core.Path.{_≡_};
 ghost use mathlib.Core.Bool.{true, false, cond};
 ghost use mathlib.Core.List.{List};
@@ -22,7 +22,7 @@ ghost use Rattle.lane_triples.specs.Walk.{Tripled, Narrow};
 ghost use Rattle.lane_step.specs.Step.{runs, systemFor, Weighed};
 ghost use Rattle.group_step.specs.Frames.{partState, endedIn, frameNow, Held, Marks};
 ghost use Rattle.group_run.specs.Given.{Given};
-ghost use Rattle.group_run.specs.Course.{countRunning, lanesPay, endFrom, ends, RowsDone, Put, InLanes};
+ghost use Rattle.group_run.specs.Course.{countRunning, enoughRun, endFrom, ends, RowsDone, Put, InLanes};
 use lanes::Plan;
 use model::Settings;
 
@@ -42,10 +42,10 @@ fn count_running(running: &[u32]) -> usize
     n
 }
 
-// Whether lanes take less time than single runs: a four of lanes takes as long as two or three of these.
-fn lanes_pay(running: &[u32]) -> bool
+// Whether enough frames run for group steps: a four of lanes takes as long as two or three single runs.
+fn enough_run(running: &[u32]) -> bool
     requires { ⌜ length (now running) ≡ 8 ⌝ }
-    ensures { λ r. ⌜ r ≡ lanesPay (now (running .entry)) ⌝ }
+    ensures { λ r. ⌜ r ≡ enoughRun (now (running .entry)) ⌝ }
 {
     let n = count_running(running);
     let both = lane_step::some_run(running, 0) & lane_step::some_run(running, 4);
@@ -104,7 +104,7 @@ fn take_out_all(
     }
 }
 
-// Group steps while lanes pay; the frames that then still run are taken out. It answers how many steps there were. It may be known that all is narrow.
+// Group steps while enough frames run; those that then still run are taken out. It answers how many steps there were. It may be known that all is narrow.
 fn step_on(
     settings: Settings,
     triples: &[u16],
@@ -133,7 +133,7 @@ fn step_on(
     requires { ⌜ (frames ≤ p .lanes) × Marks frames (now running) (now ks) (now settled)
         × Held p frames (now sums) (now values) (now rows) ⌝ }
     requires { ⌜ InLanes p settings (now triples) (now counts) 0 0 (now running) (now work) ⌝ }
-    requires { ⌜ lanesPay (now running) ≡ true ⌝ }
+    requires { ⌜ enoughRun (now running) ≡ true ⌝ }
     ensures { λ k. ⌜ (1 ≤ k) × (k ≤ settings .limit) ⌝ }
     ensures { λ _. ⌜ Marks frames (now (running .exit)) (now (ks .exit)) (now (settled .exit))
         × Held p frames (now (sums .exit)) (now (values .exit)) (now (rows .exit)) ⌝ }
@@ -149,7 +149,7 @@ fn step_on(
 {
     let mut i = 0;
     let mut k: u32 = 0;
-    while lanes_pay(running) {
+    while enough_run(running) {
         group_step::step(
             settings,
             triples,
@@ -179,7 +179,7 @@ fn step_on(
     k
 }
 
-// The frames in lanes, from the start, while lanes pay. The divisors are made ready, and whether all is narrow is found.
+// The frames in lanes, from the start, while enough run. The divisors are made ready, and whether all is narrow is found.
 fn run_in_lanes(
     settings: Settings,
     triples: &[u16],
@@ -197,7 +197,7 @@ fn run_in_lanes(
 ) -> u32
     requires { ⌜ Fits p (now work) × Given p frames settings (now triples) (now counts) (now costs) (now running) ⌝ }
     requires { ⌜ Marks frames (now running) (now ks) (now settled) × Held p frames (now sums) (now values) (now rows) ⌝ }
-    requires { ⌜ lanesPay (now running) ≡ true ⌝ }
+    requires { ⌜ enoughRun (now running) ≡ true ⌝ }
     ensures { λ k. ⌜ (1 ≤ k) × (k ≤ settings .limit) ⌝ }
     ensures { λ _. ⌜ Marks frames (now (running .exit)) (now (ks .exit)) (now (settled .exit))
         × Held p frames (now (sums .exit)) (now (values .exit)) (now (rows .exit)) ⌝ }
@@ -371,7 +371,7 @@ pub fn run(
         (Run.run quotient (systemFor c p (now (triples .entry))) settings (part (p .bits) f (now (costs .entry))))
         (endedIn p (now (ks .entry)) (now (settled .entry)) (now (sums .entry)) (now (values .entry)) (now (rows .entry)) f)) ⌝ }
 {
-    if lanes_pay(running) {
+    if enough_run(running) {
         let done = run_in_lanes(
             settings,
             triples,

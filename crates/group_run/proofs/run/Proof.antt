@@ -4,7 +4,7 @@ use Rattle.group_run.proofs.Givens.{given-still}
 use Rattle.group_run.proofs.run.Statement.{statement}
 use Rattle.group_run.proofs.run.Tie as tie
 
--- ---- lanes pay
+-- ---- enough frames run
 abbrev more : tie.After-run-in-lanes-arg7 → tie.Then1
 more c = c .before .before .before .before .before .before .before
 
@@ -15,7 +15,7 @@ run-in-lanes-requires : tie.Need-run-in-lanes-requires
 run-in-lanes-requires c κs =
     let t = more c in
     let s = start t in
-    (s .pre .0, (s .pre .1, sym (t .before .lanes-pay .ensures) ∙ t .if1 .taken))
+    (s .pre .0, (s .pre .1, sym (t .before .enough-run .ensures) ∙ t .if1 .taken))
 
 abbrev in-lanes : tie.After-run-frames-arg6 → tie.After-run-in-lanes
 in-lanes c = c .before .before .before .before .before .before .before .before .before .before .before .before .before .before .before .before

@@ -4,7 +4,7 @@ use Rattle.model.specs.Bounds.{Ready}
 use Rattle.lists.specs.Tabulated.{part}
 use Rattle.lane_step.specs.Step.{runs}
 use Rattle.group_run.specs.Course.{InLanes}
-use Rattle.group_run.proofs.Running.{mark-of, paid-runs}
+use Rattle.group_run.proofs.Running.{mark-of, one-runs}
 use Rattle.group_run.proofs.Givens.{counted, tripled, narrow}
 use Rattle.group_run.proofs.Begun.{in-lanes, from-start}
 use Rattle.group_run.proofs.run_in_lanes.Statement.{statement}
@@ -17,7 +17,7 @@ module _ (s : tie.Start) where
 
   -- a frame that runs
   one : (f : ℕ) × (runs (s .args .running .now) f ≡ true)
-  one = paid-runs (s .args .running .now) (s .pre .1 .1)
+  one = one-runs (s .args .running .now) (s .pre .1 .1)
 
   ready : Ready (s .args .p .variables) (s .args .triples .now) (s .args .p .triples) (s .args .settings) (part (s .args .p .bits) (one .0) (s .args .costs .now))
   ready = s .pre .0 .1 .ready (one .0) (below (one .0) (one .1)) (one .1)

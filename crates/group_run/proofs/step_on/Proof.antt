@@ -2,8 +2,8 @@
 use Rattle.integers.proofs.Prelude.{_≡_, refl, sym, ap, subst, _∙_, true, T, ℕ, _-_, _<_, arith, ne-eqb}
 use Rattle.lanes.proofs.Places.{lanes-few}
 use Rattle.lane_step.specs.Step.{runs}
-use Rattle.group_run.specs.Course.{lanesPay}
-use Rattle.group_run.proofs.Running.{paid-runs, mark-of}
+use Rattle.group_run.specs.Course.{enoughRun}
+use Rattle.group_run.proofs.Running.{one-runs, mark-of}
 use Rattle.group_run.proofs.Steps.{Stepped, stepped-next, rows-done, taken-out}
 use Rattle.group_run.proofs.step_on.Statement.{statement}
 use Rattle.group_run.proofs.step_on.Tie as tie
@@ -34,7 +34,7 @@ module _ (t : tie.Then1 Inv-loop μ-loop) where
   turn = t .before .before .before
 
   one : (f : ℕ) × (runs (turn .loop .running) f ≡ true)
-  one = paid-runs (turn .loop .running) (sym (t .before .lanes-pay .ensures) ∙ t .if1 .taken)
+  one = one-runs (turn .loop .running) (sym (t .before .enough-run .ensures) ∙ t .if1 .taken)
 
   more : turn .loop .k < start turn .args .settings .limit
   more = turn .loop .inv .lanes .more (one .0) (one .1)
@@ -82,11 +82,11 @@ module _ (e : tie.Else1 Inv-loop μ-loop) where
   abbrev first : tie.Start Inv-loop μ-loop
   first = start last
 
-  -- at first lanes paid, so there was a step
+  -- at first enough frames ran, so there was a step
   some : last .loop .k ≡ 0 → ⊥
   some z =
-      let paid = sym (first .pre .1 .1 .1 .1 .1 .1) ∙ sym (ap lanesPay (last .loop .inv .first z)) ∙ sym (e .before .lanes-pay .ensures) ∙ e .if1 .left in
-      subst T paid tt
+      let both = sym (first .pre .1 .1 .1 .1 .1 .1) ∙ sym (ap enoughRun (last .loop .inv .first z)) ∙ sym (e .before .enough-run .ensures) ∙ e .if1 .left in
+      subst T both tt
 
 take-out-all-requires : tie.Need-take-out-all-requires Inv-loop μ-loop
 take-out-all-requires c κs =
