@@ -47,7 +47,7 @@ fn signed(x: i64) {
 // ---- lists
 
 // The lists that the library writes to, 16 entries each.
-#[derive(Drop)]
+#[derive(Clone, Copy)]
 pub struct Lists {
     pub triples: [u16; 16],
     pub counts: [u16; 16],
@@ -70,7 +70,7 @@ pub fn nines() -> Lists {
 }
 
 // One of them.
-#[derive(Drop)]
+#[derive(Clone, Copy)]
 pub enum Which {
     Triples,
     Counts,

@@ -6,7 +6,7 @@ use example_calls::{code_calls, cost_calls, decoder_calls, encoder_calls};
 use model::Channel;
 
 // The fields behind the label. `Many` is a code behind 8,193 triples on the first 32 bits, of which the field has the last record.
-#[derive(Drop)]
+#[derive(Clone, Copy)]
 pub enum Example {
     // code
     Reading,

@@ -8,12 +8,12 @@ mod encoding;
 mod front;
 mod groups;
 mod pairs;
-mod reader;
+mod reading;
 mod reflection;
 mod splitting;
 
 fn main() {
-    reader::run();
+    reading::run();
     splitting::run();
     front::run();
     reflection::run();

@@ -9,7 +9,7 @@ ghost use Rattle.lanes.specs.Lanes.{values_at, sums_at, weighed_at, lane_size};
 pub const MOST_NARROW: usize = 8;
 
 // How many lanes the work list has, and the sizes of the code: triples, variables and bits.
-#[derive(Drop)]
+#[derive(Clone, Copy)]
 pub struct Plan {
     pub lanes: usize,
     pub triples: usize,

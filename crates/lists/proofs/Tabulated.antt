@@ -148,7 +148,7 @@ module _ {A : Type 0} (P : A → Type 0) (d : A) (j : ℕ) where
           rw (z, get_or-set_same l n (f 0) d (omega arith)) (new 0 (omega arith) (omega (arith, z)))
       by false e out =
           rw (get_or-set_other l n j (f 0) d (eqb-false j n e))
-          (old (λ i. elim i [ zero ↦ λ m z. eqb-false j n e (omega (arith, z)) | suc i ↦ λ m z. out i (omega arith) (omega (arith, z)) ]))
+          (old (λ i. elim i as (λ (i : ℕ). i < suc k → j ≢ n + i) [ zero ↦ λ m z. eqb-false j n e (omega (arith, z)) | suc i ↦ λ m z. out i (omega arith) (omega (arith, z)) ]))
 
 -- ---- of signed numbers, which the code stores through their bits
 pub over_stored : (w : Width) (n : ℕ) (f : ℕ → ℤ) (old : List ℤ) (r : ℤ) → n < length old → SFits w r → r ≡ f n

@@ -25,6 +25,16 @@ pub by_tests : (a b c d : ℕ) (s t u v : Bool) {s' t' u' v' : Bool} → s' ≡ 
 by_tests a b c d s t u v {u' = u'} {v' = v'} p q r w =
     ap₂ (λ (s t : Bool). of_four a b c d s t u' v') p q ∙ ap₂ (λ (u v : Bool). of_four a b c d s t u v) r w
 
+-- a cause 0 in second place
+pub first_skip : (a : ℕ) (l : List ℕ) → first_of (a ∷ 0 ∷ l) ≡ first_of (a ∷ l)
+first_skip zero l = refl
+first_skip (suc n) l = refl
+
+-- and in third place
+pub second_skip : (a b : ℕ) (l : List ℕ) → first_of (a ∷ b ∷ 0 ∷ l) ≡ first_of (a ∷ b ∷ l)
+second_skip zero b l = first_skip b l
+second_skip (suc n) b l = refl
+
 -- the first cause of a list may be found first, and then stand for the list
 pub first_in : (l m : List ℕ) → first_of (first_of l ∷ m) ≡ first_of (l ++ m)
 first_in [] m = refl

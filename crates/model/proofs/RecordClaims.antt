@@ -11,7 +11,7 @@ use Rattle.model.specs.Records.{two_bytes, numbers, bit_count, check_count, degr
 use Rattle.model.specs.Records.{judge_header, judge_indices, judge_check, judge_checks, judge, two, bytes_of, record_of, check_records, records_of, record_size, records_size}
 use Rattle.model.specs.Sound.{Rising, SoundCheck, SoundChecks, Sound}
 use Rattle.model.specs.RecordClaims.{Bytes, indices_cause, check_cause, checks_cause, code_causes, judge_code, RecordClaims}
-use Rattle.model.proofs.Causes.{first_in, clear, unless, within, inside}
+use Rattle.model.proofs.Causes.{first_in, first_skip, second_skip, clear, unless, within, inside}
 use Rattle.model.proofs.Accepted as Accepted
 use Rattle.model.proofs.Accepted.{length_numbers, length_checks, record_sound, each_covered, bytes_sound}
 use Rattle.model.proofs.Order.{judge_order}
@@ -110,12 +110,14 @@ header_judged k =
     let s = records_of k in
     let long = length_code k in
     rw (enough 2 s (omega arith), enough 4 s (omega arith), enough 6 s (omega arith), mark_back k, bits_back k, count_back k)
+    (first_skip (3 if outside 3 4096 k.bits) (3 if outside 1 2048 (length k.checks) ∷ []))
 
 pub judged : (k : Code) → judge (records_of k) ≡ judge_code k
 unfolding judge judge_code
 judged k =
     rw (bits_back k, count_back k, body_back k, checks_judged k.bits k.checks, whole_back k.checks, code_back k, header_judged k)
-    (first_in (3 if outside 3 4096 k.bits ∷ 3 if outside 1 2048 (length k.checks) ∷ []) (checks_cause k.bits k.checks ∷ 7 if ltb 8192 (triples k) ∷ 8 if not (covered k) ∷ []))
+    (second_skip (first_of (3 if outside 3 4096 k.bits ∷ 3 if outside 1 2048 (length k.checks) ∷ [])) (checks_cause k.bits k.checks) (7 if ltb 8192 (triples k) ∷ 8 if not (covered k) ∷ [])
+    ∙ first_in (3 if outside 3 4096 k.bits ∷ 3 if outside 1 2048 (length k.checks) ∷ []) (checks_cause k.bits k.checks ∷ 7 if ltb 8192 (triples k) ∷ 8 if not (covered k) ∷ []))
 
 -- ---- a code that is judged 0 is sound, and the other way round
 indices_clear : (n low : ℕ) (c : List ℕ) → (indices_cause n low c ≡ 0) ↔ Rising n low c

@@ -135,7 +135,8 @@ rising_range (suc m) a low h =
     let e : a + suc m ≡ suc a + m = omega arith in (
       omega arith,
       omega arith,
-      rw (e, tab_same m (λ j. a + suc j) (λ j. suc a + j) (λ j l. omega arith)) (rising_range m (suc a) (suc (a + 0)) (omega arith)),
+      subst (λ (n : ℕ). Rising n (suc (a + 0)) (tab m (λ j. a + suc j))) (sym e)
+          (rw (tab_same m (λ j. a + suc j) (λ j. suc a + j) (λ j l. omega arith)) (rising_range m (suc a) (suc (a + 0)) (omega arith))),
     )
 
 items_rising : (n low m a : ℕ) (c : List ℕ) → n ≤ a → low ≤ a → Rising n low c → Rising (a + m) low (c ++ tab m (λ j. a + j))

@@ -34,7 +34,7 @@ pub const MOST_FRAMES: usize = 8;
 // ---- what is handed over and told
 
 // The settings of a run: cost weight W, ratio A, iterations K and tolerance X of document 01.
-#[derive(Drop)]
+#[derive(Clone, Copy)]
 pub struct Settings {
     pub weight: u32,
     pub ratio: u32,
@@ -43,14 +43,14 @@ pub struct Settings {
 }
 
 // "erasing with a floor and a weight that belong together"
-#[derive(Drop)]
+#[derive(Clone, Copy)]
 pub struct Erasure {
     pub floor: f32,
     pub weight: f32,
 }
 
 // "A channel setting is one of three kinds."
-#[derive(Drop)]
+#[derive(Clone, Copy)]
 pub enum Channel {
     Gaussian(f32),
     Hard(f32),
@@ -108,7 +108,7 @@ pub struct Length {
 
 // What is told of a run: a number, a bit or a check, the iterations, and whether the frame settled.
 #[repr(C)]
-#[derive(Drop)]
+#[derive(Clone, Copy)]
 pub struct DecodeAnswer {
     pub number: u32,
     pub place: usize,

@@ -19,7 +19,7 @@ pub struct Number {
 }
 
 // The columns or the rows of a text: how many there are, the largest degree, and where their degrees and their lists begin.
-#[derive(Drop)]
+#[derive(Clone, Copy)]
 pub struct Side {
     pub count: usize,
     pub most: usize,

@@ -31,7 +31,7 @@ fn is_zero(value: i16) -> bool
 // "the lowest such bit", or n.
 fn first_undecided(values: &[i16], bits: usize) -> usize
     requires { bits ≤ length values.now }
-    ensures* { λ v. ⌜ v ≡ first bits (λ v. eqb (nat_abs (at values.now v)) 0) ⌝ }
+    ensures { result ≡ first bits (λ v. eqb (nat_abs (at values.now v)) 0) }
 {
     let mut v = 0;
     while v < bits {

@@ -19,7 +19,7 @@ const COUNTERS: usize = 131072;
 const BLOCK: usize = 64;
 
 // Rows `top` .. and columns `left` .., from 0.
-#[derive(Drop)]
+#[derive(Clone, Copy)]
 struct Window {
     top: usize,
     height: usize,

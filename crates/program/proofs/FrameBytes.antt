@@ -11,7 +11,7 @@ use Rattle.model.specs.Records.{two_bytes, numbers, degree, indices, judge_heade
 use Rattle.program.specs.Frames.{judge_held_header, judge_held_check, settings_of, judge_settings_up_to, judge_settings, frame_size, costs_of, judge_whole, judge_frame}
 use Rattle.program.specs.FrameClaims.{Opened}
 use Rattle.model.proofs.Accepted.{length_numbers}
-use Rattle.model.proofs.Causes.{within}
+use Rattle.model.proofs.Causes.{within, first_skip}
 
 -- ---- the first bytes: lengths up to j, and numbers within, are those of the whole
 pub short_take : (k j : ℕ) (s : List ℕ) → k ≤ j → short k (take j s) ≡ short k s
@@ -132,6 +132,7 @@ module _ (n t : ℕ) (s : List ℕ) (long : 3 ≤ length s) where
   judged : (v w : Bool) → wrong s ≡ v → outer s ≡ w → judge_check n s ≡ first_of (2 if v ∷ 4 if w ∷ judge_indices n (degree s) 0 (drop 3 s) ∷ [])
   unfolding judge_check
   judged v w e f = rw (le-ltb (length s) 2 (omega arith), le-ltb (length s) 3 (omega arith), e, f)
+      (first_skip (2 if v) (4 if w ∷ judge_indices n (degree s) 0 (drop 3 s) ∷ []))
 
   three_bytes : length s ≡ 3 → judge_held_check n t s ≡ opening (wrong s) (outer s)
   unfolding judge_held_check

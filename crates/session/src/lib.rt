@@ -10,7 +10,7 @@ use model::Settings;
 use program::{BUFFER, HELD_BITS, HELD_MEMBERS, HELD_ROWS, HELD_VARIABLES, LINE};
 
 // The record that is due: of a check first the mark and the degree, then the indices.
-#[derive(Drop)]
+#[derive(Clone, Copy)]
 pub enum Part {
     Header,
     Check,

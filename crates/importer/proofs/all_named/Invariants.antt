@@ -1,0 +1,15 @@
+-- `importer::all_named` meets its contract: the degrees that are left decide. Assumes nothing.
+use Rattle.integers.proofs.Prelude.{◌≡◌, refl, sym, ◌∙◌, List, ℕ, suc, ◌-◌, ◌≤◌, ◌<◌, arith, add-one, rules, lt-ltb, le-ltb, ltb, length, get_or, take, drop}
+use Rattle.integers.proofs.Prelude.{length-take-le, get_or-take}
+use Rattle.lists.specs.Entries.{every}
+use Rattle.lists.proofs.Entries.{every_next, every_stop, every_end}
+use Rattle.numbers.specs.Walked.{from, none}
+use Rattle.numbers.proofs.Walk.{next_at}
+use Rattle.importer.proofs.all_named.Given as goal
+
+abbrev pub invariant-loop-b : goal.invariant-loop-b
+invariant-loop-b l = let ds = from l.text l.at in
+    (every (ltb 0) (take l.count ds) ≡ every (ltb 0) (drop l.b (take l.count ds))) × (from l.text l.end ≡ drop l.b ds) × (l.end ≤ length l.text) × (l.b ≤ l.count)
+
+abbrev pub decreases-loop-b : goal.decreases-loop-b
+decreases-loop-b l = l.count - l.b

@@ -1,0 +1,17 @@
+-- `lane_values::write_wide` meets its contract: the entries below i are stored. Assumes nothing.
+use Rattle.integers.proofs.Prelude.{◌≡◌, ap, ap₂, ◌∙◌, List, ℕ, ◌+◌, ◌-◌, ◌*◌, ◌≤◌, ◌<◌, arith, rules, ℤ, pos, neg_ℤ, ◌+ℤ◌, ◌*ℤ◌, length, get_or}
+use Rattle.integers.proofs.Prelude.{w16, w32, w64, to_z, of_z}
+use Rattle.integers.proofs.Machine.{kept, read_back}
+use Rattle.quotient.specs.Quotient.{unit, quotient}
+use Rattle.model.specs.Iteration.{at, divisor}
+use Rattle.lane_values.specs.Stored.{Parts, Stored}
+use Rattle.lane_values.specs.Places.{whole, wide_value, wide_parts}
+use Rattle.lane_values.proofs.Stored.{nothing_stored, ahead, store_next}
+use Rattle.lane_values.proofs.write_wide.Given as goal
+
+abbrev pub invariant-loop-i : goal.invariant-loop-i
+invariant-loop-i l = (l.from ≤ l.i) × (l.i ≤ l.to)
+    × Stored 3 (wide_parts l.values l.next l.sums l.apart l.weighed) (wide_value l.initial.work l.sums (l.sums + l.apart) l.weighed (divisor (4 * l.count) l.ratio)) l.from l.i l.initial.work l.work
+
+abbrev pub decreases-loop-i : goal.decreases-loop-i
+decreases-loop-i l = l.to - l.i

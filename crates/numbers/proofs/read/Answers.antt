@@ -1,0 +1,50 @@
+-- `numbers::read` meets its contract: k numbers are in the list, and the next one is begun where inside is 1. Assumes nothing.
+use Rattle.integers.proofs.Prelude.{refl, ◌∙◌, ◌-◌, arith, rules, ltb-true, ltb-false, length, length-set}
+use mathlib.Core.Logic.{⊎_elim}
+use Rattle.numbers.specs.Walked.{from}
+use Rattle.numbers.proofs.Fill.{Reading, read_byte, read_all, read_last}
+use Rattle.numbers.proofs.read.Goals as goal
+use Rattle.numbers.proofs.read.Goals.{else-digit-eq0, else-digit-inside, then-digit-eq0, then-digit-inside, then-loop-k-test+else-i-text, else-loop-k-test}
+
+pub loop-k-init : goal.loop-k-init
+loop-k-init c = record {
+  long = refl;
+  done = refl;
+  rest = refl;
+  small = omega arith;
+  whole = omega arith;
+  bit = omega arith;
+  within = (omega arith, c.requires.0);
+}
+
+pub loop-k-smaller : goal.loop-k-smaller
+loop-k-smaller c = omega (arith, ltb-true)
+
+pub loop-k-preserved : goal.loop-k-preserved
+loop-k-preserved c =
+    let l = c.loop-k in
+    read_byte _ _ (length c.args.values.now) l.values l.value l.inside l.k l.i l.invariant c.requires.1 (omega (arith, l.invariant.long))
+    (ltb-true l.i (length c.args.text.now) c.if-i-text.true-raw) c.byte-b.result c.if-digit-inside.k c.if-digit-eq0.value c.byte-b.ensures.0
+    (λ h. elim c.if-digit-inside.branch [ then-digit-inside w ↦ w.k-is | else-digit-inside w ↦ absurd (omega (arith, w.if-digit-inside.false)) ])
+    (λ h. elim c.if-digit-inside.branch [ then-digit-inside w ↦ absurd (omega (arith, w.if-digit-inside.true)) | else-digit-inside w ↦ w.k-is ])
+    (λ h. elim c.if-digit-eq0.branch [ then-digit-eq0 w ↦ w.value-is | else-digit-eq0 w ↦ absurd (w.if-digit-eq0.false h) ])
+    (λ h. elim c.if-digit-eq0.branch [ then-digit-eq0 w ↦ absurd (h w.if-digit-eq0.true) | else-digit-eq0 w ↦ w.value-is ])
+
+pub returns-then-k-values : goal.returns-then-k-values
+returns-then-k-values c =
+    let l = c.loop-k in
+    let n = length c.args.values.now in
+    let k = l.invariant.long in (
+      read_last _ _ n l.values l.value l.inside l.k l.i l.invariant c.requires.1 c.args.at refl (omega arith)
+          (elim c.loop-k-test.branch [ then-loop-k-test+else-i-text w ↦ omega arith | else-loop-k-test w ↦ absurd (omega arith) ]),
+      length-set l.values l.k l.value ∙ k,
+    )
+
+pub returns-else-k-values : goal.returns-else-k-values
+returns-else-k-values c =
+    let l = c.loop-k in
+    let n = length c.args.values.now in
+    let k = l.invariant.long in (
+      read_all _ _ n l.values l.value l.inside l.k l.i l.invariant c.requires.1 c.args.at refl (omega arith),
+      k,
+    )

@@ -1,0 +1,12 @@
+-- `outcome::first_undecided` meets its contract: no value before v is 0. Assumes nothing.
+use Rattle.integers.proofs.Prelude.{◌≡◌, sym, ap, ◌∙◌, Bool, false, ℕ, ◌-◌, ◌≤◌, ◌<◌, arith, rules, eqb, ℤ, nat_abs, w16}
+use Rattle.integers.proofs.Machine.{kept}
+use Rattle.lists.proofs.Entries.{below_next, first_at, first_none}
+use Rattle.model.specs.Iteration.{at}
+use Rattle.outcome.proofs.first_undecided.Given as goal
+
+abbrev pub invariant-loop-v : goal.invariant-loop-v
+invariant-loop-v l = (l.v ≤ l.bits) × ((u : ℕ) → u < l.v → eqb (nat_abs (at l.values u)) 0 ≡ false)
+
+abbrev pub decreases-loop-v : goal.decreases-loop-v
+decreases-loop-v l = l.bits - l.v

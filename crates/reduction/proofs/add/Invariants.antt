@@ -1,0 +1,14 @@
+-- `reduction::add` meets its contract: the columns so far are sums, the others as they were. Assumes nothing.
+use Rattle.integers.proofs.Prelude.{◌≡◌, refl, ap₂, ◌∙◌, ℕ, ◌+◌, ◌-◌, ◌%◌, ◌≤◌, ◌<◌, arith, rules, length, length-set, set}
+use lib.Seq.{get_or-set_same, get_or-set_other}
+use Rattle.lists.proofs.Entries.{below_next}
+use Rattle.model.specs.Words.{bit_at}
+use Rattle.reduction.proofs.Table.{sum_slices}
+use Rattle.reduction.proofs.add.Given as goal
+
+abbrev pub invariant-loop-i : goal.invariant-loop-i
+invariant-loop-i l = (length l.row ≡ length l.initial.row) × (l.start ≤ l.i) × (l.i ≤ l.bits)
+    × ((k : ℕ) → k < l.i → l.start ≤ k → bit_at l.row k ≡ (bit_at l.initial.row k + bit_at l.other k) % 2) × ((k : ℕ) → l.i ≤ k → bit_at l.row k ≡ bit_at l.initial.row k)
+
+abbrev pub decreases-loop-i : goal.decreases-loop-i
+decreases-loop-i l = l.bits - l.i

@@ -1,0 +1,27 @@
+-- `reduction::count_others` meets its contract: the others among the columns so far. Assumes nothing.
+use Rattle.integers.proofs.Prelude.{◌≡◌, refl, ap, ◌∙◌, not, ◌+◌, ◌-◌, ◌≤◌, arith, add-one, rules, take, take_all}
+use mathlib.Core.Logic.{⊎_elim}
+use Rattle.model.specs.Causes.{◌if◌}
+use Rattle.model.specs.Encoding.{others}
+use Rattle.model.proofs.Reduction.{small_if}
+use Rattle.reduction.specs.Table.{has_pivot, columns_in}
+use Rattle.reduction.proofs.Table.{length_columns, others_next}
+use Rattle.reduction.proofs.count_others.Goals as goal
+use Rattle.reduction.proofs.count_others.Goals.{else-not-is_pivot, then-not-is_pivot}
+
+pub loop-column-preserved : goal.loop-column-preserved
+loop-column-preserved c =
+    let a = c.args in
+    let j = c.loop-column.column in
+    let next = others_next a.bits a.rows.now j c.loop-column-test.true in
+    let one : c.if-not-is_pivot.count ≡ c.loop-column.count + 1 if not (has_pivot a.rows.now j)
+    = elim c.if-not-is_pivot.branch [ then-not-is_pivot w ↦ w.count-is ∙ rw (← c.is_pivot.ensures, w.if-not-is_pivot.true) | else-not-is_pivot w ↦ w.count-is ∙ rw (← c.is_pivot.ensures, w.if-not-is_pivot.false) (omega arith) ] in
+    (omega (arith, c.loop-column-test.true), omega (arith, one, small_if (not (has_pivot a.rows.now j)), c.loop-column.invariant.1), rw (add-one j) (omega (arith, one, next, c.loop-column.invariant.2)))
+
+pub returns : goal.returns
+returns c =
+    let a = c.args in
+    c.loop-column.invariant.2 ∙ ap others (take_all c.loop-column.column (columns_in a.bits a.rows.now) (omega (arith, length_columns a.bits a.rows.now, c.loop-column-test.false)))
+
+pub loop-column-init : goal.loop-column-init
+loop-column-init c = (omega arith, omega arith, refl)

@@ -1,0 +1,17 @@
+-- `run::iterations` meets its contract: what has been done and what remains is the whole. Assumes nothing.
+use Rattle.integers.proofs.Prelude.{◌≡◌, refl, sym, ◌∙◌, true, false, ◌&&◌, ℕ, ◌-◌, ◌*◌, ◌≤◌, ◌<◌, arith, ltb-true, ltb-false, eqb-true, eq-eqb, eqb, ltb}
+use Rattle.integers.proofs.Prelude.{length}
+use Rattle.lists.proofs.Tests.{and_left, and_right, and_false}
+use Rattle.model.specs.Limits.{most_done}
+use Rattle.model.specs.declared.Settings.{Settings}
+use Rattle.layout.proofs.Places.{straight_back}
+use Rattle.run.specs.States.{state_in}
+use Rattle.run.proofs.Remains.{weaker, lent_again, Remains, remains_next, remains_end}
+use Rattle.run.proofs.iterations.Given as goal
+
+abbrev pub invariant-loop-k : goal.invariant-loop-k
+invariant-loop-k l = Remains (length l.initial.values) l.triples l.count l.settings l.costs l.done (state_in l.count l.initial.sums l.initial.values l.initial.rows) (state_in l.count l.sums l.values l.rows) l.k l.settled
+    × (length l.rows ≡ 4 * l.count)
+
+abbrev pub decreases-loop-k : goal.decreases-loop-k
+decreases-loop-k l = l.settings.limit - l.k

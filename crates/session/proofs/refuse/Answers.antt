@@ -1,0 +1,9 @@
+-- `session::refuse` meets its contract. Assumes nothing.
+use Rattle.text.proofs.Appended.{lent, counted}
+use Rattle.integers.proofs.Prelude.{rules}
+use Rattle.session.proofs.refuse.Goals as goal
+
+pub returns : goal.returns
+returns c =
+    let line = c.refusal-written.ensures in
+    record { ends = c.over.ensures; line = lent line; within = (counted line).0 }

@@ -1,0 +1,13 @@
+-- `sides::count` meets its contract: the bits so far are counted. Assumes nothing.
+use Rattle.integers.proofs.Prelude.{◌≡◌, refl, sym, ap, ◌∙◌, ◌-◌, ◌≤◌, arith, rules, length, get_or, take, take_all}
+use Rattle.model.specs.Records.{indices}
+use Rattle.model.proofs.Accepted.{SoundRecord, record_sound}
+use Rattle.sides.specs.Columns.{counted}
+use Rattle.sides.proofs.Counting.{counted_none, length_counted, Turn, turn_bit, turn_entry, turn_value, turn_next}
+use Rattle.sides.proofs.count.Given as goal
+
+abbrev pub invariant-loop-i : goal.invariant-loop-i
+invariant-loop-i l = (l.degrees ≡ counted (take l.i (indices l.s)) l.initial.degrees) × (l.i ≤ l.d)
+
+abbrev pub decreases-loop-i : goal.decreases-loop-i
+decreases-loop-i l = l.d - l.i

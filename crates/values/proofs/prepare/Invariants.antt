@@ -1,0 +1,11 @@
+-- `values::prepare` meets its contract: the first i entries stand for their divisors. Assumes nothing.
+use Rattle.integers.proofs.Prelude.{◌≡◌, ◌∙◌, ℕ, suc, ◌-◌, ◌*◌, ◌≤◌, ◌<◌, arith, rules, length, length-set, w64, to_z, of_z}
+use Rattle.quotient.specs.Prepared.{Prepared}
+use Rattle.model.specs.Iteration.{at, divisor}
+use Rattle.model.proofs.Bounds.{divisor_above, divisor_below}
+use Rattle.values.proofs.Divisors.{next_is, next_entries}
+use Rattle.values.proofs.prepare.Given as goal
+
+abbrev pub invariant-loop-i : goal.invariant-loop-i
+invariant-loop-i l = (l.i ≤ length l.initial.inverses) × (length l.limits ≡ length l.initial.inverses) × (length l.inverses ≡ length l.initial.inverses)
+    × ((k : ℕ) → k < l.i → Prepared (divisor (4 * suc k) l.ratio) (at l.limits k) (at l.inverses k))
