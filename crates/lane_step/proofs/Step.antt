@@ -5,7 +5,7 @@ use Rattle.integers.proofs.Linear.{split, to_ℕ, read_ℤ, about, about_sum, ab
 use Rattle.lists.specs.Tabulated.{tab}
 use Rattle.lists.proofs.Tabulated.{tab_same, get_or_tab}
 use Rattle.quotient.specs.Quotient.{unit, quotient}
-use Rattle.quotient.specs.Quotient.Laws.{quotient_range}
+use Rattle.quotient.proofs.Laws.{quotient_range}
 use Rattle.model.specs.declared.Settings.{Settings}
 use Rattle.model.specs.Limits.{most_done}
 use Rattle.model.specs.Code.{Code}

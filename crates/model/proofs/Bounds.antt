@@ -9,7 +9,7 @@ use Rattle.integers.proofs.Sums.{sum_ℕ_same, sum_ℕ_scale, sum_ℕ_bound, sum
 use Rattle.lists.specs.Tabulated.{tab}
 use Rattle.lists.proofs.Tabulated.{get_or_tab}
 use Rattle.quotient.specs.Quotient.{unit, quotient}
-use Rattle.quotient.specs.Quotient.Laws.{quotient_range}
+use Rattle.quotient.proofs.Laws.{quotient_range}
 use Rattle.model.specs.declared.Settings.{Settings}
 use Rattle.model.specs.Causes.{◌if◌}
 use Rattle.model.specs.Limits.{most_checks, most_triples, most_weight, most_ratio, most_iterations, most_done, most_cost, most_slack, most_multiplier, most_row, most_sum, most_numerator}

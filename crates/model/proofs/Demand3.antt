@@ -6,7 +6,7 @@ use Rattle.lists.specs.Entries.{total}
 use Rattle.lists.proofs.Tabulated.{get_or_tab, tab_same}
 use Rattle.lists.proofs.Entries.{first_same, first_before}
 use Rattle.quotient.specs.Quotient.{quotient}
-use Rattle.quotient.specs.Quotient.Laws.{quotient_odd}
+use Rattle.quotient.proofs.Laws.{quotient_odd}
 use Rattle.model.specs.Causes.{◌if◌}
 use Rattle.model.specs.Code.{Code}
 use Rattle.model.specs.Records.{code_of, judge}

@@ -8,7 +8,7 @@ use Rattle.integers.specs.Nearest.{nearest}
 use Rattle.integers.proofs.Linear.{◌⊖◌, split, to_ℕ, *ℤ_add, *ℤ_left_comm, ring, linear, abs_difference, abs_neg}
 use Rattle.integers.proofs.Sums.{sum_ℕ_same, sum_ℤ_same, sum_ℤ_add}
 use Rattle.quotient.specs.Quotient.{unit, quotient, Rounded}
-use Rattle.quotient.specs.Quotient.Laws.{quotient_odd, quotient_is, rounded_by}
+use Rattle.quotient.proofs.Laws.{quotient_odd, quotient_is, rounded_by}
 use Rattle.model.specs.declared.Settings.{Settings}
 use Rattle.model.specs.Causes.{◌if◌}
 use Rattle.model.specs.Code.{triples, variables}

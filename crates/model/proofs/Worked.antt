@@ -4,7 +4,7 @@ use Rattle.integers.proofs.Prelude.{neg_ℤ}
 use lib.Dec.{leb-zero}
 use Rattle.integers.specs.Nearest.{nearest}
 use Rattle.quotient.specs.Quotient.{unit, quotient}
-use Rattle.quotient.specs.Quotient.Laws.{quotient_odd, quotient_is, rounded_by}
+use Rattle.quotient.proofs.Laws.{quotient_odd, quotient_is, rounded_by}
 use Rattle.model.specs.Causes.{◌if◌}
 use Rattle.model.specs.Splitting.{queue, triples_from, system_of}
 use Rattle.model.specs.Iteration.{State, sign, row_sum, share, sum_of, occurrences, sums_of, values_of, rows_of, iterate}

@@ -1,4 +1,5 @@
 -- Facts that several proofs use.
+pub mod Laws
 pub mod Magnitudes
 pub mod Products
 pub mod Lanes

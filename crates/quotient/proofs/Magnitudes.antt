@@ -10,7 +10,7 @@ use Rattle.integers.specs.Nearest.{nearest}
 use Rattle.integers.proofs.Nearest.{nearest_is}
 use Rattle.integers.proofs.Linear.{read_ℤ, about, about_neg, abs_neg, false_lt_z, positive}
 use Rattle.quotient.specs.Quotient.{unit, quotient, signed}
-use Rattle.quotient.specs.Quotient.Laws.{quotient_odd, quotient_is}
+use Rattle.quotient.proofs.Laws.{quotient_odd, quotient_is}
 
 -- a divisor from 1 to n
 pub divisor_is : (z : ℤ) (n : ℕ) → pos 0 <ℤ z → z ≤ℤ pos n → (0 < nat_abs z) × (nat_abs z ≤ n) × (z ≡ pos (nat_abs z))

@@ -9,7 +9,7 @@ use Rattle.integers.proofs.Nearest.{nearest_is}
 use Rattle.integers.proofs.Linear.{to_ℕ, read_ℤ, abs_mul}
 use Rattle.quotient.specs.Quotient.{unit, quotient}
 use Rattle.quotient.specs.Prepared.{Prepared, inverse_by}
-use Rattle.quotient.specs.Quotient.Laws.{quotient_odd}
+use Rattle.quotient.proofs.Laws.{quotient_odd}
 use Rattle.quotient.proofs.Magnitudes.{quotient_below}
 
 -- the next whole number above scale / d: a product with it, divided by the scale, takes the place of a division by d

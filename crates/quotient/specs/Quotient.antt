@@ -1,9 +1,8 @@
 -- Document 01, 'One iteration': "rounded to nearest, halves away from zero, then limited to −U..U".
--- `quotient` is shut: no crate above can open it. What they have of it are the laws below, in `Laws`.
+-- `quotient` is shut to the crates above: the gate refuses one that unfolds it. What they have of it are the laws in `proofs/Laws`.
 use Rattle.std.specs.Prelude.{cond, ℕ, suc, ◌+◌, ◌*◌, ◌≤◌, ◌<◌, min, ℤ, pos, negsuc, neg_ℤ, nat_abs}
 use Rattle.std.specs.Int.Signed.{lt_z}
 use Rattle.integers.specs.Nearest.{nearest}
-pub mod Laws
 
 -- 01: "Let U = 16,384."
 abbrev pub unit : ℕ
@@ -25,11 +24,11 @@ abbrev pub most_narrow : ℕ
 most_narrow = 1024 * 8
 
 -- of magnitudes: nearest, halves up, at most U
-limited : ℕ → ℕ → ℕ
+unfoldable pub limited : ℕ → ℕ → ℕ
 limited n d = min (nearest n d) unit
 
 -- n / d for a d above 0
-pub quotient : ℤ → ℤ → ℤ
+unfoldable pub quotient : ℤ → ℤ → ℤ
 quotient (pos n) d = pos (limited n (nat_abs d))
 quotient (negsuc n) d = neg_ℤ (pos (limited (suc n) (nat_abs d)))
 

@@ -2,7 +2,7 @@
 use Rattle.integers.proofs.Prelude.{◌≡◌, sym, ap, ◌∙◌, ℕ, ◌*◌, ◌≤◌, ◌<◌, true, false, arith, ℤ, pos, nat_abs, neg_ℤ, ◌<ℤ◌, lt_z}
 use Rattle.integers.proofs.Linear.{positive, lt_z_true, lt_z_false}
 use Rattle.quotient.specs.Quotient.{unit, quotient, signed}
-use Rattle.quotient.specs.Quotient.Laws.{quotient_odd, quotient_limit}
+use Rattle.quotient.proofs.Laws.{quotient_odd, quotient_limit}
 
 -- the test of a size against U times the divisor
 module _ {m l : ℤ} (x : ℤ) {n : ℕ} (a : m ≡ pos (nat_abs x)) (b : l ≡ pos n) where

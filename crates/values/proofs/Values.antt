@@ -5,7 +5,7 @@ use mir.Val.{SFits}
 use Rattle.lists.specs.Tabulated.{tab}
 use Rattle.lists.proofs.Tabulated.{tab_same, over_sets, over_whole}
 use Rattle.quotient.specs.Quotient.{unit}
-use Rattle.quotient.specs.Quotient.Laws.{quotient_range}
+use Rattle.quotient.proofs.Laws.{quotient_range}
 use Rattle.model.specs.Iteration.{at, numerator, divisor}
 use Rattle.model.proofs.Rows.{at_tab}
 use Rattle.values.specs.Values.{value_from}

@@ -4,7 +4,7 @@ use lib.Signed.{quot_z}
 use Rattle.integers.proofs.Linear.{read_ℤ}
 use Rattle.integers.proofs.Machine.{Worth, param, literal, local, also, plus, times, fits, stored}
 use Rattle.quotient.specs.Quotient.{unit, quotient, signed}
-use Rattle.quotient.specs.Quotient.Laws.{quotient_range}
+use Rattle.quotient.proofs.Laws.{quotient_range}
 use Rattle.quotient.proofs.Magnitudes.{divisor_is, abs_signed, cut_quotient}
 use Rattle.quotient.proofs.divide.Goals as goal
 use Rattle.quotient.proofs.divide.Goals.{Start, After-with_sign}

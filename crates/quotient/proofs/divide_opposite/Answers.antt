@@ -3,7 +3,7 @@ use Rattle.integers.proofs.Prelude.{ap, ap₂, ◌∙◌, ◌+◌, ◌^◌, ℤ,
 use lib.Signed.{shr_z}
 use Rattle.integers.proofs.Machine.{Worth, literal, minus, fits, stored}
 use Rattle.quotient.specs.Quotient.{unit, quotient, BelowLimit}
-use Rattle.quotient.specs.Quotient.Laws.{quotient_range}
+use Rattle.quotient.proofs.Laws.{quotient_range}
 use Rattle.quotient.specs.Prepared.{Inverse, product_of}
 use Rattle.quotient.proofs.divide_opposite.Goals as goal
 use Rattle.quotient.proofs.divide_opposite.Goals.{Start}
