@@ -1,7 +1,8 @@
 /*
  * Widagbe: a decoder for binary LDPC codes by QP-ADMM, in whole numbers.
  *
- * Link with target/staticlib/libc_api.a, which `rt staticlib c_api` writes (x86-64 Linux).
+ * Link with crates/c_api/out/libc_api.a, which `rt lib` in crates/c_api writes (Linux on x86-64, for processors of the level
+ * x86-64-v2: with SSE4.2 and POPCNT).
  *
  * Lists
  *   A list is a pointer and its number of entries, not of bytes. Code, text, costs, samples, words and messages are whole lists:

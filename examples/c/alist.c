@@ -1,8 +1,8 @@
 /*
  * Imports a code from alist text, exports it in normal form, and shows a refusal.
  *
- *     rt staticlib c_api
- *     cc -Iinclude examples/c/alist.c target/staticlib/libc_api.a -o alist && ./alist
+ *     (cd crates/c_api && rt lib)
+ *     cc -Iinclude examples/c/alist.c crates/c_api/out/libc_api.a -o alist && ./alist
  */
 #include <inttypes.h>
 #include <stdio.h>

@@ -1,8 +1,8 @@
 /*
  * A chain of reflected frames of the Hamming code of 7 bits: two reflections in turn are one by the sum of their codewords.
  *
- *     rt staticlib c_api
- *     cc -Iinclude examples/c/chain.c target/staticlib/libc_api.a -o chain && ./chain
+ *     (cd crates/c_api && rt lib)
+ *     cc -Iinclude examples/c/chain.c crates/c_api/out/libc_api.a -o chain && ./chain
  */
 #include <inttypes.h>
 #include <stdio.h>

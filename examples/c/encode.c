@@ -1,8 +1,8 @@
 /*
  * Encodes messages of the Hamming code of 7 bits, one alone and two in one call, and reads a message back.
  *
- *     rt staticlib c_api
- *     cc -Iinclude examples/c/encode.c target/staticlib/libc_api.a -o encode && ./encode
+ *     (cd crates/c_api && rt lib)
+ *     cc -Iinclude examples/c/encode.c crates/c_api/out/libc_api.a -o encode && ./encode
  */
 #include <inttypes.h>
 #include <stdio.h>

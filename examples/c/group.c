@@ -2,8 +2,8 @@
  * Decodes four frames of the Hamming code of 7 bits in one call. One of them has a cost of -32768; the others are decoded all the
  * same.
  *
- *     rt staticlib c_api
- *     cc -Iinclude examples/c/group.c target/staticlib/libc_api.a -o group && ./group
+ *     (cd crates/c_api && rt lib)
+ *     cc -Iinclude examples/c/group.c crates/c_api/out/libc_api.a -o group && ./group
  */
 #include <inttypes.h>
 #include <stdio.h>

@@ -1,8 +1,8 @@
 /*
  * Decodes one frame of the Hamming code of 7 bits from noisy samples.
  *
- *     rt staticlib c_api
- *     cc -Iinclude examples/c/main.c target/staticlib/libc_api.a -o decode && ./decode
+ *     (cd crates/c_api && rt lib)
+ *     cc -Iinclude examples/c/main.c crates/c_api/out/libc_api.a -o decode && ./decode
  */
 #include <inttypes.h>
 #include <stdio.h>

@@ -1,12 +1,12 @@
 //! Links the compiled library: the archive that WIDAGBE_LIB names, or the one
-//! that `rt staticlib c_api` leaves in the repository's target directory.
+//! that `rt lib` leaves in `crates/c_api/out`.
 
 mod link;
 
 use std::env;
 use std::path::{Path, PathBuf};
 
-const DEFAULT: &str = "../../target/staticlib/libc_api.a";
+const DEFAULT: &str = "../../crates/c_api/out/libc_api.a";
 
 fn main() {
     println!("cargo:rerun-if-env-changed=WIDAGBE_LIB");

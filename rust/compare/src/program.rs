@@ -7,9 +7,9 @@ use std::process::{Command, Stdio};
 use std::thread;
 
 /// The frame program's file: the one that WIDAGBE_FRAMES names, or the one that
-/// the repository's build leaves.
+/// `rt run` leaves in `crates/frames/out`.
 pub fn path() -> PathBuf {
-    let default = || Path::new(env!("CARGO_MANIFEST_DIR")).join("../../target/bin/frames");
+    let default = || Path::new(env!("CARGO_MANIFEST_DIR")).join("../../crates/frames/out/frames");
     env::var_os("WIDAGBE_FRAMES").map_or_else(default, PathBuf::from)
 }
 

@@ -67,7 +67,7 @@ fn every_call_answers_c_as_it_answers_rust() {
 fn run_c(source: &str, standard: &str) -> String {
     let here = Path::new(env!("CARGO_MANIFEST_DIR"));
     let archive = env::var_os("WIDAGBE_LIB").map_or_else(
-        || here.join("../../target/staticlib/libc_api.a"),
+        || here.join("../../crates/c_api/out/libc_api.a"),
         PathBuf::from,
     );
     let source = here.join(source);

@@ -15,6 +15,9 @@ use std::time::{Duration, Instant};
 
 const PATIENCE: Duration = Duration::from_secs(20);
 
+/// A frame record: three costs of 20,000.
+const FRAME: &[u8] = b"LF\x4e\x20\x4e\x20\x4e\x20";
+
 #[test]
 fn the_frame_program_equals_the_reference() {
     let tally = compare(|case| printed(frames, case), program(), Effort::Full).unwrap();
@@ -26,7 +29,7 @@ fn the_frame_program_equals_the_reference() {
 fn stream(frames: usize) -> Vec<u8> {
     let mut input = b"LH\0\x03\0\x01LC\x03\0\0\0\x01\0\x02LS\x01\0\0\0\0\x02\0\0\0\0".to_vec();
     for _ in 0..frames {
-        input.extend(b"LF\x4e\x20\x4e\x20\x4e\x20");
+        input.extend(FRAME);
     }
     input
 }
@@ -46,7 +49,8 @@ fn printed_without_input(stdin: Stdio) -> Vec<u8> {
 }
 
 /// Feeds the program and waits for its end, with its standard input still open.
-fn end_with_input_open(mut child: Child, input: &[u8]) -> ExitStatus {
+/// While it runs it is fed `more`, again and again.
+fn end_with_input_open(mut child: Child, input: &[u8], more: &[u8]) -> ExitStatus {
     let mut stdin: ChildStdin = child.stdin.take().expect("a pipe was asked for");
     let _ = stdin.write_all(input);
     let begun = Instant::now();
@@ -55,6 +59,7 @@ fn end_with_input_open(mut child: Child, input: &[u8]) -> ExitStatus {
             return status;
         }
         sleep(Duration::from_millis(5));
+        let _ = stdin.write_all(more);
     }
     child.kill().expect("the program runs");
     panic!("the program goes on after a write that failed");
@@ -72,14 +77,16 @@ fn a_read_that_fails_ends_the_input() {
 fn a_write_that_fails_ends_the_program() {
     let full = File::options().write(true).open("/dev/full").unwrap();
     let child = start(Stdio::piped(), Stdio::from(full));
-    assert!(end_with_input_open(child, &stream(2)).success());
+    assert!(end_with_input_open(child, &stream(2), &[]).success());
 }
 
 #[test]
 fn an_output_that_is_closed_ends_the_program() {
     let mut child = start(Stdio::piped(), Stdio::piped());
     drop(child.stdout.take());
-    end_with_input_open(child, &stream(2));
+    // A program that another test starts at this moment has the output's other end until
+    // it runs its own code, so the first writes need not fail.
+    end_with_input_open(child, &stream(2), FRAME);
 }
 
 #[test]
@@ -88,7 +95,7 @@ fn nothing_is_written_after_a_write_that_failed() {
     output.set_nonblocking(true).unwrap();
     let child = start(Stdio::piped(), Stdio::from(OwnedFd::from(output)));
     let input = stream(7_000);
-    assert!(end_with_input_open(child, &input).success());
+    assert!(end_with_input_open(child, &input, &[]).success());
     let mut printed = Vec::new();
     received.read_to_end(&mut printed).unwrap();
     let whole = frames(&input);
