@@ -1,5 +1,5 @@
 -- What is written for a frame, and whether the program goes on. Assumes nothing.
-use Rattle.integers.proofs.Prelude.{◌≡◌, refl, ap, ◌∙◌, true, false, List, [], ℕ, ◌-◌, ◌≤◌, eq-eqb, ne_eqb, eqb, ℤ, length, take}
+use Rattle.integers.proofs.Prelude.{◌≡◌, refl, ap, ◌∙◌, true, false, List, [], ℕ, ◌≤◌, eq-eqb, ne_eqb, eqb, ℤ, length, take}
 use Rattle.lists.specs.Entries.{some}
 use Rattle.model.specs.declared.Settings as Model
 use Rattle.model.specs.Code.{Code}

@@ -1,5 +1,5 @@
 -- The extension of a word, an auxiliary at a time and a check at a time. Assumes nothing.
-use Rattle.integers.proofs.Prelude.{◌≡◌, refl, sym, ap, ◌∙◌, List, [], ◌∷◌, ◌++◌, ℕ, zero, suc, ◌+◌, ◌-◌, ◌*◌, ◌%◌, ◌≤◌, ◌<◌, arith, add-one, add-two, dec_lt}
+use Rattle.integers.proofs.Prelude.{◌≡◌, refl, sym, ap, ◌∙◌, List, [], ◌∷◌, ◌++◌, ℕ, zero, suc, ◌+◌, ◌*◌, ◌%◌, ◌≤◌, ◌<◌, arith, add-one, add-two, dec_lt}
 use Rattle.integers.proofs.Prelude.{lt-ltb, length, get_or, take, drop, set, length-append, take-append-drop, length-take-le, take_all}
 use Rattle.integers.proofs.Prelude.{take-add, drop-cons}
 use Rattle.lists.specs.Tabulated.{written}

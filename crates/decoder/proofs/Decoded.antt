@@ -13,9 +13,8 @@ use Rattle.model.proofs.Promises.{decoder_call}
 use Rattle.model.specs.Run.{Ended, run}
 use Rattle.model.specs.Words.{word_of, outcome}
 use Rattle.model.specs.Records.{code_of, judge}
-use Rattle.model.specs.Code.{Code, triples}
+use Rattle.model.specs.Code.{Code}
 use Rattle.model.specs.Splitting.{system_of}
-use Rattle.outcome.proofs.Outcomes.{answer}
 use Rattle.model.specs.declared.Settings.{Settings}
 
 same_lists : (l m : Lists) → l.triples ≡ m.triples → l.counts ≡ m.counts → l.sums ≡ m.sums → l.values ≡ m.values → l.rows ≡ m.rows → l.word ≡ m.word → l ≡ m

@@ -1,6 +1,6 @@
 -- Parts of a list that loops read and write. Assumes nothing.
--- A loop that stores entry i of the first parts at turn i keeps `Stored m parts f from i` (start: nothing_stored; store-next). What it reads at i or
--- later is still as it was (ahead). One loop after another: stored-join.
+-- A loop that stores entry i of the first parts at turn i keeps `Stored m parts f from i` (start: nothing_stored; store_next). What it reads at i or
+-- later is still as it was (ahead). One loop after another: stored_join.
 use Rattle.integers.proofs.Prelude.{◌≡◌, refl, sym, ap, ◌∙◌, Bool, true, false, List, [], ◌∷◌, ℕ, zero, suc, ◌+◌, ◌≤◌, ◌<◌, arith, eqb-true, eqb-false, eqb}
 use Rattle.integers.proofs.Prelude.{ltb-true, ltb-false, ltb, ℤ, pos, length, get_or, set, length-set}
 use mathlib.Core.Logic.{◌≢◌}

@@ -7,7 +7,6 @@ use Rattle.lists.proofs.Tabulated.{length_tab, written_in}
 use Rattle.quotient.specs.Quotient.{quotient}
 use Rattle.model.specs.declared.Settings.{Settings}
 use Rattle.model.specs.Causes.{◌if◌}
-use Rattle.model.specs.Code.{triples, variables}
 use Rattle.model.specs.Records.{code_of}
 use Rattle.model.specs.Splitting.{System, system_of}
 use Rattle.model.specs.Iteration.{at, slack, multiplier, sum_of, renewed_at, State, sums_of, rows_of, value_of, values_of, iterate}

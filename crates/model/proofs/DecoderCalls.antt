@@ -1,12 +1,11 @@
 -- A call of the decoder: its causes, and what it leaves. Assumes nothing.
-use Rattle.integers.proofs.Prelude.{◌≡◌, refl, sym, ap, subst, ◌∙◌, Bool, false, List, [], ◌∷◌, ◌++◌, ℕ, zero, suc, ◌+◌, ◌≤◌, arith, eqb-true, not-false, ltb, le-ltb, ℤ, length, take, take_at}
+use Rattle.integers.proofs.Prelude.{◌≡◌, refl, sym, ap, subst, ◌∙◌, Bool, false, List, [], ◌∷◌, ◌++◌, ℕ, zero, suc, ◌≤◌, arith, eqb-true, not-false, ltb, le-ltb, ℤ, length, take, take_at}
 use mathlib.Core.Logic.{◌⊎◌, inl, inr}
 use Rattle.lists.specs.Entries.{some}
 use Rattle.lists.specs.Tabulated.{written}
 use Rattle.model.specs.declared.Settings.{Settings}
 use Rattle.model.specs.Limits.{base_iterations, most_iterations}
 use Rattle.model.specs.Causes.{first_of, accepted}
-use Rattle.model.specs.Code.{triples}
 use Rattle.model.specs.Records.{code_of, judge, whole_causes, record_causes}
 use Rattle.model.specs.Words.{word_of, first_undecided, first_odd, outcome}
 use Rattle.model.specs.Points.{Codeword}

@@ -11,7 +11,7 @@ use Rattle.quotient.specs.Quotient.{unit, quotient, Rounded}
 use Rattle.quotient.proofs.Laws.{quotient_odd, quotient_is, rounded_by}
 use Rattle.model.specs.declared.Settings.{Settings}
 use Rattle.model.specs.Causes.{◌if◌}
-use Rattle.model.specs.Code.{triples, variables}
+use Rattle.model.specs.Code.{variables}
 use Rattle.model.specs.Records.{code_of, judge}
 use Rattle.model.specs.Splitting.{System, system_of, blank, member}
 use Rattle.model.specs.Iteration.{at, value_at, sign, row_sum, row, slack, multiplier, ◌when◌, sum_of, occurrences, numerator, divisor, State, iterate}

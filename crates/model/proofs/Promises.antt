@@ -8,7 +8,7 @@ use Rattle.lists.proofs.Tabulated.{over_in, over_map, take_written}
 use Rattle.lists.proofs.Entries.{some_at, each_weaker}
 use Rattle.model.specs.declared.Settings.{Settings}
 use Rattle.model.specs.declared.Channel.{Channel}
-use Rattle.model.specs.Causes.{short, accepted}
+use Rattle.model.specs.Causes.{short}
 use Rattle.model.specs.Code.{Code, triples, variables}
 use Rattle.model.specs.Records.{code_of, judge, record_causes}
 use Rattle.model.specs.RecordClaims.{Bytes}

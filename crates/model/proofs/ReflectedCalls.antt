@@ -5,7 +5,7 @@ use Rattle.lists.specs.Entries.{some}
 use Rattle.lists.specs.Tabulated.{written}
 use Rattle.lists.proofs.Tabulated.{take_written}
 use Rattle.model.specs.declared.Settings.{Settings}
-use Rattle.model.specs.Causes.{◌if◌, first_of, accepted}
+use Rattle.model.specs.Causes.{◌if◌, first_of}
 use Rattle.model.specs.Code.{Code, triples, variables}
 use Rattle.model.specs.Records.{code_of, judge}
 use Rattle.model.specs.Splitting.{System, system_of}

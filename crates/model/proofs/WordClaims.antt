@@ -4,7 +4,7 @@ use Rattle.integers.proofs.Prelude.{arith, dec_lt, ltb-true, ltb-false, lt-ltb, 
 use Rattle.integers.proofs.Prelude.{nat_abs, lt_z, ◌<ℤ◌, length, get_or, take, get_or-append, get_or-eq_default, get_or-append-add}
 use mathlib.Core.Logic.{◌↔◌, ◌⊎◌, inl, inr}
 use Rattle.lists.specs.Tabulated.{tab}
-use Rattle.lists.specs.Entries.{total, some, first}
+use Rattle.lists.specs.Entries.{total, some}
 use Rattle.lists.proofs.Tabulated.{length_tab, get_or_tab}
 use Rattle.lists.proofs.Entries.{first_before, first_passes, some_at, none_in, total_next, total_part}
 use Rattle.model.specs.Causes.{◌if◌, first_of}

@@ -25,7 +25,7 @@ pub record FrameCall (b : List ℕ) (o : Settings) (costs : List ℤ) (l : Lists
   pub same : FrameIs (code_of b) f g decoded
   pub whole : some forbidden (part (code_of b).bits f costs) ≡ false → frame_in (code_of b) g f ≡ decoded
 
--- ---- the decoder of a group: g is its answer and the lists that were l, workAfter the list of work, which was work
+-- ---- the decoder of a group: g is its answer and the lists that were l, work_after the list of work, which was work
 pub record GroupCall (b : List ℕ) (o : Settings) (F : ℕ) (costs : List ℤ) (l : Lists) (work : List ℤ) (g : Grouped) (work_after : List ℤ) : Type 0 where
   pub equation : g ≡ group b o F costs l work
   -- demand 1

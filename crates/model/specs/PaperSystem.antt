@@ -1,6 +1,6 @@
 -- The system, its projection, start and stop are the papers' (source documents 000 and 003). Statements only; the proofs are in
 -- proofs/PaperSystem.antt. As in Paper, the paper's v is 1/2 + c/(2U), so 2U × v is U + c.
-use Rattle.std.specs.Prelude.{cond, ◌≡◌, ◌↔◌, List, ℕ, ◌+◌, ◌*◌, ◌≤◌, ◌<◌, eqb, ℤ, pos, neg_ℤ, nat_abs, ◌+ℤ◌, ◌-ℤ◌, ◌*ℤ◌, ◌≤ℤ◌}
+use Rattle.std.specs.Prelude.{cond, ◌≡◌, ◌↔◌, List, ℕ, ◌*◌, ◌≤◌, ◌<◌, eqb, ℤ, pos, neg_ℤ, nat_abs, ◌+ℤ◌, ◌-ℤ◌, ◌*ℤ◌, ◌≤ℤ◌}
 use Rattle.integers.specs.Sum.{sum_ℕ, sum_ℤ}
 use Rattle.quotient.specs.Quotient.{unit, quotient}
 use Rattle.model.specs.declared.Settings.{Settings}

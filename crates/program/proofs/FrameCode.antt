@@ -1,5 +1,5 @@
 -- The code records that the frame program keeps: one more check, and the whole code. Assumes nothing.
-use Rattle.integers.proofs.Prelude.{◌≡◌, refl, sym, ap, ◌∙◌, false, not, List, [], ◌∷◌, ◌++◌, append_assoc, append-nil, ℕ, zero, suc, ◌+◌, ◌-◌, ◌*◌, ◌≤◌}
+use Rattle.integers.proofs.Prelude.{◌≡◌, refl, sym, ap, ◌∙◌, false, not, List, [], ◌∷◌, ◌++◌, append_assoc, append-nil, ℕ, zero, suc, ◌+◌, ◌*◌, ◌≤◌}
 use Rattle.integers.proofs.Prelude.{arith, le-ltb, ltb, length, drop, length-append, drop_at, take-append_seam}
 use lib.Seq.{drop-append-le}
 use Rattle.lists.specs.Entries.{total}

@@ -6,7 +6,6 @@ use Rattle.lists.specs.Entries.{some}
 use Rattle.lists.proofs.Tabulated.{length_tab, take_written}
 use Rattle.quotient.specs.Quotient.{quotient}
 use Rattle.model.specs.declared.Settings.{Settings}
-use Rattle.model.specs.Causes.{accepted}
 use Rattle.model.specs.Code.{Code, triples, variables}
 use Rattle.model.specs.Records.{code_of}
 use Rattle.model.specs.Splitting.{system_of}

@@ -1,6 +1,6 @@
 -- What the frame program is yet to write, by the bytes that it keeps: nothing but a refusal where the next record is refused, and frame by frame once code and
 -- settings are accepted. Assumes nothing.
-use Rattle.integers.proofs.Prelude.{◌≡◌, refl, sym, ◌∙◌, Bool, true, false, not, cond, ◌&&◌, ◌||◌, List, [], ◌∷◌, ◌++◌, append-nil, ℕ, zero, suc, ◌+◌, ◌≤◌}
+use Rattle.integers.proofs.Prelude.{◌≡◌, refl, sym, ◌∙◌, Bool, true, false, not, cond, ◌&&◌, ◌||◌, List, [], ◌∷◌, ◌++◌, append-nil, ℕ, zero, suc, ◌≤◌}
 use Rattle.integers.proofs.Prelude.{◌<◌, arith, lt-ltb, le-ltb, eqb-true, eqb-false, eq-eqb, ne_eqb, eqb, ltb, length, take, drop, length-append, length-take}
 use Rattle.integers.proofs.Prelude.{length-drop, take_at, drop_at}
 use Rattle.model.specs.declared.Settings.{Settings}

@@ -1,3 +1,3 @@
--- What crates above cite of the reader's answer: told-code, with the sizes of the code; told-refused (Answers). `Marks` is the reader's own.
+-- What crates above cite of the reader's answer: told_code, with the sizes of the code; told_refused (Answers). `Marks` is the reader's own.
 pub mod Marks
 pub mod Answers

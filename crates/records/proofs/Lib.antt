@@ -1,7 +1,7 @@
 -- What crates above cite:
 --
---   a loop over the checks keeps Walk: walk-start, walk-next; walk-check, walk-judged, walk-total      Walk
---   check records written one behind the other: checks-next                                            Written
+--   a loop over the checks keeps Walk: walk_start, walk_next; walk_check, walk_judged, walk_total      Walk
+--   check records written one behind the other: checks_next                                            Written
 --   what else an accepted code is: `accepted` and `bytes_sound` of the model
 pub mod Walk
 pub mod Written

@@ -1,5 +1,5 @@
 -- What the bytes of a frame lead to. Assumes nothing.
-use Rattle.integers.proofs.Prelude.{◌≡◌, sym, ap, subst, ◌∙◌, true, false, cond, List, [], ◌++◌, append_assoc, ℕ, ◌+◌, ◌-◌, ◌≤◌, arith, length, take, drop}
+use Rattle.integers.proofs.Prelude.{◌≡◌, sym, ap, subst, ◌∙◌, true, false, cond, List, [], ◌++◌, append_assoc, ℕ, ◌-◌, ◌≤◌, arith, length, take, drop}
 use Rattle.integers.proofs.Prelude.{length-drop, take-append-drop, length-take-le, take-take}
 use Rattle.model.specs.Records.{bit_count, code_of}
 use Rattle.model.specs.Calls.{out_of_range}

@@ -1,5 +1,5 @@
 -- The rows of checks one behind the other: one check more, their length, and the list that they fill. Assumes nothing.
-use Rattle.integers.proofs.Prelude.{◌≡◌, ◌∙◌, List, [], ◌∷◌, ◌++◌, map, append-nil, ℕ, suc, ◌+◌, ◌≤◌, length}
+use Rattle.integers.proofs.Prelude.{◌≡◌, ◌∙◌, List, [], ◌∷◌, ◌++◌, map, append-nil, ℕ, suc, ◌≤◌, length}
 use Rattle.integers.proofs.Prelude.{drop_of_length-le}
 use mathlib.Core.List.{map-append}
 use Rattle.lists.specs.Entries.{total}

@@ -1,9 +1,7 @@
 -- `adder::fill` meets its contract: after i turns the first i entries are sums. Assumes nothing.
-use Rattle.integers.proofs.Prelude.{◌≡◌, refl, ◌∙◌, ◌+◌, ◌-◌, ◌%◌, ◌≤◌, arith, rules, add-one, length}
-use Rattle.lists.specs.Tabulated.{over}
+use Rattle.integers.proofs.Prelude.{◌≡◌, refl, ◌∙◌, arith, add-one, length}
 use Rattle.lists.proofs.Tabulated.{length_over, over_next, over_tab}
 use Rattle.model.specs.Reflection.{sum_of_words}
-use Rattle.model.specs.Words.{bit_at}
 use Rattle.adder.proofs.fill.Goals as goal
 use Rattle.adder.proofs.fill.Goals.{At-loop-i}
 

@@ -1,8 +1,6 @@
 -- `adder::fill` meets its contract: after i turns the first i entries are sums. Assumes nothing.
-use Rattle.integers.proofs.Prelude.{◌≡◌, refl, ◌∙◌, ◌+◌, ◌-◌, ◌%◌, ◌≤◌, arith, rules, add-one, length}
+use Rattle.integers.proofs.Prelude.{◌≡◌, ◌+◌, ◌-◌, ◌%◌, ◌≤◌, length}
 use Rattle.lists.specs.Tabulated.{over}
-use Rattle.lists.proofs.Tabulated.{length_over, over_next, over_tab}
-use Rattle.model.specs.Reflection.{sum_of_words}
 use Rattle.model.specs.Words.{bit_at}
 use Rattle.adder.proofs.fill.Given as goal
 

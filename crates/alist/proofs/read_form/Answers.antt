@@ -1,5 +1,5 @@
 -- `alist::read_form` meets its contract: each return of an unsound form shows a part that is not so. Assumes nothing.
-use Rattle.integers.proofs.Prelude.{◌≡◌, true, rules, not-false, not-true}
+use Rattle.integers.proofs.Prelude.{◌≡◌, true, not-false, not-true}
 use Rattle.alist.proofs.Reading.{refused, sizes_fail, columns_fail, rows_fail, column_lists_fail, row_lists_fail, read}
 use Rattle.alist.proofs.read_form.Goals as goal
 use Rattle.alist.proofs.read_form.Goals.{Else-not-sizes, Else-not-column_lists, Else-not-row_lists}

@@ -1,5 +1,5 @@
 -- `alist::read_sizes` meets its contract. Assumes nothing.
-use Rattle.integers.proofs.Prelude.{◌≡◌, refl, sym, subst, ◌∙◌, true, List, [], ◌∷◌, ℕ, suc, ◌≤◌, ◌<◌, arith, rules, leb-true, le-leb, T, length, get_or, drop}
+use Rattle.integers.proofs.Prelude.{◌≡◌, refl, sym, subst, ◌∙◌, true, List, [], ◌∷◌, ℕ, suc, ◌≤◌, ◌<◌, arith, leb-true, le-leb, T, length, get_or, drop}
 use Rattle.lists.specs.Entries.{every}
 use Rattle.lists.proofs.Entries.{every_at}
 use Rattle.model.specs.Limits.{most_number}

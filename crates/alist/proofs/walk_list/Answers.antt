@@ -1,6 +1,6 @@
 -- `alist::walk_list` meets its contract: what is left of the list decides. Assumes nothing.
-use Rattle.integers.proofs.Prelude.{◌≡◌, refl, sym, ap, subst, ◌∙◌, Bool, ◌&&◌, List, ℕ, suc, ◌-◌, ◌≤◌, arith, add-one, rules, lt-leb, le-leb, not-false}
-use Rattle.integers.proofs.Prelude.{not-true, T, ltb, length, get_or, drop}
+use Rattle.integers.proofs.Prelude.{◌≡◌, refl, sym, ap, subst, ◌∙◌, Bool, ◌&&◌, List, ℕ, suc, ◌-◌, arith, add-one, lt-leb, le-leb, not-false}
+use Rattle.integers.proofs.Prelude.{not-true, T, ltb, get_or, drop}
 use mathlib.Core.Bool.{beq}
 use Rattle.model.specs.Limits.{most_number}
 use Rattle.numbers.specs.Walked.{from, none}

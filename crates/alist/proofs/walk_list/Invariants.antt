@@ -1,12 +1,8 @@
 -- `alist::walk_list` meets its contract: what is left of the list decides. Assumes nothing.
-use Rattle.integers.proofs.Prelude.{◌≡◌, refl, sym, ap, subst, ◌∙◌, Bool, ◌&&◌, List, ℕ, suc, ◌-◌, ◌≤◌, arith, add-one, rules, lt-leb, le-leb, not-false}
-use Rattle.integers.proofs.Prelude.{not-true, T, ltb, length, get_or, drop}
-use mathlib.Core.Bool.{beq}
-use Rattle.model.specs.Limits.{most_number}
-use Rattle.numbers.specs.Walked.{from, none}
-use Rattle.numbers.proofs.Walk.{next_at}
+use Rattle.integers.proofs.Prelude.{◌≡◌, ◌-◌, ◌≤◌}
+use Rattle.integers.proofs.Prelude.{length, drop}
+use Rattle.numbers.specs.Walked.{from}
 use Rattle.alist.specs.Form.{filled_list}
-use Rattle.alist.proofs.Filled.{fits, list_next, list_end}
 use Rattle.alist.proofs.walk_list.Given as goal
 
 abbrev pub invariant-loop-i : goal.invariant-loop-i

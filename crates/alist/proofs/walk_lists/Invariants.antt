@@ -1,10 +1,8 @@
 -- `alist::walk_lists` meets its contract: the lists that are left decide. Assumes nothing.
-use Rattle.integers.proofs.Prelude.{◌≡◌, refl, sym, ap, ap₂, subst, ◌∙◌, Bool, true, false, ◌&&◌, List, ℕ, suc, ◌+◌, ◌-◌, ◌*◌, ◌≤◌, arith}
-use Rattle.integers.proofs.Prelude.{add-one, rules, not-false, not-true, T, length, get_or, drop, drop-drop}
-use Rattle.numbers.specs.Walked.{from, none}
-use Rattle.numbers.proofs.Walk.{next_at}
-use Rattle.alist.specs.Form.{filled_list, filled_lists}
-use Rattle.alist.proofs.Filled.{lists_next, lists_end}
+use Rattle.integers.proofs.Prelude.{◌≡◌, ◌-◌, ◌*◌, ◌≤◌}
+use Rattle.integers.proofs.Prelude.{length, drop}
+use Rattle.numbers.specs.Walked.{from}
+use Rattle.alist.specs.Form.{filled_lists}
 use Rattle.alist.proofs.walk_lists.Given as goal
 
 abbrev pub invariant-loop-i : goal.invariant-loop-i

@@ -1,5 +1,5 @@
 -- `answers::frame_line` meets its contract: nothing, a refusal, or the frame's line. Assumes nothing.
-use Rattle.integers.proofs.Prelude.{◌≡◌, sym, ap, ◌∙◌, arith, rules, length, take, length-take}
+use Rattle.integers.proofs.Prelude.{◌≡◌, sym, ap, ◌∙◌, arith, length, take, length-take}
 use Rattle.text.proofs.Appended.{lent, counted}
 use Rattle.model.specs.Records.{code_of}
 use Rattle.program.specs.Frames.{costs_of, judge_frame, frame_line}

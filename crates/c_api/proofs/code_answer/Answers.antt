@@ -1,5 +1,5 @@
 -- `c_api::code_answer` meets its contract: case by case. Assumes nothing.
-use Rattle.integers.proofs.Prelude.{sym, ap, rules}
+use Rattle.integers.proofs.Prelude.{sym, ap}
 use Rattle.model.specs.Calls.{reading_told}
 use Rattle.c_api.proofs.code_answer.Goals as goal
 

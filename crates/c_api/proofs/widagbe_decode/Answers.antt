@@ -1,5 +1,4 @@
 -- `c_api::widagbe_decode` meets its contract: what the decoder found, told. Assumes nothing.
-use Rattle.integers.proofs.Prelude.{rules}
 use Rattle.c_api.proofs.widagbe_decode.Goals as goal
 
 pub returns : goal.returns

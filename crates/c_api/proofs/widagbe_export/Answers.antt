@@ -1,5 +1,4 @@
 -- `c_api::widagbe_export` meets its contract: what export wrote, told. Assumes nothing.
-use Rattle.integers.proofs.Prelude.{rules}
 use Rattle.c_api.proofs.widagbe_export.Goals as goal
 
 pub returns : goal.returns

@@ -1,5 +1,4 @@
 -- `c_api::widagbe_export_size` meets its contract: the size of the export, told. Assumes nothing.
-use Rattle.integers.proofs.Prelude.{rules}
 use Rattle.c_api.proofs.widagbe_export_size.Goals as goal
 
 pub returns : goal.returns

@@ -1,5 +1,4 @@
 -- `c_api::widagbe_extend` meets its contract: what the extension found, told. Assumes nothing.
-use Rattle.integers.proofs.Prelude.{rules}
 use Rattle.c_api.proofs.widagbe_extend.Goals as goal
 
 pub returns : goal.returns

@@ -1,5 +1,4 @@
 -- `c_api::widagbe_import` meets its contract: what import wrote, told. Assumes nothing.
-use Rattle.integers.proofs.Prelude.{rules}
 use Rattle.c_api.proofs.widagbe_import.Goals as goal
 
 pub returns : goal.returns

@@ -1,5 +1,4 @@
 -- `c_api::widagbe_message_length` meets its contract: the length, told. Assumes nothing.
-use Rattle.integers.proofs.Prelude.{rules}
 use Rattle.c_api.proofs.widagbe_message_length.Goals as goal
 
 pub returns : goal.returns

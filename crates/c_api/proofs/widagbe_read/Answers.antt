@@ -1,5 +1,4 @@
 -- `c_api::widagbe_read` meets its contract: what the reader found, told. Assumes nothing.
-use Rattle.integers.proofs.Prelude.{rules}
 use Rattle.c_api.proofs.widagbe_read.Goals as goal
 
 pub returns : goal.returns

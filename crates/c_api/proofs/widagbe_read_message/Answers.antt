@@ -1,5 +1,4 @@
 -- `c_api::widagbe_read_message` meets its contract: what was found of the word, told. Assumes nothing.
-use Rattle.integers.proofs.Prelude.{rules}
 use Rattle.c_api.proofs.widagbe_read_message.Goals as goal
 
 pub returns : goal.returns

@@ -1,5 +1,4 @@
 -- `c_api::widagbe_test` meets its contract: what the test found, told. Assumes nothing.
-use Rattle.integers.proofs.Prelude.{rules}
 use Rattle.c_api.proofs.widagbe_test.Goals as goal
 
 pub returns : goal.returns

@@ -1,5 +1,5 @@
 -- `c_api::word_answer` meets its contract: case by case. Assumes nothing.
-use Rattle.integers.proofs.Prelude.{sym, ap, rules}
+use Rattle.integers.proofs.Prelude.{sym, ap}
 use Rattle.model.specs.Calls.{verdict_told}
 use Rattle.c_api.proofs.word_answer.Goals as goal
 

@@ -1,5 +1,5 @@
 -- `channel::cost` meets its contract: the sign bit decides the sign. Assumes nothing.
-use Rattle.integers.proofs.Prelude.{ap, ◌∙◌, rules, lt-leb, le-leb, pos, w16, to_z}
+use Rattle.integers.proofs.Prelude.{ap, ◌∙◌, lt-leb, le-leb, pos, w16, to_z}
 use native.Mathlib.Nat.{min-le_right}
 use Rattle.integers.proofs.Machine.{Worth, unsigned, negative, fits, stored, fits_abs}
 use Rattle.model.specs.Channel.{cost_of_bits}

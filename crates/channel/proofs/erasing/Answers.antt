@@ -1,8 +1,7 @@
 -- `channel::erasing` meets its contract: the weight's two costs and 0 are all that a sample can cost. Assumes nothing.
-use Rattle.integers.proofs.Prelude.{◌≡◌, refl, sym, ◌∙◌, Bool, true, false, cond, ◌-◌, ◌≤◌, arith, rules, ℤ, pos, length, get_or, w16}
+use Rattle.integers.proofs.Prelude.{◌≡◌, refl, sym, ◌∙◌, Bool, true, false, cond, arith, ℤ, pos, length, get_or, w16}
 use lib.Ieee.{Float, nan, binary32, is_nan, lt, neg, to_bits}
 use Rattle.integers.proofs.Machine.{kept}
-use Rattle.lists.specs.Tabulated.{over}
 use Rattle.lists.proofs.Tabulated.{length_over, over_stored, over_map}
 use Rattle.model.specs.declared.Erasure.{Erasure}
 use Rattle.model.specs.declared.Channel.TheVariants.{Erasing}

@@ -1,5 +1,5 @@
 -- `channel::fill` meets its contract: a call for each kind; hard is erasing with a floor of 0. Assumes nothing.
-use Rattle.integers.proofs.Prelude.{◌≡◌, sym, ap, fun_ext, rules}
+use Rattle.integers.proofs.Prelude.{◌≡◌, sym, ap, fun_ext}
 use lib.Ieee.{Float, binary32, lt, to_bits, of_bits}
 use Rattle.model.specs.declared.Channel.TheVariants.{Hard, Erasing}
 use Rattle.model.specs.Channel.{in_range, cost_of_bits, cost_of}

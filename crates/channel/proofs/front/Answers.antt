@@ -1,5 +1,5 @@
 -- `channel::front` meets its contract: each answer by the tests that led to it. Assumes nothing.
-use Rattle.integers.proofs.Prelude.{◌≡◌, sym, ◌∙◌, true, false, not, rules, lt-ltb, le-ltb, not-false, not-true}
+use Rattle.integers.proofs.Prelude.{◌≡◌, sym, ◌∙◌, true, false, not, lt-ltb, le-ltb, not-false, not-true}
 use Rattle.lists.specs.Entries.{some}
 use Rattle.model.specs.Channel.{finite, in_range}
 use Rattle.model.specs.Calls.{channel_front}

@@ -1,7 +1,6 @@
 -- `channel::gaussian` meets its contract: after i turns the first i entries are the costs of the first i samples. Assumes nothing.
-use Rattle.integers.proofs.Prelude.{◌≡◌, refl, ◌∙◌, true, not, ◌-◌, ◌≤◌, arith, rules, not-false, length, get_or, w16}
+use Rattle.integers.proofs.Prelude.{◌≡◌, refl, ◌∙◌, true, not, arith, not-false, length, get_or, w16}
 use lib.Ieee.{nan}
-use Rattle.lists.specs.Tabulated.{over}
 use Rattle.lists.proofs.Tabulated.{length_over, over_stored, over_map}
 use Rattle.lists.proofs.Entries.{some_at}
 use Rattle.model.specs.declared.Channel.TheVariants.{Gaussian}

@@ -1,12 +1,9 @@
 -- `channel::gaussian` meets its contract: after i turns the first i entries are the costs of the first i samples. Assumes nothing.
-use Rattle.integers.proofs.Prelude.{◌≡◌, refl, ◌∙◌, true, not, ◌-◌, ◌≤◌, arith, rules, not-false, length, get_or, w16}
+use Rattle.integers.proofs.Prelude.{◌≡◌, ◌-◌, ◌≤◌, length, get_or}
 use lib.Ieee.{nan}
 use Rattle.lists.specs.Tabulated.{over}
-use Rattle.lists.proofs.Tabulated.{length_over, over_stored, over_map}
-use Rattle.lists.proofs.Entries.{some_at}
 use Rattle.model.specs.declared.Channel.TheVariants.{Gaussian}
-use Rattle.model.specs.Channel.{finite, cost_of, product}
-use Rattle.model.proofs.Products.{product_number}
+use Rattle.model.specs.Channel.{cost_of}
 use Rattle.channel.proofs.gaussian.Given as goal
 
 abbrev pub invariant-loop-i : goal.invariant-loop-i

@@ -1,5 +1,4 @@
 -- `channel::in_range` meets its contract, kind by kind. Assumes nothing.
-use Rattle.integers.proofs.Prelude.{rules}
 use Rattle.model.specs.Channel.{in_range}
 use Rattle.channel.proofs.in_range.Goals as goal
 

@@ -1,5 +1,4 @@
 -- `channel::is_finite` meets its contract: a size is below infinity where the sample is finite. Assumes nothing.
-use Rattle.integers.proofs.Prelude.{rules}
 use lib.Ieee.{of_bits, nan_bits}
 use Rattle.model.proofs.Floats.{size_finite}
 use Rattle.channel.proofs.is_finite.Goals as goal

@@ -1,5 +1,5 @@
 -- `channel::rounded` meets its contract: the shift loses nothing, and its quotient is the limited size. Assumes nothing.
-use Rattle.integers.proofs.Prelude.{◌≡◌, ◌%◌, ◌^◌, ◌<◌, arith, rules}
+use Rattle.integers.proofs.Prelude.{◌≡◌, ◌%◌, ◌^◌, ◌<◌, arith}
 use Rattle.channel.proofs.Rounding.{shifted, shift_fits, size_is}
 use Rattle.channel.proofs.rounded.Goals as goal
 use Rattle.channel.proofs.rounded.Goals.{After-limited-b}

@@ -1,5 +1,4 @@
 -- `channel::scale_in_range` meets its contract. Assumes nothing.
-use Rattle.integers.proofs.Prelude.{rules}
 use lib.Ieee.{of_bits}
 use Rattle.channel.proofs.scale_in_range.Goals as goal
 

@@ -1,5 +1,5 @@
 -- `channel::selected` meets its contract, test by test. Assumes nothing.
-use Rattle.integers.proofs.Prelude.{◌≡◌, sym, ap, ◌∙◌, rules, to_z-of_z}
+use Rattle.integers.proofs.Prelude.{◌≡◌, sym, ap, ◌∙◌, to_z-of_z}
 use lib.Ieee.{Float, of_bits, lt}
 use Rattle.model.specs.Channel.{size_of}
 use Rattle.channel.proofs.selected.Goals as goal

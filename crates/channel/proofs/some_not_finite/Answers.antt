@@ -1,7 +1,7 @@
 -- `channel::some_not_finite` meets its contract: what was found, or is still to be found, decides. Assumes nothing.
-use Rattle.integers.proofs.Prelude.{refl, not, ◌-◌, rules, length}
+use Rattle.integers.proofs.Prelude.{refl, not}
 use lib.Ieee.{nan}
-use Rattle.lists.proofs.Entries.{Found, found_next, found_end}
+use Rattle.lists.proofs.Entries.{found_next, found_end}
 use Rattle.model.specs.Channel.{finite}
 use Rattle.channel.proofs.some_not_finite.Goals as goal
 

@@ -1,6 +1,5 @@
 -- `codeword::copy` meets its contract: what is copied so far. Assumes nothing.
-use Rattle.integers.proofs.Prelude.{◌≡◌, refl, ap, ◌∙◌, ◌-◌, ◌≤◌, arith, add-one, length}
-use Rattle.lists.specs.Tabulated.{over}
+use Rattle.integers.proofs.Prelude.{◌≡◌, refl, ap, ◌∙◌, arith, add-one, length}
 use Rattle.lists.proofs.Tabulated.{over_next, over_all, length_over}
 use Rattle.model.specs.Words.{bit_at}
 use Rattle.codeword.proofs.copy.Goals as goal

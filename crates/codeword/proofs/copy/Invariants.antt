@@ -1,7 +1,6 @@
 -- `codeword::copy` meets its contract: what is copied so far. Assumes nothing.
-use Rattle.integers.proofs.Prelude.{◌≡◌, refl, ap, ◌∙◌, ◌-◌, ◌≤◌, arith, add-one, length}
+use Rattle.integers.proofs.Prelude.{◌≡◌, ◌≤◌, length}
 use Rattle.lists.specs.Tabulated.{over}
-use Rattle.lists.proofs.Tabulated.{over_next, over_all, length_over}
 use Rattle.model.specs.Words.{bit_at}
 use Rattle.codeword.proofs.copy.Given as goal
 

@@ -1,5 +1,5 @@
 -- `codeword::extend` meets its contract: the causes in their order, then the first odd check, then the point. Assumes nothing.
-use Rattle.integers.proofs.Prelude.{◌≡◌, refl, sym, ◌∙◌, ◌≤◌, arith, rules, lt-ltb, le-ltb, length}
+use Rattle.integers.proofs.Prelude.{◌≡◌, refl, sym, ◌∙◌, ◌≤◌, arith, lt-ltb, le-ltb, length}
 use Rattle.model.specs.declared.Verdict.{Verdict}
 use Rattle.model.specs.Code.{variables}
 use Rattle.model.specs.Records.{code_of}

@@ -1,11 +1,11 @@
 -- `codeword::first_odd` meets its contract: the checks so far are even. Assumes nothing.
-use Rattle.integers.proofs.Prelude.{◌≡◌, sym, ap, ◌∙◌, Bool, false, List, [], ℕ, ◌-◌, ◌≤◌, ◌<◌, arith, rules, length, get_or}
+use Rattle.integers.proofs.Prelude.{◌≡◌, sym, ap, ◌∙◌, false, ◌<◌, arith, length}
 use Rattle.lists.proofs.Entries.{below_next, first_at, first_none}
 use Rattle.model.specs.Records.{bit_count, check_count, indices, checks_in, after_checks, code_of}
 use Rattle.model.specs.Words.{odd, first_odd}
 use Rattle.model.proofs.Accepted.{SoundBytes, SoundRecord, bytes_sound, record_sound, length_checks}
 use Rattle.model.proofs.Sound.{rising_below}
-use Rattle.records.proofs.Walk.{Walk, walk_next, walk_check, walk_judged}
+use Rattle.records.proofs.Walk.{walk_next, walk_check, walk_judged}
 use Rattle.triples.proofs.Auxiliaries.{body}
 use Rattle.codeword.proofs.first_odd.Invariants.{odd_at}
 use Rattle.codeword.proofs.first_odd.Goals as goal

@@ -1,7 +1,6 @@
 -- `codeword::is_odd` meets its contract: the sum over the indices so far. Assumes nothing.
-use Rattle.integers.proofs.Prelude.{◌≡◌, refl, ap, ◌∙◌, [], ◌∷◌, ℕ, ◌-◌, ◌*◌, ◌%◌, ◌≤◌, arith, add-one, rules, eqb, get_or, take, take_all, take-suc}
+use Rattle.integers.proofs.Prelude.{◌≡◌, ◌-◌, ◌*◌, ◌≤◌, take}
 use Rattle.lists.specs.Entries.{total}
-use Rattle.lists.proofs.Entries.{total_append}
 use Rattle.model.specs.Records.{indices}
 use Rattle.model.specs.Words.{bit_at}
 use Rattle.codeword.proofs.is_odd.Given as goal

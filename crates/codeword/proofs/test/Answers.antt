@@ -1,5 +1,5 @@
 -- `codeword::test` meets its contract: the causes in their order, then the first odd check. Assumes nothing.
-use Rattle.integers.proofs.Prelude.{◌≡◌, sym, ◌∙◌, [], arith, rules}
+use Rattle.integers.proofs.Prelude.{◌≡◌, sym, ◌∙◌, [], arith}
 use Rattle.model.specs.declared.Verdict.{Verdict}
 use Rattle.reader.proofs.Answers.{Read, told_code, told_refused}
 use Rattle.codeword.proofs.Verdicts.{word_cause, word_long, causes, by_code, by_word, by_rest, odd_told, even_told, test_refused, test_passed}

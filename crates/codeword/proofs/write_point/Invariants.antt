@@ -1,10 +1,8 @@
 -- `codeword::write_point` meets its contract: the checks so far, and their auxiliaries. Assumes nothing.
-use Rattle.integers.proofs.Prelude.{◌≡◌, ◌-◌, ◌<◌, arith, rules, length}
+use Rattle.integers.proofs.Prelude.{◌≡◌, ◌-◌}
 use Rattle.lists.specs.Tabulated.{written}
-use Rattle.model.specs.Records.{check_count, code_of}
-use Rattle.model.proofs.Accepted.{SoundHeader, bytes_sound}
-use Rattle.triples.proofs.Auxiliaries.{Numbered, numbered_start, At, numbered_at}
-use Rattle.codeword.proofs.Extending.{point_to, filled_start, length_now, filled_next, filled_end}
+use Rattle.triples.proofs.Auxiliaries.{Numbered}
+use Rattle.codeword.proofs.Extending.{point_to}
 use Rattle.codeword.proofs.write_point.Given as goal
 
 abbrev pub invariant-loop-j : goal.invariant-loop-j

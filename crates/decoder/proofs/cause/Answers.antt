@@ -1,5 +1,5 @@
 -- `decoder::cause` meets its contract: the first test that passes. Assumes nothing.
-use Rattle.integers.proofs.Prelude.{◌≡◌, refl, sym, ap, ◌∙◌, Bool, false, not, arith, rules, eq-eqb, ne_eqb, length}
+use Rattle.integers.proofs.Prelude.{◌≡◌, refl, sym, ap, ◌∙◌, Bool, false, not, arith, eq-eqb, ne_eqb, length}
 use Rattle.lists.specs.Entries.{some}
 use Rattle.model.specs.Calls.{out_of_range, unequal, forbidden}
 use Rattle.model.proofs.Causes.{of_four, by_tests}

@@ -1,5 +1,5 @@
 -- `decoder::decode` meets its contract: the causes in their order, then the run. Assumes nothing.
-use Rattle.integers.proofs.Prelude.{◌≡◌, sym, ap, ap₂, ◌∙◌, Bool, false, ◌||◌, List, ℕ, ◌+◌, ◌-◌, ◌*◌, arith, rules, ltb-false, eqb-true, not-false}
+use Rattle.integers.proofs.Prelude.{◌≡◌, sym, ap, ap₂, ◌∙◌, Bool, false, ◌||◌, List, ℕ, ◌+◌, ◌-◌, ◌*◌, arith, ltb-false, eqb-true, not-false}
 use Rattle.integers.proofs.Prelude.{eqb, length}
 use Rattle.model.specs.Calls.{out_of_range, unequal, Lists, lacks_room, input_causes}
 use Rattle.model.specs.Causes.{first_of, short}

@@ -1,17 +1,16 @@
 -- `decoder::decode_accepted` meets its contract: the parts of the answer are those of the run. Assumes nothing.
-use Rattle.integers.proofs.Prelude.{◌≡◌, sym, ap, ap₂, ◌∙◌, List, ℕ, arith, rules, ℤ, length, take}
+use Rattle.integers.proofs.Prelude.{◌≡◌, sym, ap, ap₂, ◌∙◌, List, ℕ, arith, ℤ, length, take}
 use Rattle.lists.specs.Tabulated.{written}
 use Rattle.lists.proofs.Tabulated.{take_written}
 use Rattle.quotient.specs.Quotient.{quotient}
 use Rattle.model.specs.Calls.{Lists, Answer}
 use Rattle.model.specs.Causes as Causes
 use Rattle.model.proofs.Accepted.{accepted}
-use Rattle.model.specs.Run.{Ended, after, run}
+use Rattle.model.specs.Run.{Ended, run}
 use Rattle.model.specs.Words.{word_of, Outcome, outcome}
 use Rattle.model.specs.Records.{code_of}
-use Rattle.model.specs.Code.{Code, triples}
+use Rattle.model.specs.Code.{Code}
 use Rattle.model.specs.Splitting.{system_of}
-use Rattle.outcome.proofs.Outcomes.{told}
 use Rattle.decoder.proofs.Decoded.{decoded}
 use Rattle.decoder.proofs.decode_accepted.Goals as goal
 use Rattle.decoder.proofs.decode_accepted.Goals.{Start, After-run_system-ending}

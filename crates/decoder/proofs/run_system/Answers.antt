@@ -1,5 +1,5 @@
 -- `decoder::run_system` meets its contract: the parts that are lent hold the code's system. Assumes nothing.
-use Rattle.integers.proofs.Prelude.{◌≡◌, sym, ap, ◌∙◌, List, ℕ, ◌*◌, rules, length, take, length-take-le}
+use Rattle.integers.proofs.Prelude.{◌≡◌, sym, ap, ◌∙◌, List, ℕ, ◌*◌, length, take, length-take-le}
 use Rattle.lists.proofs.Parts.{lent_back}
 use Rattle.quotient.specs.Quotient.{quotient}
 use Rattle.model.proofs.Accepted.{accepted}

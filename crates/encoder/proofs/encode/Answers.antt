@@ -1,5 +1,5 @@
 -- `encoder::encode` meets its contract: one frame. Assumes nothing.
-use Rattle.integers.proofs.Prelude.{refl, rules}
+use Rattle.integers.proofs.Prelude.{refl}
 use Rattle.model.proofs.EncodingPromises.{encoder_call}
 use Rattle.encoder.proofs.encode.Goals as goal
 

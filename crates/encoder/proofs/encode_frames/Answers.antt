@@ -1,5 +1,5 @@
 -- `encoder::encode_frames` meets its contract: the causes in their order, then the words. Assumes nothing.
-use Rattle.integers.proofs.Prelude.{refl, arith, rules}
+use Rattle.integers.proofs.Prelude.{refl, arith}
 use Rattle.encoder.proofs.Readiness.{some_bits, few, size_counted}
 use Rattle.encoder.proofs.Answers.{frames_unready, frames_refused, frames_fit, frames_told}
 use Rattle.encoder.proofs.encode_frames.Goals as goal

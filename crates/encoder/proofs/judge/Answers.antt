@@ -1,5 +1,5 @@
 -- `encoder::judge` meets its contract: the causes in their order. Assumes nothing.
-use Rattle.integers.proofs.Prelude.{◌≡◌, sym, ap, ◌∙◌, true, false, not, ◌*◌, rules, lt-ltb, le-ltb}
+use Rattle.integers.proofs.Prelude.{◌≡◌, sym, ap, ◌∙◌, true, false, not, ◌*◌, lt-ltb, le-ltb}
 use native.Mathlib.Nat.{div-lt_iff_lt-mul, le-div_iff_mul-le}
 use Rattle.lists.specs.Entries.{some}
 use Rattle.model.specs.Causes.{short}

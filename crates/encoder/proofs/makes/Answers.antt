@@ -1,5 +1,5 @@
 -- `encoder::makes` meets its contract. Assumes nothing.
-use Rattle.integers.proofs.Prelude.{◌≡◌, ap, ◌*◌, arith, rules, eqb}
+use Rattle.integers.proofs.Prelude.{◌≡◌, ap, ◌*◌, arith, eqb}
 use Rattle.encoder.proofs.Frames.{makes}
 use Rattle.encoder.proofs.makes.Goals as goal
 

@@ -1,5 +1,5 @@
 -- `encoder::message_length` meets its contract. Assumes nothing.
-use Rattle.integers.proofs.Prelude.{refl, rules}
+use Rattle.integers.proofs.Prelude.{refl}
 use Rattle.model.specs.Encoding.{message_size}
 use Rattle.model.proofs.EncodingPromises.{length_call}
 use Rattle.encoder.proofs.message_length.Goals as goal

@@ -1,5 +1,5 @@
 -- `encoder::prepare` meets its contract: a code that is refused, one that is too long, or its reduced matrix. Assumes nothing.
-use Rattle.integers.proofs.Prelude.{ap, arith, rules, length}
+use Rattle.integers.proofs.Prelude.{ap, arith, length}
 use Rattle.reader.proofs.Answers.{Read, told_code, told_refused}
 use Rattle.encoder.proofs.Readiness.{refused_ready, long_ready, whole_ready}
 use Rattle.encoder.proofs.prepare.Goals as goal

@@ -1,5 +1,5 @@
 -- `encoder::read_message` meets its contract: the causes in their order, then the first odd check, then the message. Assumes nothing.
-use Rattle.integers.proofs.Prelude.{◌≡◌, refl, ◌∙◌, arith, rules, length}
+use Rattle.integers.proofs.Prelude.{◌≡◌, refl, ◌∙◌, arith, length}
 use Rattle.model.specs.declared.Verdict.{Verdict}
 use Rattle.model.specs.Records.{code_of}
 use Rattle.codeword.proofs.Verdicts.{odd_told, even_told}

@@ -1,7 +1,6 @@
 -- `encoder::write_words` meets its contract: the words of the frames so far. Assumes nothing.
-use Rattle.integers.proofs.Prelude.{◌≡◌, refl, ap, ◌∙◌, ℕ, suc, ◌+◌, ◌-◌, ◌*◌, ◌≤◌, arith, rules, List, length, take, drop}
+use Rattle.integers.proofs.Prelude.{◌≡◌, refl, ap, ◌∙◌, ℕ, suc, ◌+◌, ◌-◌, ◌*◌, ◌≤◌, arith, List, length, take, drop}
 use native.Mathlib.Nat.{mul-le-mul_right}
-use Rattle.lists.specs.Tabulated.{written}
 use Rattle.lists.proofs.Parts.{length_part}
 use Rattle.model.specs.Encoding.{Column, frames_in}
 use Rattle.reduction.specs.Table.{columns_in}

@@ -1,12 +1,8 @@
 -- `encoder::write_words` meets its contract: the words of the frames so far. Assumes nothing.
-use Rattle.integers.proofs.Prelude.{◌≡◌, refl, ap, ◌∙◌, ℕ, suc, ◌+◌, ◌-◌, ◌*◌, ◌≤◌, arith, rules, List, length, take, drop}
-use native.Mathlib.Nat.{mul-le-mul_right}
+use Rattle.integers.proofs.Prelude.{◌≡◌, ◌-◌, ◌≤◌}
 use Rattle.lists.specs.Tabulated.{written}
-use Rattle.lists.proofs.Parts.{length_part}
-use Rattle.model.specs.Encoding.{Column, frames_in}
+use Rattle.model.specs.Encoding.{frames_in}
 use Rattle.reduction.specs.Table.{columns_in}
-use Rattle.reduction.proofs.Table.{length_columns}
-use Rattle.encoder.proofs.Frames.{frames_long, next_frame}
 use Rattle.encoder.proofs.write_words.Given as goal
 
 abbrev pub invariant-loop-f : goal.invariant-loop-f

@@ -1,5 +1,5 @@
 -- `exporter::export` meets its contract: the judgement, and the text of an accepted code where it fits. Assumes nothing.
-use Rattle.integers.proofs.Prelude.{arith, rules}
+use Rattle.integers.proofs.Prelude.{arith}
 use Rattle.model.specs.Records.{code_of}
 use Rattle.model.specs.RecordClaims.{Bytes}
 use Rattle.model.specs.Alist.{alist_of}

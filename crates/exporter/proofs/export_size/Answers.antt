@@ -1,5 +1,4 @@
 -- `exporter::export_size` meets its contract: the judgement, and the bytes of an accepted code's text. Assumes nothing.
-use Rattle.integers.proofs.Prelude.{rules}
 use Rattle.reader.proofs.Answers.{Read, told_code, told_refused}
 use Rattle.exporter.proofs.Answers.{header_room, code_accepted, fitted_read, size_refused, size_told}
 use Rattle.exporter.proofs.export_size.Goals as goal

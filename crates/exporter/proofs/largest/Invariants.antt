@@ -1,8 +1,6 @@
 -- `exporter::largest` meets its contract: the largest so far, or one that is to come. Assumes nothing.
-use Rattle.integers.proofs.Prelude.{◌≡◌, ap, ◌-◌, ◌≤◌, max, arith, rules, drop, drop_of_length-le}
-use mathlib.Core.Logic.{⊎_elim}
+use Rattle.integers.proofs.Prelude.{◌≡◌, ◌≤◌, max, drop}
 use Rattle.model.specs.Alist.{largest}
-use Rattle.exporter.proofs.Lists.{largest_next}
 use Rattle.exporter.proofs.largest.Given as goal
 
 abbrev pub invariant-loop-i : goal.invariant-loop-i

@@ -1,6 +1,5 @@
 -- `exporter::measure_in` meets its contract: the pairs, the columns and the rows. Assumes nothing.
-use Rattle.integers.proofs.Prelude.{refl, sym, arith, rules}
-use Rattle.model.specs.Alist.{largest}
+use Rattle.integers.proofs.Prelude.{refl, sym, arith}
 use Rattle.exporter.specs.Lines.{SideLists}
 use Rattle.exporter.proofs.Texts.{measured}
 use Rattle.exporter.proofs.Work.{long, bits_most, checks_most, entries_asked, side_columns, side_rows, text}

@@ -1,5 +1,5 @@
 -- `exporter::put_head` meets its contract: the pairs and the lines of the degrees, one after another. Assumes nothing.
-use Rattle.integers.proofs.Prelude.{◌≡◌, ap₂, List, [], ◌∷◌, ◌++◌, ℕ, arith, rules, length}
+use Rattle.integers.proofs.Prelude.{◌≡◌, ap₂, List, [], ◌∷◌, ◌++◌, ℕ, arith, length}
 use Rattle.model.specs.Alist.{largest, line_of}
 use Rattle.text.specs.Appended.{Appended}
 use Rattle.text.proofs.Appended.{then}

@@ -1,5 +1,5 @@
 -- `exporter::put_list` meets its contract: the numbers, the zeros, and the line feed in the place of the last space. Assumes nothing.
-use Rattle.integers.proofs.Prelude.{◌+◌, ◌-◌, ◌*◌, ◌≤◌, arith, rules, length}
+use Rattle.integers.proofs.Prelude.{◌+◌, ◌-◌, ◌*◌, ◌≤◌, arith, length}
 use lib.ListN.{replicate}
 use Rattle.model.specs.Alist.{fill}
 use Rattle.model.proofs.AlistForm.{length_fill}

@@ -1,8 +1,6 @@
 -- `exporter::put_lists` meets its contract: the lines of the lists so far. Assumes nothing.
-use Rattle.integers.proofs.Prelude.{◌≡◌, refl, ap, ℕ, ◌-◌, ◌≤◌, arith, rules, length, take, take_all}
-use Rattle.lists.specs.Entries.{sum}
-use Rattle.model.specs.Alist.{largest, text_of}
-use Rattle.text.specs.Appended.{Appended}
+use Rattle.integers.proofs.Prelude.{◌≡◌, refl, ap, ℕ, arith, length, take_all}
+use Rattle.model.specs.Alist.{text_of}
 use Rattle.text.proofs.Appended.{none, long, then}
 use Rattle.exporter.specs.Lines.{filled_text, lists_text}
 use Rattle.exporter.proofs.Lists.{Listed, listed}

@@ -1,11 +1,8 @@
 -- `exporter::put_lists` meets its contract: the lines of the lists so far. Assumes nothing.
-use Rattle.integers.proofs.Prelude.{◌≡◌, refl, ap, ℕ, ◌-◌, ◌≤◌, arith, rules, length, take, take_all}
+use Rattle.integers.proofs.Prelude.{◌≡◌, ◌≤◌, take}
 use Rattle.lists.specs.Entries.{sum}
-use Rattle.model.specs.Alist.{largest, text_of}
 use Rattle.text.specs.Appended.{Appended}
-use Rattle.text.proofs.Appended.{none, long, then}
-use Rattle.exporter.specs.Lines.{filled_text, lists_text}
-use Rattle.exporter.proofs.Lists.{Listed, listed}
+use Rattle.exporter.specs.Lines.{filled_text}
 use Rattle.exporter.proofs.put_lists.Given as goal
 
 abbrev pub invariant-loop-i : goal.invariant-loop-i

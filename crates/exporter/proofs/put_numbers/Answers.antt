@@ -1,7 +1,6 @@
 -- `exporter::put_numbers` meets its contract: the numbers so far. Assumes nothing.
-use Rattle.integers.proofs.Prelude.{ap, ℕ, ◌+◌, ◌-◌, ◌≤◌, arith, rules, length, take, take_all}
+use Rattle.integers.proofs.Prelude.{ap, ℕ, ◌+◌, ◌≤◌, arith, length, take_all}
 use Rattle.model.specs.Text.{decimal}
-use Rattle.text.specs.Appended.{Appended}
 use Rattle.text.proofs.Appended.{none, long, then}
 use Rattle.exporter.specs.Lines.{spaced}
 use Rattle.exporter.proofs.Lines.{spaced_next, spaced_room}

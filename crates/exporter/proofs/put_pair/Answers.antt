@@ -1,5 +1,5 @@
 -- `exporter::put_pair` meets its contract: a number, a space, a number and a line feed. Assumes nothing.
-use Rattle.integers.proofs.Prelude.{[], ◌∷◌, ◌+◌, ◌≤◌, arith, rules, length}
+use Rattle.integers.proofs.Prelude.{[], ◌∷◌, ◌+◌, ◌≤◌, arith, length}
 use Rattle.model.specs.Text.{decimal}
 use Rattle.model.specs.Alist.{line_of}
 use Rattle.text.proofs.Appended.{long, then}

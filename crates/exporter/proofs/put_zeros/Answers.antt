@@ -1,7 +1,5 @@
 -- `exporter::put_zeros` meets its contract: the zeros so far. Assumes nothing.
-use Rattle.integers.proofs.Prelude.{◌≡◌, ◌+◌, ◌-◌, ◌≤◌, arith, rules, length}
-use lib.ListN.{replicate}
-use Rattle.text.specs.Appended.{Appended}
+use Rattle.integers.proofs.Prelude.{◌≡◌, ◌+◌, ◌≤◌, arith, length}
 use Rattle.text.proofs.Appended.{none, long, then}
 use Rattle.exporter.specs.Lines.{spaced}
 use Rattle.exporter.proofs.Lines.{length_zeros, zeros_next}

@@ -1,10 +1,8 @@
 -- `exporter::put_zeros` meets its contract: the zeros so far. Assumes nothing.
-use Rattle.integers.proofs.Prelude.{◌≡◌, ◌+◌, ◌-◌, ◌≤◌, arith, rules, length}
+use Rattle.integers.proofs.Prelude.{◌-◌, ◌≤◌}
 use lib.ListN.{replicate}
 use Rattle.text.specs.Appended.{Appended}
-use Rattle.text.proofs.Appended.{none, long, then}
 use Rattle.exporter.specs.Lines.{spaced}
-use Rattle.exporter.proofs.Lines.{length_zeros, zeros_next}
 use Rattle.exporter.proofs.put_zeros.Given as goal
 
 abbrev pub invariant-loop-i : goal.invariant-loop-i

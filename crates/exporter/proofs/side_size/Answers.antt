@@ -1,5 +1,5 @@
 -- `exporter::side_size` meets its contract: the degrees, the entries, and two bytes for each zero. Assumes nothing.
-use Rattle.integers.proofs.Prelude.{◌≡◌, ap, ℕ, ◌*◌, ◌≤◌, arith, rules, length}
+use Rattle.integers.proofs.Prelude.{◌≡◌, ap, ℕ, ◌*◌, ◌≤◌, arith, length}
 use native.Mathlib.Nat.{mul-le-mul}
 use Rattle.model.specs.Alist.{largest}
 use Rattle.model.proofs.AlistSizes.{total_most}

@@ -1,5 +1,5 @@
 -- `exporter::size` meets its contract: the bytes of the numbers so far. Assumes nothing.
-use Rattle.integers.proofs.Prelude.{◌≡◌, refl, ap, ◌∙◌, ℕ, ◌+◌, ◌-◌, ◌*◌, ◌≤◌, arith, add-one, rules, length, get_or, take, take_all}
+use Rattle.integers.proofs.Prelude.{◌≡◌, refl, ap, ◌∙◌, ℕ, ◌+◌, arith, add-one, length, get_or, take, take_all}
 use Rattle.lists.specs.Entries.{total}
 use Rattle.lists.proofs.Entries.{total_next}
 use Rattle.model.specs.Text.{decimal}

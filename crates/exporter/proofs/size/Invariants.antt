@@ -1,8 +1,6 @@
 -- `exporter::size` meets its contract: the bytes of the numbers so far. Assumes nothing.
-use Rattle.integers.proofs.Prelude.{◌≡◌, refl, ap, ◌∙◌, ℕ, ◌+◌, ◌-◌, ◌*◌, ◌≤◌, arith, add-one, rules, length, get_or, take, take_all}
+use Rattle.integers.proofs.Prelude.{◌≡◌, ◌*◌, ◌≤◌, take}
 use Rattle.lists.specs.Entries.{total}
-use Rattle.lists.proofs.Entries.{total_next}
-use Rattle.model.specs.Text.{decimal}
 use Rattle.exporter.proofs.Lines.{field}
 use Rattle.exporter.proofs.size.Given as goal
 

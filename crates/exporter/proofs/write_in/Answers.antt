@@ -1,5 +1,5 @@
 -- `exporter::write_in` meets its contract: the head, the lists of the columns and those of the rows. Assumes nothing.
-use Rattle.integers.proofs.Prelude.{◌≡◌, refl, sym, ap, ◌∙◌, List, ◌++◌, map, ℕ, suc, arith, rules, length}
+use Rattle.integers.proofs.Prelude.{◌≡◌, refl, sym, ap, ◌∙◌, List, ◌++◌, map, ℕ, suc, arith, length}
 use Rattle.lists.specs.Tabulated.{tab, written}
 use Rattle.model.specs.Records.{checks_in}
 use Rattle.model.specs.Alist.{column_from}

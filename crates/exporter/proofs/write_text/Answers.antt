@@ -1,5 +1,5 @@
 -- `exporter::write_text` meets its contract: parts of its own lists are lent. Assumes nothing.
-use Rattle.integers.proofs.Prelude.{refl, sym, rules}
+use Rattle.integers.proofs.Prelude.{refl, sym}
 use Rattle.exporter.proofs.Work.{checks_few, part_long, degrees_asked, Ready, ready, same_fitted}
 use Rattle.exporter.proofs.write_text.Goals as goal
 use Rattle.exporter.proofs.write_text.Goals.{After-row_degrees-places}

@@ -1,5 +1,5 @@
 -- `fours::add_to` meets its contract. Assumes nothing.
-use Rattle.integers.proofs.Prelude.{ap, ◌∙◌, List, ℕ, ◌+◌, ◌^◌, ◌<◌, arith, rules, ℤ, nat_abs, ◌+ℤ◌, sets}
+use Rattle.integers.proofs.Prelude.{ap, ◌∙◌, List, ℕ, ◌+◌, ◌^◌, ◌<◌, arith, ℤ, nat_abs, ◌+ℤ◌, sets}
 use Rattle.integers.proofs.Linear.{abs_add}
 use Rattle.lists.specs.Tabulated.{tab}
 use Rattle.model.specs.Iteration.{at}

@@ -1,5 +1,5 @@
 -- `fours::highs` meets its contract. Assumes nothing.
-use Rattle.integers.proofs.Prelude.{◌^◌, arith, rules}
+use Rattle.integers.proofs.Prelude.{◌^◌, arith}
 use lib.Signed.{shr_z}
 use Rattle.model.specs.Iteration.{at}
 use Rattle.rows.proofs.Four.{small_are}

@@ -1,5 +1,5 @@
 -- `fours::low` meets its contract. Assumes nothing.
-use Rattle.integers.proofs.Prelude.{ap, ◌∙◌, ◌+◌, ◌*◌, ◌^◌, rules, ℤ, pos, ◌-ℤ◌, ◌*ℤ◌, w32}
+use Rattle.integers.proofs.Prelude.{ap, ◌∙◌, ◌+◌, ◌*◌, ◌^◌, ℤ, pos, ◌-ℤ◌, ◌*ℤ◌, w32}
 use lib.Signed.{shr_z}
 use Rattle.integers.proofs.Machine.{Worth, fits, stored, local, param, literal, minus, times}
 use Rattle.model.specs.Limits.{most_row}

@@ -1,5 +1,5 @@
 -- `fours::lowered` meets its contract. Assumes nothing.
-use Rattle.integers.proofs.Prelude.{ℕ, ◌+◌, ◌*◌, ◌^◌, ◌<◌, arith, rules, pos, nat_abs, ◌-ℤ◌, w32}
+use Rattle.integers.proofs.Prelude.{ℕ, ◌+◌, ◌*◌, ◌^◌, ◌<◌, arith, pos, nat_abs, ◌-ℤ◌, w32}
 use Rattle.integers.proofs.Linear.{abs_sub}
 use Rattle.integers.proofs.Machine.{Worth, fits}
 use Rattle.quotient.specs.Quotient.{unit}

@@ -1,5 +1,5 @@
 -- `fours::lows` meets its contract. Assumes nothing.
-use Rattle.integers.proofs.Prelude.{ℕ, ◌*◌, ◌^◌, ◌≤◌, arith, rules, ℤ, pos, nat_abs, ◌-ℤ◌, ◌*ℤ◌, w32}
+use Rattle.integers.proofs.Prelude.{ℕ, ◌*◌, ◌^◌, ◌≤◌, arith, ℤ, pos, nat_abs, ◌-ℤ◌, ◌*ℤ◌, w32}
 use lib.Signed.{shr_z}
 use Rattle.integers.proofs.Machine.{within_raw, param}
 use Rattle.model.specs.Limits.{most_row}

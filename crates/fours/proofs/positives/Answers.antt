@@ -1,5 +1,5 @@
 -- `fours::positives` meets its contract. Assumes nothing.
-use Rattle.integers.proofs.Prelude.{rules, pos}
+use Rattle.integers.proofs.Prelude.{pos}
 use Rattle.model.specs.Iteration.{multiplier}
 use Rattle.fours.proofs.Lanes.{each}
 use Rattle.fours.proofs.positives.Goals as goal

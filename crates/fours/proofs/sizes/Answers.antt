@@ -1,5 +1,5 @@
 -- `fours::sizes` meets its contract. Assumes nothing.
-use Rattle.integers.proofs.Prelude.{ℕ, ◌+◌, ◌^◌, ◌<◌, arith, rules, pos, nat_abs}
+use Rattle.integers.proofs.Prelude.{ℕ, ◌+◌, ◌^◌, ◌<◌, arith, pos, nat_abs}
 use Rattle.integers.proofs.Machine.{within_raw}
 use Rattle.model.specs.Iteration.{at, slack, multiplier}
 use Rattle.rows.proofs.Signs.{raw}

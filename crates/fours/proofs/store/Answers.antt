@@ -1,5 +1,5 @@
 -- `fours::store` meets its contract. Assumes nothing.
-use Rattle.integers.proofs.Prelude.{arith, rules, length-set}
+use Rattle.integers.proofs.Prelude.{arith, length-set}
 use Rattle.layout.proofs.Entries.{four_stored}
 use Rattle.fours.proofs.Lanes.{most}
 use Rattle.fours.proofs.store.Goals as goal

@@ -1,5 +1,5 @@
 -- `fours::sub` meets its contract. Assumes nothing.
-use Rattle.integers.proofs.Prelude.{ℕ, rules, ◌-ℤ◌, w32}
+use Rattle.integers.proofs.Prelude.{ℕ, ◌-ℤ◌, w32}
 use Rattle.integers.proofs.Linear.{abs_sub}
 use Rattle.integers.proofs.Machine.{Worth, fits}
 use Rattle.model.specs.Iteration.{at}

@@ -1,6 +1,5 @@
 -- `frames::main` is safe and ends: before each read the state holds what `session::advance` requires of it. Assumes nothing.
-use Rattle.integers.proofs.Prelude.{◌≡◌, sym, arith, rules, length, take, length-take-le}
-use Rattle.session.specs.Session.{Kept}
+use Rattle.integers.proofs.Prelude.{sym, arith, rules, length-take-le}
 use Rattle.session.proofs.Turns.{start_kept}
 use Rattle.session.proofs.Steps.{sent_kept}
 use Rattle.frames.proofs.main.Goals as goal

@@ -1,5 +1,5 @@
 -- `group::cause` meets its contract: the first test that passes. Assumes nothing.
-use Rattle.integers.proofs.Prelude.{◌≡◌, refl, sym, ap, ◌∙◌, Bool, false, not, ◌*◌, arith, rules, eq-eqb, ne_eqb, length}
+use Rattle.integers.proofs.Prelude.{◌≡◌, refl, sym, ap, ◌∙◌, Bool, false, not, ◌*◌, arith, eq-eqb, ne_eqb, length}
 use Rattle.model.specs.Limits.{most_frames}
 use Rattle.model.specs.Causes.{outside}
 use Rattle.model.specs.Calls.{out_of_range, unequal}

@@ -1,17 +1,16 @@
 -- `group::conclude` meets its contract: the answers and the words of the frames so far. Assumes nothing.
-use Rattle.integers.proofs.Prelude.{◌≡◌, refl, sym, ap, ap₂, ◌∙◌, List, map, ℕ, suc, ◌+◌, ◌-◌, ◌*◌, ◌≤◌, ◌<◌, arith, rules, add-one, ℤ, length, get_or, take, drop}
+use Rattle.integers.proofs.Prelude.{◌≡◌, refl, sym, ap, ap₂, ◌∙◌, ℕ, suc, ◌+◌, ◌-◌, ◌*◌, ◌≤◌, ◌<◌, arith, add-one, length, get_or, take, drop}
 use lib.ListN.{replicate}
-use Rattle.lists.specs.Tabulated.{over, written, part, blocks}
+use Rattle.lists.specs.Tabulated.{part}
 use Rattle.lists.proofs.Tabulated.{over_replicate, over_next_map}
 use Rattle.lists.proofs.Parts.{length_part, part_end}
 use Rattle.model.specs.Limits.{most_frames}
 use Rattle.model.specs.Code.{Code}
 use Rattle.model.specs.Records.{code_of}
-use Rattle.model.specs.Calls.{Answer}
 use Rattle.model.specs.Calls.{run_told}
 use Rattle.model.specs.Group.{alone}
 use Rattle.group.specs.Ends.{answer_of, word_left}
-use Rattle.group.proofs.Concluded.{left_in, Concluded, words_long, next_part, next_word}
+use Rattle.group.proofs.Concluded.{Concluded, words_long, next_part, next_word}
 use Rattle.group.proofs.conclude.Invariants.{answered}
 use Rattle.group.proofs.conclude.Goals as goal
 use Rattle.group.proofs.conclude.Goals.{Start, At-loop-f, In-loop-f}

@@ -1,5 +1,5 @@
 -- `group::conclude_frame` meets its contract: 13 where no iteration was done, otherwise what the values say. Assumes nothing.
-use Rattle.integers.proofs.Prelude.{refl, ◌∙◌, arith, rules, eq-eqb, ne_eqb}
+use Rattle.integers.proofs.Prelude.{refl, ◌∙◌, arith, eq-eqb, ne_eqb}
 use Rattle.model.proofs.Accepted.{accepted}
 use Rattle.group.proofs.conclude_frame.Goals as goal
 

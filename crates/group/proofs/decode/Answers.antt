@@ -1,5 +1,5 @@
 -- `group::decode` meets its contract: the causes in their order, then the frames. Assumes nothing.
-use Rattle.integers.proofs.Prelude.{◌≡◌, sym, ap, ap₂, subst, ◌∙◌, false, ℕ, ◌+◌, ◌-◌, ◌<◌, arith, rules, length}
+use Rattle.integers.proofs.Prelude.{◌≡◌, sym, ap, ap₂, subst, ◌∙◌, false, ℕ, ◌+◌, ◌-◌, ◌<◌, arith, length}
 use Rattle.lists.specs.Tabulated.{part}
 use Rattle.lists.specs.Entries.{some}
 use Rattle.model.specs.Code.{Code, triples}

@@ -1,5 +1,5 @@
 -- `group::decode_accepted` meets its contract: the frames' answers, lists and words are those of their runs. Assumes nothing.
-use Rattle.integers.proofs.Prelude.{◌≡◌, refl, sym, ap, subst, ◌∙◌, false, ℕ, ◌*◌, ◌<◌, arith, rules, length}
+use Rattle.integers.proofs.Prelude.{◌≡◌, refl, sym, ap, subst, ◌∙◌, false, ℕ, ◌*◌, ◌<◌, arith, length}
 use Rattle.lists.specs.Tabulated.{part}
 use Rattle.lists.specs.Entries.{some}
 use Rattle.model.specs.Code.{Code}

@@ -1,5 +1,5 @@
 -- `group::mark` meets its contract: by what was found. Assumes nothing.
-use Rattle.integers.proofs.Prelude.{sym, ap, ◌∙◌, Bool, not, rules}
+use Rattle.integers.proofs.Prelude.{sym, ap, ◌∙◌, Bool, not}
 use Rattle.model.specs.Causes.{◌if◌}
 use Rattle.group.proofs.mark.Goals as goal
 

@@ -1,10 +1,7 @@
 -- `group::mark_frames` meets its contract: the marks of the frames so far. Assumes nothing.
-use Rattle.integers.proofs.Prelude.{◌≡◌, refl, sym, ap, ◌∙◌, false, not, List, ℕ, suc, ◌+◌, ◌-◌, ◌*◌, ◌≤◌, ◌<◌, arith, rules, add-one, ℤ, length, take, drop, set}
+use Rattle.integers.proofs.Prelude.{◌≡◌, false, not, List, ℕ, ◌-◌, ◌≤◌, ◌<◌, ℤ}
 use Rattle.lists.specs.Tabulated.{over, part}
 use Rattle.lists.specs.Entries.{some}
-use Rattle.lists.proofs.Tabulated.{over_next, length_over}
-use Rattle.lists.proofs.Entries.{below_next}
-use Rattle.lists.proofs.Parts.{part_end}
 use Rattle.model.specs.Causes.{◌if◌}
 use Rattle.model.specs.Calls.{forbidden}
 use Rattle.model.specs.DecoderClaims.{Small}

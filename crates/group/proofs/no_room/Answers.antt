@@ -1,5 +1,5 @@
 -- `group::no_room` meets its contract: no product is too large. Assumes nothing.
-use Rattle.integers.proofs.Prelude.{◌*◌, arith, rules}
+use Rattle.integers.proofs.Prelude.{◌*◌, arith}
 use Rattle.group.proofs.Sizes.{product_fits}
 use Rattle.group.proofs.no_room.Goals as goal
 

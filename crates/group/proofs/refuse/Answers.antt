@@ -1,5 +1,5 @@
 -- `group::refuse` meets its contract: nothing is told of any frame. Assumes nothing.
-use Rattle.integers.proofs.Prelude.{refl, ap, rules}
+use Rattle.integers.proofs.Prelude.{refl, ap}
 use lib.ListN.{replicate}
 use Rattle.model.specs.Calls.{Answer}
 use Rattle.model.specs.Limits.{most_frames}

@@ -1,5 +1,5 @@
 -- `group::run_system` meets its contract: the parts that are lent hold the code's system, and the frames end as the run leaves them. Assumes nothing.
-use Rattle.integers.proofs.Prelude.{◌≡◌, sym, ◌∙◌, ◌*◌, ◌≤◌, arith, rules, length, take, length-take-le}
+use Rattle.integers.proofs.Prelude.{◌≡◌, sym, ◌∙◌, ◌*◌, ◌≤◌, arith, length, take, length-take-le}
 use Rattle.model.specs.Limits.{most_triples, most_variables}
 use Rattle.model.specs.Code.{Code}
 use Rattle.model.specs.Records.{code_of}

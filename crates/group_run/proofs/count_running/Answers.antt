@@ -1,6 +1,5 @@
 -- `group_run::count_running` meets its contract. Assumes nothing.
-use mathlib.Core.Logic.{⊎_elim}
-use Rattle.integers.proofs.Prelude.{◌≡◌, refl, ap, ◌∙◌, ◌-◌, ◌≤◌, arith, rules, length, take, take_all}
+use Rattle.integers.proofs.Prelude.{refl, ap, ◌∙◌, arith, take_all}
 use Rattle.group_run.proofs.Running.{marked, unmarked, counted_next}
 use Rattle.group_run.specs.Course.{count_running}
 use Rattle.group_run.proofs.count_running.Goals as goal

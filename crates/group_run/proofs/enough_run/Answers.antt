@@ -1,5 +1,4 @@
 -- `group_run::enough_run` meets its contract. Assumes nothing.
-use Rattle.integers.proofs.Prelude.{rules}
 use Rattle.group_run.proofs.enough_run.Goals as goal
 
 pub returns : goal.returns

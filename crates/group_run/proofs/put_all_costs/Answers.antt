@@ -1,11 +1,9 @@
 -- `group_run::put_all_costs` meets its contract: the frames so far have their costs. Assumes nothing.
-use mathlib.Core.Logic.{⊎_elim}
-use Rattle.integers.proofs.Prelude.{◌≡◌, refl, sym, ◌∙◌, ℕ, suc, ◌+◌, ◌-◌, ◌*◌, ◌≤◌, arith, rules, length}
+use Rattle.integers.proofs.Prelude.{◌≡◌, refl, sym, ◌∙◌, ℕ, suc, ◌+◌, ◌-◌, ◌*◌, ◌≤◌, arith, length}
 use native.Mathlib.Nat.{mul-le-mul_right}
 use Rattle.lists.specs.Tabulated.{part}
 use Rattle.lists.proofs.Parts.{length_part}
 use Rattle.lanes.specs.declared.Plan.{Plan}
-use Rattle.group_run.specs.Course.{Put}
 use Rattle.group_run.proofs.Running.{marked, unmarked}
 use Rattle.group_run.proofs.Costs.{put_none, put_next}
 use Rattle.group_run.proofs.put_all_costs.Goals as goal

@@ -1,5 +1,5 @@
 -- `group_run::run` meets its contract: how a frame ends is the same before and after its time in lanes. Assumes nothing.
-use Rattle.integers.proofs.Prelude.{sym, subst, ◌∙◌, arith, rules, T}
+use Rattle.integers.proofs.Prelude.{sym, subst, ◌∙◌, arith, T}
 use Rattle.group_run.proofs.Givens.{given_still}
 use Rattle.group_run.proofs.run.Goals as goal
 use Rattle.group_run.proofs.run.Goals.{Start, Then-enough_run, After-run_in_lanes-arg-then-enough_run-6-1, After-run_in_lanes-done, After-run_frames-arg-then-enough_run-5-1}

@@ -1,5 +1,5 @@
 -- `group_run::run_frame` meets its contract: the parts that are lent hold the system, and come back. Assumes nothing.
-use Rattle.integers.proofs.Prelude.{◌≡◌, ap, ◌∙◌, List, ℕ, suc, ◌+◌, ◌-◌, ◌*◌, ◌≤◌, arith, rules, ℤ, length, take, drop}
+use Rattle.integers.proofs.Prelude.{◌≡◌, ap, ◌∙◌, List, ℕ, suc, ◌+◌, ◌-◌, ◌*◌, ◌≤◌, arith, ℤ, length, take, drop}
 use Rattle.lists.specs.Tabulated.{part}
 use Rattle.lists.proofs.Parts.{length_part}
 use Rattle.lanes.specs.declared.Plan.{Plan}

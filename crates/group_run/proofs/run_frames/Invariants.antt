@@ -1,9 +1,6 @@
 -- `group_run::run_frames` meets its contract: the frames so far have ended as they do by themselves. Assumes nothing.
-use mathlib.Core.Logic.{⊎_elim}
-use Rattle.integers.proofs.Prelude.{refl, sym, ◌∙◌, ℕ, ◌-◌, ◌<◌, arith, rules}
-use Rattle.group_run.proofs.Running.{marked, unmarked}
-use Rattle.group_run.proofs.Givens.{costs_end, sums_end, values_end, rows_end, lent}
-use Rattle.group_run.proofs.Singles.{Done, done_none, done_next, done_all}
+use Rattle.integers.proofs.Prelude.{◌-◌}
+use Rattle.group_run.proofs.Singles.{Done}
 use Rattle.group_run.proofs.run_frames.Given as goal
 
 abbrev pub invariant-loop-f : goal.invariant-loop-f

@@ -1,5 +1,5 @@
 -- `group_run::run_in_lanes` meets its contract: the lanes begin at the start of each run, and the steps go on with it. Assumes nothing.
-use Rattle.integers.proofs.Prelude.{◌≡◌, refl, ◌∙◌, true, List, ℕ, ◌<◌, arith, rules, ℤ}
+use Rattle.integers.proofs.Prelude.{◌≡◌, refl, ◌∙◌, true, List, ℕ, ◌<◌, arith, ℤ}
 use Rattle.model.specs.Bounds.{Ready}
 use Rattle.lists.specs.Tabulated.{part}
 use Rattle.lane_step.specs.Step.{runs}

@@ -1,10 +1,10 @@
 -- `group_run::step_on` meets its contract: what has been done and what remains is the whole. Assumes nothing.
-use Rattle.integers.proofs.Prelude.{◌≡◌, refl, sym, ap, subst, ◌∙◌, true, T, ℕ, ◌-◌, ◌<◌, arith, ne_eqb}
+use Rattle.integers.proofs.Prelude.{◌≡◌, refl, sym, ap, subst, ◌∙◌, true, T, ℕ, ◌<◌, arith, ne_eqb}
 use Rattle.lanes.proofs.Places.{lanes_few}
 use Rattle.lane_step.specs.Step.{runs}
 use Rattle.group_run.specs.Course.{enough_run}
 use Rattle.group_run.proofs.Running.{one_runs, mark_of}
-use Rattle.group_run.proofs.Steps.{Stepped, stepped_next, rows_done, taken_out}
+use Rattle.group_run.proofs.Steps.{stepped_next, rows_done, taken_out}
 use Rattle.group_run.proofs.step_on.Goals as goal
 use Rattle.group_run.proofs.step_on.Goals.{Start, At-loop-settings, In-loop-settings, After-loop-settings, After-step, After-rows-1, After-take_out_all, After-rows-2-1}
 

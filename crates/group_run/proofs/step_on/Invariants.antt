@@ -1,10 +1,6 @@
 -- `group_run::step_on` meets its contract: what has been done and what remains is the whole. Assumes nothing.
-use Rattle.integers.proofs.Prelude.{◌≡◌, refl, sym, ap, subst, ◌∙◌, true, T, ℕ, ◌-◌, ◌<◌, arith, ne_eqb}
-use Rattle.lanes.proofs.Places.{lanes_few}
-use Rattle.lane_step.specs.Step.{runs}
-use Rattle.group_run.specs.Course.{enough_run}
-use Rattle.group_run.proofs.Running.{one_runs, mark_of}
-use Rattle.group_run.proofs.Steps.{Stepped, stepped_next, rows_done, taken_out}
+use Rattle.integers.proofs.Prelude.{◌-◌}
+use Rattle.group_run.proofs.Steps.{Stepped}
 use Rattle.group_run.proofs.step_on.Given as goal
 
 abbrev pub invariant-loop-settings : goal.invariant-loop-settings

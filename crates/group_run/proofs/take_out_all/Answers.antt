@@ -1,9 +1,8 @@
 -- `group_run::take_out_all` meets its contract. Assumes nothing.
-use mathlib.Core.Logic.{⊎_elim}
-use Rattle.integers.proofs.Prelude.{refl, sym, ◌∙◌, ℕ, suc, ◌-◌, ◌*◌, ◌<◌, ◌≤◌, arith, rules, length}
+use Rattle.integers.proofs.Prelude.{refl, sym, ◌∙◌, ℕ, suc, ◌*◌, ◌<◌, ◌≤◌, arith, length}
 use Rattle.lists.proofs.Parts.{part_end}
 use Rattle.group_run.proofs.Running.{marked, unmarked}
-use Rattle.group_run.proofs.Taken.{Taken, taken_none, taken_next}
+use Rattle.group_run.proofs.Taken.{taken_none, taken_next}
 use Rattle.group_run.proofs.take_out_all.Goals as goal
 use Rattle.group_run.proofs.take_out_all.Goals.{Start, At-loop-f, In-loop-f, After-loop-f, else-running-f-ne0, then-running-f-ne0}
 

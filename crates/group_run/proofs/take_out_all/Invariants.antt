@@ -1,9 +1,6 @@
 -- `group_run::take_out_all` meets its contract. Assumes nothing.
-use mathlib.Core.Logic.{⊎_elim}
-use Rattle.integers.proofs.Prelude.{refl, sym, ◌∙◌, ℕ, suc, ◌-◌, ◌*◌, ◌<◌, ◌≤◌, arith, rules, length}
-use Rattle.lists.proofs.Parts.{part_end}
-use Rattle.group_run.proofs.Running.{marked, unmarked}
-use Rattle.group_run.proofs.Taken.{Taken, taken_none, taken_next}
+use Rattle.integers.proofs.Prelude.{◌-◌}
+use Rattle.group_run.proofs.Taken.{Taken}
 use Rattle.group_run.proofs.take_out_all.Given as goal
 
 abbrev pub invariant-loop-f : goal.invariant-loop-f

@@ -1,5 +1,5 @@
 -- `group_step::settle` meets its contract. Assumes nothing.
-use Rattle.integers.proofs.Prelude.{◌≡◌, refl, sym, ap, ◌∙◌, Bool, true, false, cond, not, ◌&&◌, ℕ, suc, ◌*◌, ◌≤◌, ◌<◌, arith, rules, eqb, ne_eqb, not-false, not-true, eqb-true, ltb, ltb-true, length}
+use Rattle.integers.proofs.Prelude.{◌≡◌, refl, sym, ap, ◌∙◌, Bool, true, false, cond, ◌&&◌, ℕ, suc, ◌*◌, ◌≤◌, ◌<◌, arith, eqb, ne_eqb, not-false, not-true, eqb-true, ltb, ltb-true, length}
 use native.Mathlib.Nat.{mul-le-mul_right}
 use Rattle.lists.proofs.Tests.{and_left, and_right}
 use Rattle.model.specs.Group.{Frame}

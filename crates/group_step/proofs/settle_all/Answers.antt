@@ -1,12 +1,9 @@
 -- `group_step::settle_all` meets its contract: the frames below f are settled. Assumes nothing.
-use Rattle.integers.proofs.Prelude.{refl, sym, ◌∙◌, List, ℕ, ◌-◌, ◌≤◌, arith, lt-ltb, ℤ, length}
-use Rattle.model.specs.declared.Settings.{Settings}
+use Rattle.integers.proofs.Prelude.{refl, sym, ◌∙◌, List, ℕ, arith, lt-ltb, ℤ}
 use Rattle.model.specs.Group.{Frame}
-use Rattle.lanes.specs.declared.Plan.{Plan}
 use Rattle.lane_renewal.specs.Counting.{settled_in}
 use Rattle.group_step.specs.Frames.{frame_now, Marks, Held}
-use Rattle.group_step.proofs.Settled.{SettledTo, settled_none, settled_next}
-use Rattle.group_step.proofs.settle_all.Invariants.{Invariant}
+use Rattle.group_step.proofs.Settled.{settled_none, settled_next}
 use Rattle.group_step.proofs.settle_all.Goals as goal
 use Rattle.group_step.proofs.settle_all.Goals.{Start, After-loop-f}
 

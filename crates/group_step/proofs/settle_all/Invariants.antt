@@ -1,11 +1,10 @@
 -- `group_step::settle_all` meets its contract: the frames below f are settled. Assumes nothing.
-use Rattle.integers.proofs.Prelude.{refl, sym, ◌∙◌, List, ℕ, ◌-◌, ◌≤◌, arith, lt-ltb, ℤ, length}
+use Rattle.integers.proofs.Prelude.{List, ℕ, ◌-◌, ◌≤◌, ℤ}
 use Rattle.model.specs.declared.Settings.{Settings}
-use Rattle.model.specs.Group.{Frame}
 use Rattle.lanes.specs.declared.Plan.{Plan}
 use Rattle.lane_renewal.specs.Counting.{settled_in}
 use Rattle.group_step.specs.Frames.{frame_now, Marks, Held}
-use Rattle.group_step.proofs.Settled.{SettledTo, settled_none, settled_next}
+use Rattle.group_step.proofs.Settled.{SettledTo}
 use Rattle.group_step.proofs.settle_all.Given as goal
 
 pub record Invariant (settings : Settings) (work : List ℤ) (p : Plan) (i k : ℕ) (multipliers slacks : List ℕ) (frames : ℕ) (running₀ ks₀ settled₀ : List ℕ) (sums₀ values₀ rows₀ : List ℤ) (running ks settled : List ℕ) (sums values rows : List ℤ) (f : ℕ) : Type 0 where

@@ -1,5 +1,5 @@
 -- `group_step::step` meets its contract: every running frame goes one iteration on, then those that stop are taken out. Assumes nothing.
-use Rattle.integers.proofs.Prelude.{refl, ◌∙◌, ℕ, ◌+◌, ◌-◌, ◌<◌, arith, rules, add-one, get_or}
+use Rattle.integers.proofs.Prelude.{refl, ◌∙◌, ℕ, ◌+◌, ◌<◌, arith, add-one, get_or}
 use Rattle.model.specs.Limits.{most_done}
 use Rattle.lanes.specs.declared.Plan.{Plan}
 use Rattle.lane_renewal.specs.Counting.{settled_in}

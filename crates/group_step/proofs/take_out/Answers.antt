@@ -1,5 +1,5 @@
 -- `group_step::take_out` meets its contract. Assumes nothing.
-use Rattle.integers.proofs.Prelude.{◌*◌, eqb, rules}
+use Rattle.integers.proofs.Prelude.{◌*◌, eqb}
 use Rattle.lists.proofs.Tabulated.{length_tab}
 use Rattle.lanes.specs.Lanes.{lane_state}
 use Rattle.group_step.specs.Frames.{part_state}

@@ -1,7 +1,6 @@
 -- `importer::all_named` meets its contract: the degrees that are left decide. Assumes nothing.
-use Rattle.integers.proofs.Prelude.{◌≡◌, refl, sym, ◌∙◌, List, ℕ, suc, ◌-◌, ◌≤◌, ◌<◌, arith, add-one, rules, lt-ltb, le-ltb, ltb, length, get_or, take, drop}
+use Rattle.integers.proofs.Prelude.{◌≡◌, refl, sym, ◌∙◌, List, ℕ, suc, ◌<◌, arith, add-one, lt-ltb, le-ltb, ltb, length, get_or, take, drop}
 use Rattle.integers.proofs.Prelude.{length-take-le, get_or-take}
-use Rattle.lists.specs.Entries.{every}
 use Rattle.lists.proofs.Entries.{every_next, every_stop, every_end}
 use Rattle.numbers.specs.Walked.{from, none}
 use Rattle.numbers.proofs.Walk.{next_at}

@@ -1,5 +1,5 @@
 -- `importer::import` meets its contract: each cause in its order, and the records of a code that has none. Assumes nothing.
-use Rattle.integers.proofs.Prelude.{◌≡◌, sym, ◌∙◌, true, arith, rules, not-false, not-true}
+use Rattle.integers.proofs.Prelude.{◌≡◌, sym, ◌∙◌, true, arith, not-false, not-true}
 use Rattle.model.specs.Code.{Code}
 use Rattle.model.specs.RecordClaims.{judge_code}
 use Rattle.model.specs.Alist.{numbers_of, agree, named, columns, rows, code_of_text}

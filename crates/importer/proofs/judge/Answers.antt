@@ -1,5 +1,5 @@
 -- `importer::judge` meets its contract: the causes in their order, and the sizes of a code that has none. Assumes nothing.
-use Rattle.integers.proofs.Prelude.{◌≡◌, sym, ap, ◌∙◌, false, ℕ, arith, rules, not-false, not-true, ltb, length}
+use Rattle.integers.proofs.Prelude.{◌≡◌, sym, ap, ◌∙◌, false, ℕ, arith, not-false, not-true, ltb, length}
 use Rattle.lists.specs.Entries.{every}
 use Rattle.model.specs.Limits.{most_bits, most_checks}
 use Rattle.model.specs.Causes.{outside}

@@ -1,5 +1,5 @@
 -- `importer::judge_row` meets its contract: a row that is too long, or one that is judged as its record. Assumes nothing.
-use Rattle.integers.proofs.Prelude.{arith, rules}
+use Rattle.integers.proofs.Prelude.{arith}
 use Rattle.importer.specs.Rows.{bits_at}
 use Rattle.importer.proofs.Indices.{length_bits}
 use Rattle.importer.proofs.Judging.{refuses, check_long, record_judged}

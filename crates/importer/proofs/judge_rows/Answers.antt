@@ -1,9 +1,8 @@
 -- `importer::judge_rows` meets its contract: the rows so far are sound, and those that are left decide. Assumes nothing.
-use Rattle.integers.proofs.Prelude.{◌≡◌, List, [], ℕ, ◌-◌, ◌<◌, arith, rules, length, get_or}
-use Rattle.numbers.specs.declared.Side.{Side}
+use Rattle.integers.proofs.Prelude.{◌≡◌, List, [], ℕ, ◌<◌, arith, length, get_or}
 use Rattle.importer.specs.Rows.{bits_at, checks_of}
-use Rattle.importer.proofs.Rows.{length_checks, Walk, walk_start, walk_indexed, walk_check, walk_next}
-use Rattle.importer.proofs.Judging.{check_sizes, Passed, passed_start, passed_next, passed_not, passed_all}
+use Rattle.importer.proofs.Rows.{length_checks, walk_start, walk_indexed, walk_check, walk_next}
+use Rattle.importer.proofs.Judging.{check_sizes, passed_start, passed_next, passed_not, passed_all}
 use Rattle.importer.proofs.judge_rows.Goals as goal
 use Rattle.importer.proofs.judge_rows.Goals.{Start, At-loop-j, After-judge_row-row}
 

@@ -1,9 +1,9 @@
 -- `importer::judge_rows` meets its contract: the rows so far are sound, and those that are left decide. Assumes nothing.
-use Rattle.integers.proofs.Prelude.{◌≡◌, List, [], ℕ, ◌-◌, ◌<◌, arith, rules, length, get_or}
+use Rattle.integers.proofs.Prelude.{◌-◌}
 use Rattle.numbers.specs.declared.Side.{Side}
-use Rattle.importer.specs.Rows.{bits_at, checks_of}
-use Rattle.importer.proofs.Rows.{length_checks, Walk, walk_start, walk_indexed, walk_check, walk_next}
-use Rattle.importer.proofs.Judging.{check_sizes, Passed, passed_start, passed_next, passed_not, passed_all}
+use Rattle.importer.specs.Rows.{checks_of}
+use Rattle.importer.proofs.Rows.{Walk}
+use Rattle.importer.proofs.Judging.{Passed}
 use Rattle.importer.proofs.judge_rows.Given as goal
 
 abbrev pub invariant-loop-j : goal.invariant-loop-j

@@ -1,12 +1,8 @@
 -- `importer::write_row` meets its contract: after i turns the first i bits are in the row. Assumes nothing.
-use Rattle.integers.proofs.Prelude.{◌≡◌, refl, sym, ap, ap₂, ◌∙◌, List, [], ◌∷◌, ◌++◌, ℕ, suc, ◌-◌, ◌≤◌, ◌<◌, arith, add-one, rules, length}
-use Rattle.integers.proofs.Prelude.{get_or, take, drop, set, length-set, length-take-le, take_all, take-suc}
-use lib.Seq.{take-suc-set}
-use Rattle.model.specs.Limits.{most_number}
+use Rattle.integers.proofs.Prelude.{◌≡◌, ◌-◌, ◌≤◌, length}
+use Rattle.integers.proofs.Prelude.{take, drop}
 use Rattle.numbers.specs.Walked.{from}
-use Rattle.text.proofs.Appended.{long}
 use Rattle.importer.specs.Rows.{bits_at}
-use Rattle.importer.proofs.Indices.{length_bits, index_at}
 use Rattle.importer.proofs.write_row.Given as goal
 
 abbrev pub invariant-loop-i : goal.invariant-loop-i

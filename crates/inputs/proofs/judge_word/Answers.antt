@@ -1,5 +1,5 @@
 -- `inputs::judge_word` meets its contract: the tests in order. Assumes nothing.
-use Rattle.integers.proofs.Prelude.{◌≡◌, sym, ◌∙◌, true, rules, eq-eqb, ne_eqb, eqb, length}
+use Rattle.integers.proofs.Prelude.{◌≡◌, sym, ◌∙◌, true, eq-eqb, ne_eqb, eqb, length}
 use Rattle.inputs.proofs.judge_word.Goals as goal
 use Rattle.inputs.proofs.judge_word.Goals.{Else-word-bits}
 

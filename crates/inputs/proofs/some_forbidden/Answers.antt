@@ -1,8 +1,8 @@
 -- `inputs::some_forbidden` meets its contract: what was found, or is still to be found, decides. Assumes nothing.
-use Rattle.integers.proofs.Prelude.{◌≡◌, refl, sym, ap, ◌∙◌, ℕ, ◌-◌, ◌^◌, ◌<◌, arith, rules, pos, length, get_or, w16}
+use Rattle.integers.proofs.Prelude.{◌≡◌, refl, sym, ap, ◌∙◌, ◌^◌, ◌<◌, arith, pos, get_or, w16}
 use lib.Signed.{mag}
 use Rattle.integers.proofs.Machine.{kept}
-use Rattle.lists.proofs.Entries.{Found, found_next, found_end, below_next}
+use Rattle.lists.proofs.Entries.{found_next, found_end, below_next}
 use Rattle.model.specs.Iteration.{at}
 use Rattle.model.specs.Calls.{forbidden}
 use Rattle.inputs.proofs.Costs.{small}

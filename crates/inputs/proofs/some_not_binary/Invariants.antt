@@ -1,6 +1,6 @@
 -- `inputs::some_not_binary` meets its contract: what was found, or is still to be found, decides. Assumes nothing.
-use Rattle.integers.proofs.Prelude.{refl, ◌-◌, rules, length}
-use Rattle.lists.proofs.Entries.{Found, found_next, found_end}
+use Rattle.integers.proofs.Prelude.{◌-◌, length}
+use Rattle.lists.proofs.Entries.{Found}
 use Rattle.model.specs.Calls.{not_binary}
 use Rattle.inputs.proofs.some_not_binary.Given as goal
 

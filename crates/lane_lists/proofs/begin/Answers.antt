@@ -1,5 +1,5 @@
 -- `lane_lists::begin` meets its contract: the entries from `from` to i are U, all others 0. Assumes nothing.
-use Rattle.integers.proofs.Prelude.{◌≡◌, refl, ap, ◌∙◌, List, ℕ, ◌+◌, ◌-◌, ◌^◌, ◌≤◌, ◌<◌, arith, dec_lt, rules, ℤ, pos, length, set, length-set}
+use Rattle.integers.proofs.Prelude.{◌≡◌, refl, ap, ◌∙◌, List, ℕ, ◌+◌, ◌^◌, ◌≤◌, ◌<◌, arith, dec_lt, ℤ, pos, length, set, length-set}
 use native.Mathlib.Nat.{mul-le-mul_left}
 use lib.Seq.{get_or-set_same, get_or-set_other}
 use Rattle.lists.proofs.Tabulated.{length_tab}

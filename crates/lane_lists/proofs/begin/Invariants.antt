@@ -1,13 +1,7 @@
 -- `lane_lists::begin` meets its contract: the entries from `from` to i are U, all others 0. Assumes nothing.
-use Rattle.integers.proofs.Prelude.{◌≡◌, refl, ap, ◌∙◌, List, ℕ, ◌+◌, ◌-◌, ◌^◌, ◌≤◌, ◌<◌, arith, dec_lt, rules, ℤ, pos, length, set, length-set}
-use native.Mathlib.Nat.{mul-le-mul_left}
-use lib.Seq.{get_or-set_same, get_or-set_other}
-use Rattle.lists.proofs.Tabulated.{length_tab}
+use Rattle.integers.proofs.Prelude.{◌≡◌, List, ℕ, ◌-◌, ◌≤◌, ◌<◌, ℤ, pos, length}
 use Rattle.quotient.specs.Quotient.{unit}
 use Rattle.model.specs.Iteration.{at}
-use Rattle.model.proofs.Rows.{at_tab}
-use Rattle.lanes.specs.Lanes.{values_at, sums_at}
-use Rattle.lanes.proofs.Places.{place_below, lanes_few, list_short, part_in, fits_same}
 use Rattle.lane_lists.proofs.begin.Given as goal
 
 -- a list whose entries from a to i are U, and 0 before a and from b on

@@ -1,10 +1,9 @@
 -- `lane_lists::put_costs` meets its contract: after b turns the first b costs stand in the lane, and nothing else has changed. Assumes nothing.
-use Rattle.integers.proofs.Prelude.{◌≡◌, refl, sym, ap, ◌∙◌, List, ℕ, ◌+◌, ◌-◌, ◌*◌, ◌^◌, ◌≤◌, ◌<◌, arith, rules, ℤ, pos, ◌*ℤ◌, length, set, length-set, w16, w32, to_z, of_z}
-use mathlib.Core.Logic.{◌≢◌}
+use Rattle.integers.proofs.Prelude.{◌≡◌, refl, sym, ap, ◌∙◌, List, ℕ, ◌+◌, ◌*◌, ◌^◌, ◌≤◌, ◌<◌, arith, ℤ, pos, ◌*ℤ◌, length, set, length-set, w16, w32, to_z, of_z}
 use borrow.Author.Count.{below_more}
 use Rattle.integers.proofs.Machine.{kept, read_back}
 use Rattle.model.specs.Iteration.{at}
-use Rattle.lanes.specs.Lanes.{in_lane, weighed_at, Fits}
+use Rattle.lanes.specs.Lanes.{in_lane, weighed_at}
 use Rattle.lanes.proofs.Places.{place_behind, set_here, set_entry, set_lane, lanes_few, list_short, part_in, behind_in, fits_same}
 use Rattle.lane_lists.proofs.put_costs.Invariants.{Put}
 use Rattle.lane_lists.proofs.put_costs.Goals as goal

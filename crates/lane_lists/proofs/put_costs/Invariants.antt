@@ -1,11 +1,8 @@
 -- `lane_lists::put_costs` meets its contract: after b turns the first b costs stand in the lane, and nothing else has changed. Assumes nothing.
-use Rattle.integers.proofs.Prelude.{◌≡◌, refl, sym, ap, ◌∙◌, List, ℕ, ◌+◌, ◌-◌, ◌*◌, ◌^◌, ◌≤◌, ◌<◌, arith, rules, ℤ, pos, ◌*ℤ◌, length, set, length-set, w16, w32, to_z, of_z}
+use Rattle.integers.proofs.Prelude.{◌≡◌, List, ℕ, ◌+◌, ◌≤◌, ◌<◌, ℤ, pos, ◌*ℤ◌, length}
 use mathlib.Core.Logic.{◌≢◌}
-use borrow.Author.Count.{below_more}
-use Rattle.integers.proofs.Machine.{kept, read_back}
 use Rattle.model.specs.Iteration.{at}
 use Rattle.lanes.specs.Lanes.{in_lane, weighed_at, Fits}
-use Rattle.lanes.proofs.Places.{place_behind, set_here, set_entry, set_lane, lanes_few, list_short, part_in, behind_in, fits_same}
 use Rattle.lane_lists.proofs.put_costs.Given as goal
 
 -- of L lanes, lane l has W times the first b costs from entry `first` on

@@ -1,5 +1,5 @@
 -- `lane_lists::sum_in` meets its contract: both parts of the sum of a bit, one of an auxiliary's. Assumes nothing.
-use Rattle.integers.proofs.Prelude.{◌≡◌, ap, ap₂, ◌∙◌, ℕ, ◌+◌, ◌*◌, ◌^◌, ◌≤◌, ◌<◌, arith, rules, lt-ltb, le-ltb, ℤ, pos, ◌+ℤ◌, ◌*ℤ◌, length, w32, w64, to_z, of_z}
+use Rattle.integers.proofs.Prelude.{◌≡◌, ap, ap₂, ◌∙◌, ℕ, ◌+◌, ◌*◌, ◌^◌, ◌≤◌, ◌<◌, arith, lt-ltb, le-ltb, ℤ, pos, ◌+ℤ◌, ◌*ℤ◌, length, w32, w64, to_z, of_z}
 use Rattle.integers.proofs.Linear.{split, to_ℕ}
 use Rattle.integers.proofs.Machine.{Worth, read, also, read_back, fits, stored}
 use Rattle.model.specs.Iteration.{at}

@@ -1,6 +1,5 @@
 -- `lane_lists::take_sums` meets its contract: after v turns the first v sums are the lane's. Assumes nothing.
-use Rattle.integers.proofs.Prelude.{◌≡◌, refl, ap, ◌∙◌, ◌-◌, ◌≤◌, arith, rules, length, w64}
-use Rattle.lists.specs.Tabulated.{over}
+use Rattle.integers.proofs.Prelude.{◌≡◌, refl, ap, ◌∙◌, arith, length, w64}
 use Rattle.lists.proofs.Tabulated.{length_over, over_stored, over_whole}
 use Rattle.lanes.specs.Lanes.{sums_at, lane_sum}
 use Rattle.lanes.proofs.Places.{lanes_few, list_short, part_in, sums_end}

@@ -1,7 +1,6 @@
 -- `lane_lists::take_values` meets its contract: after v turns the first v values are the lane's. Assumes nothing.
-use Rattle.integers.proofs.Prelude.{◌≡◌, refl, ap, ◌∙◌, ℕ, ◌+◌, ◌-◌, ◌*◌, ◌^◌, ◌≤◌, ◌<◌, arith, rules, ℤ, pos, ◌-ℤ◌, length, w16, w32, to_z, of_z}
+use Rattle.integers.proofs.Prelude.{◌≡◌, refl, ap, ◌∙◌, ℕ, ◌+◌, ◌*◌, ◌^◌, ◌≤◌, ◌<◌, arith, ℤ, pos, ◌-ℤ◌, length, w16, w32, to_z, of_z}
 use Rattle.integers.proofs.Machine.{read_back}
-use Rattle.lists.specs.Tabulated.{over}
 use Rattle.lists.proofs.Tabulated.{length_over, over_stored, over_whole}
 use Rattle.quotient.specs.Quotient.{unit}
 use Rattle.model.specs.Iteration.{at}

@@ -1,5 +1,5 @@
 -- `lane_lists::weighed` meets its contract. Assumes nothing.
-use Rattle.integers.proofs.Prelude.{◌*◌, rules, pos, ◌*ℤ◌, w16, w32, w64, to_z, of_z}
+use Rattle.integers.proofs.Prelude.{◌*◌, pos, ◌*ℤ◌, w16, w32, w64, to_z, of_z}
 use Rattle.integers.proofs.Machine.{Worth, param, unsigned, times, fits, stored}
 use Rattle.model.specs.Limits.{most_weight, most_cost}
 use Rattle.lane_lists.proofs.weighed.Goals as goal

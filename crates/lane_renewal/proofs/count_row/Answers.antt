@@ -1,10 +1,10 @@
 -- `lane_renewal::count_row` meets its contract: after some turns the totals of the lanes before l have grown. Assumes nothing.
-use Rattle.integers.proofs.Prelude.{◌≡◌, refl, ap, ap₂, ◌∙◌, ℕ, ◌+◌, ◌-◌, ◌^◌, ◌≤◌, ◌<◌, arith, rules, ℤ, pos, negsuc, length, get_or, w32, to_z, of_z}
+use Rattle.integers.proofs.Prelude.{◌≡◌, refl, ap, ap₂, ◌∙◌, ℕ, ◌+◌, ◌^◌, ◌≤◌, ◌<◌, arith, ℤ, pos, negsuc, length, get_or, w32, to_z, of_z}
 use Rattle.integers.proofs.Machine.{kept}
 use Rattle.model.specs.Iteration.{at}
 use Rattle.rows.specs.Sides.{change_of}
 use Rattle.lane_renewal.specs.Counting.{row_change, Comparable}
-use Rattle.lane_renewal.proofs.Totals.{Reached, reached_none, reached_next}
+use Rattle.lane_renewal.proofs.Totals.{reached_none, reached_next}
 use Rattle.lane_renewal.proofs.count_row.Goals as goal
 use Rattle.lane_renewal.proofs.count_row.Goals.{Start, In-loop-l, After-new-1, After-slice_known-in-loop-l-2-1}
 

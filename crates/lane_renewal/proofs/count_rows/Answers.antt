@@ -1,5 +1,5 @@
 -- `lane_renewal::count_rows` meets its contract: after r turns the totals have grown by the changes of r rows. Assumes nothing.
-use Rattle.integers.proofs.Prelude.{◌≡◌, refl, ◌∙◌, List, ℕ, ◌+◌, ◌-◌, ◌*◌, ◌^◌, ◌≤◌, ◌<◌, arith, rules, add-one, ℤ, pos, negsuc, nat_abs, length}
+use Rattle.integers.proofs.Prelude.{◌≡◌, refl, ◌∙◌, List, ℕ, ◌+◌, ◌*◌, ◌^◌, ◌≤◌, ◌<◌, arith, rules, add-one, ℤ, pos, negsuc, nat_abs}
 use native.Mathlib.Nat.{mul-le-mul, mul-le-mul_left}
 use Rattle.integers.proofs.Sums.{sum_ℕ_bound}
 use Rattle.model.specs.Limits.{most_row}

@@ -1,11 +1,6 @@
 -- `lane_renewal::count_rows` meets its contract: after r turns the totals have grown by the changes of r rows. Assumes nothing.
-use Rattle.integers.proofs.Prelude.{◌≡◌, refl, ◌∙◌, List, ℕ, ◌+◌, ◌-◌, ◌*◌, ◌^◌, ◌≤◌, ◌<◌, arith, rules, add-one, ℤ, pos, negsuc, nat_abs, length}
-use native.Mathlib.Nat.{mul-le-mul, mul-le-mul_left}
-use Rattle.integers.proofs.Sums.{sum_ℕ_bound}
-use Rattle.model.specs.Limits.{most_row}
-use Rattle.model.specs.Iteration.{at}
-use Rattle.rows.proofs.Four.{change_small}
-use Rattle.lane_renewal.specs.Counting.{row_change, rows_change, Comparable, AtMost, Grown}
+use Rattle.integers.proofs.Prelude.{◌≡◌, ◌-◌, ◌≤◌, pos, negsuc, length}
+use Rattle.lane_renewal.specs.Counting.{rows_change, Grown}
 use Rattle.lane_renewal.proofs.count_rows.Given as goal
 
 abbrev pub invariant-loop-r : goal.invariant-loop-r

@@ -1,6 +1,5 @@
 -- `lane_renewal::keep` meets its contract: after i turns the first i entries are kept. Assumes nothing.
-use Rattle.integers.proofs.Prelude.{◌≡◌, refl, ap, ◌∙◌, ◌+◌, ◌-◌, ◌≤◌, arith, rules, pos, length, w32}
-use Rattle.lists.specs.Tabulated.{over}
+use Rattle.integers.proofs.Prelude.{◌≡◌, refl, ap, ◌∙◌, ◌+◌, arith, pos, length, w32}
 use Rattle.lists.proofs.Tabulated.{length_over, over_stored, over_in}
 use Rattle.model.specs.Iteration.{at}
 use Rattle.lane_renewal.proofs.keep.Goals as goal

@@ -1,5 +1,5 @@
 -- `lane_renewal::renew` meets its contract: the rows in two parts, and the totals of the first. Assumes nothing.
-use Rattle.integers.proofs.Prelude.{◌≡◌, ◌∙◌, List, ℕ, ◌≤◌, ◌<◌, arith, rules, ℤ, length, get_or}
+use Rattle.integers.proofs.Prelude.{◌≡◌, ◌∙◌, List, ℕ, ◌≤◌, ◌<◌, arith, ℤ, length, get_or}
 use Rattle.lane_triples.specs.Walk.{Due, Walked, SameBeside}
 use Rattle.lane_renewal.specs.Counting.{Counted}
 use Rattle.lane_renewal.proofs.Totals.{cleared}

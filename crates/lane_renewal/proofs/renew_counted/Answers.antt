@@ -1,6 +1,5 @@
 -- `lane_renewal::renew_counted` meets its contract: with t triples done their rows are renewed, and counted. Assumes nothing.
-use Rattle.integers.proofs.Prelude.{◌≡◌, refl, sym, ◌∙◌, List, ℕ, ◌+◌, ◌-◌, ◌*◌, ◌^◌, ◌≤◌, ◌<◌, arith, ltb-true, lt-ltb, ℤ, length}
-use mathlib.Core.Logic.{⊎_elim}
+use Rattle.integers.proofs.Prelude.{◌≡◌, refl, sym, ◌∙◌, List, ℕ, ◌+◌, ◌*◌, ◌^◌, ◌≤◌, ◌<◌, arith, ltb-true, lt-ltb, ℤ, length}
 use native.Mathlib.Nat.{mul-le-mul}
 use Rattle.lists.proofs.Tests.{and_left}
 use Rattle.lanes.specs.declared.Plan.{Plan}

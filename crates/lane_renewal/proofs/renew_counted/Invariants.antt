@@ -1,13 +1,6 @@
 -- `lane_renewal::renew_counted` meets its contract: with t triples done their rows are renewed, and counted. Assumes nothing.
-use Rattle.integers.proofs.Prelude.{◌≡◌, refl, sym, ◌∙◌, List, ℕ, ◌+◌, ◌-◌, ◌*◌, ◌^◌, ◌≤◌, ◌<◌, arith, ltb-true, lt-ltb, ℤ, length}
-use mathlib.Core.Logic.{⊎_elim}
-use native.Mathlib.Nat.{mul-le-mul}
-use Rattle.lists.proofs.Tests.{and_left}
-use Rattle.lanes.specs.declared.Plan.{Plan}
-use Rattle.lanes.specs.Lanes.{Fits}
-use Rattle.lanes.proofs.Places.{lanes_few, list_short, part_in}
+use Rattle.integers.proofs.Prelude.{◌≡◌, ◌-◌, length}
 use Rattle.lane_renewal.specs.Counting.{Counted}
-use Rattle.lane_renewal.proofs.Walking.{Block, counted_none, counted_small, rows_comparable, counted_more}
 use Rattle.lane_renewal.proofs.renew_counted.Given as goal
 
 abbrev pub invariant-loop-t : goal.invariant-loop-t

@@ -1,7 +1,5 @@
 -- `lane_renewal::some_within` meets its contract: where none is found in from..l, there is none. Assumes nothing.
-use Rattle.integers.proofs.Prelude.{◌≡◌, Bool, false, ◌&&◌, ◌||◌, not, List, ℕ, ◌+◌, ◌-◌, ◌≤◌, ◌<◌, arith, rules, leb, le-leb, eqb, eqb-true, not-false, dec_lt, get_or}
-use Rattle.lists.proofs.Tests.{and_false}
-use Rattle.model.proofs.Causes.{or_false}
+use Rattle.integers.proofs.Prelude.{◌≡◌, false, ◌-◌, ◌≤◌}
 use Rattle.lane_renewal.specs.Counting.{NoneWithin}
 use Rattle.lane_renewal.proofs.some_within.Given as goal
 

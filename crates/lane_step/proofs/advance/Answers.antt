@@ -1,5 +1,5 @@
 -- `lane_step::advance` meets its contract: the values, then the rows. Assumes nothing.
-use Rattle.integers.proofs.Prelude.{◌≡◌, ◌∙◌, cond, List, ℕ, suc, ◌-◌, ◌≤◌, ◌<◌, arith, rules, dec_lt, ℤ, get_or}
+use Rattle.integers.proofs.Prelude.{◌≡◌, ◌∙◌, cond, List, ℕ, suc, ◌-◌, ◌≤◌, ◌<◌, arith, dec_lt, ℤ, get_or}
 use mathlib.Core.Logic.{◌⊎◌, inl, inr}
 use Rattle.model.specs.Limits.{most_done}
 use Rattle.lanes.specs.declared.Plan.{Plan}

@@ -1,5 +1,5 @@
 -- `lane_step::end_of_lanes` meets its contract. Assumes nothing.
-use Rattle.integers.proofs.Prelude.{refl, sym, ◌∙◌, rules}
+use Rattle.integers.proofs.Prelude.{refl, sym, ◌∙◌}
 use Rattle.lane_step.proofs.end_of_lanes.Goals as goal
 
 pub returns-then-some_run : goal.returns-then-some_run

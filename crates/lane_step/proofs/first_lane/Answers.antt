@@ -1,5 +1,5 @@
 -- `lane_step::first_lane` meets its contract. Assumes nothing.
-use Rattle.integers.proofs.Prelude.{refl, sym, ◌∙◌, rules}
+use Rattle.integers.proofs.Prelude.{refl, sym, ◌∙◌}
 use Rattle.lane_step.proofs.first_lane.Goals as goal
 
 pub returns-then-some_run : goal.returns-then-some_run

@@ -1,5 +1,5 @@
 -- `lane_triples::give` meets its contract. Assumes nothing.
-use Rattle.integers.proofs.Prelude.{◌≡◌, ap, ap₂, ◌∙◌, List, arith, rules, ℤ}
+use Rattle.integers.proofs.Prelude.{◌≡◌, ap, ap₂, ◌∙◌, List, arith, ℤ}
 use Rattle.lane_triples.specs.Step.{added, lows_of, given}
 use Rattle.lane_triples.proofs.give.Goals as goal
 use Rattle.lane_triples.proofs.give.Goals.{Start, After-lows, After-add_to}

@@ -1,5 +1,5 @@
 -- `lane_triples::give_third` meets its contract. Assumes nothing.
-use Rattle.integers.proofs.Prelude.{◌≡◌, ap, ◌∙◌, Bool, false, rules, ne_eqb, eq-eqb, eqb}
+use Rattle.integers.proofs.Prelude.{◌≡◌, ap, ◌∙◌, Bool, false, ne_eqb, eq-eqb, eqb}
 use Rattle.model.specs.Splitting.{blank}
 use Rattle.lane_triples.specs.Step.{given}
 use Rattle.lane_triples.proofs.give_third.Goals as goal

@@ -1,5 +1,5 @@
 -- `lane_triples::is_wide` meets its contract. Assumes nothing.
-use Rattle.integers.proofs.Prelude.{ap, rules, ltb}
+use Rattle.integers.proofs.Prelude.{ap, ltb}
 use Rattle.lanes.specs.Lanes.{most_narrow}
 use Rattle.lane_triples.proofs.is_wide.Goals as goal
 

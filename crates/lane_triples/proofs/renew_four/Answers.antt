@@ -1,5 +1,5 @@
 -- `lane_triples::renew_four` meets its contract. Assumes nothing.
-use Rattle.integers.proofs.Prelude.{◌≡◌, ap, ◌∙◌, List, ℕ, ◌+◌, ◌*◌, ◌≤◌, arith, rules, ℤ, pos, nat_abs, ◌-ℤ◌, ◌*ℤ◌}
+use Rattle.integers.proofs.Prelude.{◌≡◌, ap, ◌∙◌, List, ℕ, ◌+◌, ◌*◌, ◌≤◌, arith, ℤ, pos, nat_abs, ◌-ℤ◌, ◌*ℤ◌}
 use Rattle.integers.specs.Sum.{sum_ℤ}
 use Rattle.integers.proofs.Linear.{split, to_ℕ, about}
 use Rattle.lists.specs.Tabulated.{tab}

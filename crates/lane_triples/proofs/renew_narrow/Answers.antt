@@ -1,5 +1,5 @@
 -- `lane_triples::renew_narrow` meets its contract: the rows, then one place after the other. Assumes nothing.
-use Rattle.integers.proofs.Prelude.{◌≡◌, refl, List, [], ℕ, ◌^◌, ◌<◌, arith, rules, ℤ, length, get_or}
+use Rattle.integers.proofs.Prelude.{◌≡◌, refl, List, [], ℕ, ◌^◌, ◌<◌, arith, ℤ, length, get_or}
 use Rattle.lane_triples.specs.Step.{added, given, MayAdd, Places, narrow_places, shares_in, after}
 use Rattle.lane_triples.proofs.Calls.{may_renew, rows_put, share_is, may_give, place_put}
 use Rattle.lane_triples.proofs.renew_narrow.Goals as goal

@@ -1,5 +1,5 @@
 -- `lane_triples::renew_range` meets its contract. Assumes nothing.
-use Rattle.integers.proofs.Prelude.{arith, rules}
+use Rattle.integers.proofs.Prelude.{arith}
 use Rattle.lane_triples.specs.Walk.{Narrow, Course}
 use Rattle.lanes.proofs.Places.{lanes_few, fits_same}
 use Rattle.lane_triples.proofs.renew_range.Goals as goal

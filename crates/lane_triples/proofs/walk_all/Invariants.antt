@@ -1,7 +1,7 @@
 -- `lane_triples::walk_all` meets its contract: the triples before i are done. Assumes nothing.
-use Rattle.integers.proofs.Prelude.{◌≡◌, subst, ℕ, ◌-◌, arith}
-use Rattle.lane_triples.specs.Walk.{InWalk, Walks}
-use Rattle.lane_triples.proofs.Walks.{AtTriple, at_begin, next_triple}
+use Rattle.integers.proofs.Prelude.{◌-◌}
+use Rattle.lane_triples.specs.Walk.{Walks}
+use Rattle.lane_triples.proofs.Walks.{AtTriple}
 use Rattle.lane_triples.proofs.walk_all.Given as goal
 
 abbrev pub invariant-loop-i : goal.invariant-loop-i

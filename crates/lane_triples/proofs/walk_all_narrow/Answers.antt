@@ -1,7 +1,7 @@
 -- `lane_triples::walk_all_narrow` meets its contract: the triples before i are done. Assumes nothing.
-use Rattle.integers.proofs.Prelude.{◌≡◌, subst, List, ℕ, ◌-◌, arith}
-use Rattle.lane_triples.specs.Walk.{Narrow, InWalk, Walks}
-use Rattle.lane_triples.proofs.Walks.{AtTriple, at_begin, next_triple}
+use Rattle.integers.proofs.Prelude.{◌≡◌, subst, ℕ, arith}
+use Rattle.lane_triples.specs.Walk.{InWalk}
+use Rattle.lane_triples.proofs.Walks.{at_begin, next_triple}
 use Rattle.lane_triples.proofs.walk_all_narrow.Goals as goal
 use Rattle.lane_triples.proofs.walk_all_narrow.Goals.{Start, At-loop-i}
 

@@ -1,5 +1,5 @@
 -- `lane_triples::walk_any` meets its contract: the lanes before l have the triple done, those from l on have not. Assumes nothing.
-use Rattle.integers.proofs.Prelude.{◌≡◌, ap, subst, ◌∙◌, false, ℕ, suc, ◌+◌, ◌-◌, ◌*◌, ◌≤◌, ◌<◌, arith, add-one, eqb-false, eqb, length}
+use Rattle.integers.proofs.Prelude.{◌≡◌, ap, subst, ◌∙◌, false, ℕ, suc, ◌+◌, ◌*◌, ◌≤◌, ◌<◌, arith, add-one, eqb-false, eqb, length}
 use Rattle.lists.proofs.Tabulated.{length_tab}
 use Rattle.model.specs.Limits.{most_triples, most_variables}
 use Rattle.model.specs.Splitting.{blank}
@@ -8,7 +8,7 @@ use Rattle.lane_triples.specs.Step.{Places, any_places}
 use Rattle.lane_triples.specs.Walk.{Course, InWalk}
 use Rattle.lanes.proofs.Places.{lanes_few}
 use Rattle.lane_triples.proofs.Step.{Turn, Stands, may_step}
-use Rattle.lane_triples.proofs.Walks.{InTurn, turn_of, four_more, AtFour, at_first, a_four, lane_low, next_four, product_low, values_low, next_low, first_below, second_below, third_below, third_most, may_read, any_stands}
+use Rattle.lane_triples.proofs.Walks.{turn_of, four_more, at_first, a_four, lane_low, next_four, product_low, values_low, next_low, first_below, second_below, third_below, third_most, may_read, any_stands}
 use Rattle.lane_triples.proofs.walk_any.Goals as goal
 use Rattle.lane_triples.proofs.walk_any.Goals.{Start, After-variable-w, At-loop-l, In-loop-l}
 

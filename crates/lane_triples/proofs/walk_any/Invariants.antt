@@ -1,14 +1,7 @@
 -- `lane_triples::walk_any` meets its contract: the lanes before l have the triple done, those from l on have not. Assumes nothing.
-use Rattle.integers.proofs.Prelude.{◌≡◌, ap, subst, ◌∙◌, false, ℕ, suc, ◌+◌, ◌-◌, ◌*◌, ◌≤◌, ◌<◌, arith, add-one, eqb-false, eqb, length}
-use Rattle.lists.proofs.Tabulated.{length_tab}
-use Rattle.model.specs.Limits.{most_triples, most_variables}
-use Rattle.model.specs.Splitting.{blank}
-use Rattle.model.specs.Iteration.{occurrences}
-use Rattle.lane_triples.specs.Step.{Places, any_places}
-use Rattle.lane_triples.specs.Walk.{Course, InWalk}
-use Rattle.lanes.proofs.Places.{lanes_few}
-use Rattle.lane_triples.proofs.Step.{Turn, Stands, may_step}
-use Rattle.lane_triples.proofs.Walks.{InTurn, turn_of, four_more, AtFour, at_first, a_four, lane_low, next_four, product_low, values_low, next_low, first_below, second_below, third_below, third_most, may_read, any_stands}
+use Rattle.integers.proofs.Prelude.{ℕ, ◌-◌}
+use Rattle.lane_triples.specs.Walk.{Course}
+use Rattle.lane_triples.proofs.Walks.{InTurn, AtFour}
 use Rattle.lane_triples.proofs.walk_any.Given as goal
 
 abbrev pub invariant-loop-l : goal.invariant-loop-l

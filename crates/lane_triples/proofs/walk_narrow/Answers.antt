@@ -1,12 +1,12 @@
 -- `lane_triples::walk_narrow` meets its contract: the lanes before l have the triple done, those from l on have not. Assumes nothing.
-use Rattle.integers.proofs.Prelude.{◌≡◌, subst, List, ℕ, suc, ◌+◌, ◌-◌, ◌*◌, ◌≤◌, ◌<◌, arith, add-one, length}
+use Rattle.integers.proofs.Prelude.{◌≡◌, subst, List, ℕ, suc, ◌+◌, ◌*◌, ◌≤◌, ◌<◌, arith, add-one, length}
 use Rattle.model.specs.Limits.{most_triples, most_variables}
 use Rattle.model.specs.Splitting.{member}
 use Rattle.lane_triples.specs.Step.{Places, narrow_places}
 use Rattle.lane_triples.specs.Walk.{Narrow, Course, InWalk}
 use Rattle.lanes.proofs.Places.{lanes_few}
 use Rattle.lane_triples.proofs.Step.{Turn, Stands, may_step}
-use Rattle.lane_triples.proofs.Walks.{InTurn, turn_of, four_more, AtFour, at_first, a_four, lane_low, next_four, product_low, values_low, next_low, first_below, second_below, third_narrow, may_read, narrow_stands}
+use Rattle.lane_triples.proofs.Walks.{turn_of, four_more, at_first, a_four, lane_low, next_four, product_low, values_low, next_low, first_below, second_below, third_narrow, may_read, narrow_stands}
 use Rattle.lane_triples.proofs.walk_narrow.Goals as goal
 use Rattle.lane_triples.proofs.walk_narrow.Goals.{Start, After-variable-3, At-loop-l, In-loop-l}
 

@@ -1,7 +1,5 @@
 -- `lane_values::all_as` meets its contract: where all so far are in as many triples as v, the variables below u are. Assumes nothing.
-use Rattle.integers.proofs.Prelude.{◌≡◌, true, ℕ, ◌-◌, ◌≤◌, ◌<◌, arith, rules, eqb-true, eqb, length, get_or}
-use Rattle.lists.proofs.Entries.{below_next}
-use Rattle.lists.proofs.Tests.{and_left, and_right}
+use Rattle.integers.proofs.Prelude.{◌≡◌, true, ℕ, ◌-◌, ◌≤◌, ◌<◌, get_or}
 use Rattle.lane_values.proofs.all_as.Given as goal
 
 abbrev pub invariant-loop-u : goal.invariant-loop-u

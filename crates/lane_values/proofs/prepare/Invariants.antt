@@ -1,10 +1,7 @@
 -- `lane_values::prepare` meets its contract: the entries below `count` stand for their divisors. Assumes nothing.
-use Rattle.integers.proofs.Prelude.{◌≡◌, ap, ◌∙◌, ℕ, ◌+◌, ◌-◌, ◌*◌, ◌≤◌, ◌<◌, arith, rules, pos, ◌-ℤ◌, length, get_or, length-set, w32, w64, to_z, of_z}
-use Rattle.integers.proofs.Machine.{Worth, fits, fits_one, stored, unsigned, also, minus}
+use Rattle.integers.proofs.Prelude.{◌≡◌, ℕ, ◌-◌, ◌*◌, ◌≤◌, ◌<◌, length, get_or}
 use Rattle.quotient.specs.Narrowed.{Narrowed}
-use Rattle.model.specs.Limits.{most_ratio}
 use Rattle.model.specs.Iteration.{at, divisor}
-use Rattle.lane_values.proofs.Tables.{divisor_narrow, next_numbers}
 use Rattle.lane_values.proofs.prepare.Given as goal
 
 abbrev pub invariant-loop-count : goal.invariant-loop-count

@@ -1,5 +1,5 @@
 -- `lane_values::same_blocks` meets its contract: the variables below u are in as many triples as v. Assumes nothing.
-use Rattle.integers.proofs.Prelude.{◌≡◌, ap, List, ℕ, ◌-◌, ◌≤◌, ◌<◌, arith, rules, dec_lt, not-false, get_or}
+use Rattle.integers.proofs.Prelude.{◌-◌, ◌≤◌, ◌<◌}
 use Rattle.lane_values.specs.Valued.{Same}
 use Rattle.lane_values.proofs.same_blocks.Given as goal
 

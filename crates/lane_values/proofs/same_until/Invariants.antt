@@ -1,6 +1,5 @@
 -- `lane_values::same_until` meets its contract: the variables below u are in as many triples as v. Assumes nothing.
-use Rattle.integers.proofs.Prelude.{◌≡◌, ℕ, ◌-◌, ◌≤◌, ◌<◌, arith, rules, length, get_or}
-use Rattle.lists.proofs.Entries.{below_next}
+use Rattle.integers.proofs.Prelude.{◌≡◌, ℕ, ◌-◌, ◌≤◌, ◌<◌, get_or}
 use Rattle.lane_values.proofs.same_until.Given as goal
 
 abbrev pub invariant-loop-u : goal.invariant-loop-u

@@ -1,7 +1,5 @@
 -- `lane_values::write_all_bits` meets its contract: the bits below v are done. Assumes nothing.
-use Rattle.integers.proofs.Prelude.{◌≡◌, ◌-◌, ◌*◌, ◌≤◌, arith}
-use Rattle.lane_values.specs.Stored.{Stored}
-use Rattle.lane_values.specs.Places.{bit_parts, bit_value}
+use Rattle.integers.proofs.Prelude.{◌≡◌, arith}
 use Rattle.lane_values.proofs.Stored.{nothing_stored}
 use Rattle.lane_values.proofs.Bits.{still_fits, entries_later, bits_next}
 use Rattle.lane_values.proofs.write_all_bits.Goals as goal

@@ -1,9 +1,7 @@
 -- `lane_values::write_all_bits` meets its contract: the bits below v are done. Assumes nothing.
-use Rattle.integers.proofs.Prelude.{◌≡◌, ◌-◌, ◌*◌, ◌≤◌, arith}
+use Rattle.integers.proofs.Prelude.{◌-◌, ◌*◌, ◌≤◌}
 use Rattle.lane_values.specs.Stored.{Stored}
 use Rattle.lane_values.specs.Places.{bit_parts, bit_value}
-use Rattle.lane_values.proofs.Stored.{nothing_stored}
-use Rattle.lane_values.proofs.Bits.{still_fits, entries_later, bits_next}
 use Rattle.lane_values.proofs.write_all_bits.Given as goal
 
 abbrev pub invariant-loop-v : goal.invariant-loop-v

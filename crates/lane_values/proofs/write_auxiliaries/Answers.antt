@@ -1,10 +1,10 @@
 -- `lane_values::write_auxiliaries` meets its contract: the entries below i are stored. Assumes nothing.
-use Rattle.integers.proofs.Prelude.{◌≡◌, ap, ◌∙◌, [], ◌∷◌, ◌+◌, ◌-◌, ◌≤◌, ◌<◌, arith, rules, ℤ, pos, neg_ℤ, ◌+ℤ◌, ◌*ℤ◌, length, w32, to_z, of_z, to_z-of_z}
+use Rattle.integers.proofs.Prelude.{◌≡◌, ap, ◌∙◌, [], ◌∷◌, ◌+◌, ◌<◌, arith, rules, ℤ, pos, neg_ℤ, ◌+ℤ◌, ◌*ℤ◌, length, w32, to_z, of_z, to_z-of_z}
 use Rattle.integers.proofs.Machine.{kept, read_back}
 use Rattle.quotient.specs.Quotient.{unit, quotient}
 use Rattle.quotient.specs.Narrowed.{Narrowed}
 use Rattle.model.specs.Iteration.{at}
-use Rattle.lane_values.specs.Stored.{Parts, Stored}
+use Rattle.lane_values.specs.Stored.{Parts}
 use Rattle.lane_values.specs.Places.{auxiliary_value}
 use Rattle.lane_values.proofs.Stored.{nothing_stored, ahead, store_next}
 use Rattle.lane_values.proofs.write_auxiliaries.Goals as goal

@@ -1,5 +1,5 @@
 -- `lane_values::write_bits` meets its contract: what is handed on are the parts of the bits. Assumes nothing.
-use Rattle.integers.proofs.Prelude.{ℕ, ◌*◌, ◌≤◌, arith, rules, ltb-true, leb-true, ltb, leb, get_or, w32, w64, to_z, of_z}
+use Rattle.integers.proofs.Prelude.{ℕ, ◌*◌, ◌≤◌, arith, ltb-true, leb-true, ltb, leb, get_or, w32, w64, to_z, of_z}
 use native.Mathlib.Nat.{mul-le-mul_left}
 use mir.Val
 use Rattle.integers.proofs.Machine.{kept}

@@ -1,5 +1,5 @@
 -- `lane_values::write_values` meets its contract. Assumes nothing.
-use Rattle.integers.proofs.Prelude.{◌∙◌, ◌-◌, ◌^◌, rules}
+use Rattle.integers.proofs.Prelude.{◌∙◌, ◌-◌, ◌^◌}
 use Rattle.lanes.specs.Lanes.{Fits}
 use Rattle.lane_values.proofs.Bits.{still_fits}
 use Rattle.lane_values.proofs.Lanes.{bit_entries, auxiliary_within}

@@ -1,12 +1,8 @@
 -- `lane_values::write_wide` meets its contract: the entries below i are stored. Assumes nothing.
-use Rattle.integers.proofs.Prelude.{◌≡◌, ap, ap₂, ◌∙◌, List, ℕ, ◌+◌, ◌-◌, ◌*◌, ◌≤◌, ◌<◌, arith, rules, ℤ, pos, neg_ℤ, ◌+ℤ◌, ◌*ℤ◌, length, get_or}
-use Rattle.integers.proofs.Prelude.{w16, w32, w64, to_z, of_z}
-use Rattle.integers.proofs.Machine.{kept, read_back}
-use Rattle.quotient.specs.Quotient.{unit, quotient}
-use Rattle.model.specs.Iteration.{at, divisor}
-use Rattle.lane_values.specs.Stored.{Parts, Stored}
-use Rattle.lane_values.specs.Places.{whole, wide_value, wide_parts}
-use Rattle.lane_values.proofs.Stored.{nothing_stored, ahead, store_next}
+use Rattle.integers.proofs.Prelude.{◌+◌, ◌-◌, ◌*◌, ◌≤◌}
+use Rattle.model.specs.Iteration.{divisor}
+use Rattle.lane_values.specs.Stored.{Stored}
+use Rattle.lane_values.specs.Places.{wide_value, wide_parts}
 use Rattle.lane_values.proofs.write_wide.Given as goal
 
 abbrev pub invariant-loop-i : goal.invariant-loop-i

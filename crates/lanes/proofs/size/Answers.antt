@@ -1,5 +1,5 @@
 -- `lanes::size` meets its contract. Assumes nothing.
-use Rattle.integers.proofs.Prelude.{◌+◌, ◌*◌, ◌≤◌, ap, arith, rules}
+use Rattle.integers.proofs.Prelude.{◌+◌, ◌*◌, ◌≤◌, ap, arith}
 use native.Mathlib.Nat.{mul-le-mul}
 use Rattle.model.specs.Limits.{most_triples, most_variables}
 use Rattle.lanes.proofs.size.Goals as goal

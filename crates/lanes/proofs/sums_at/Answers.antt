@@ -1,5 +1,5 @@
 -- `lanes::sums_at` meets its contract. Assumes nothing.
-use Rattle.integers.proofs.Prelude.{◌+◌, ◌*◌, ◌≤◌, arith, rules}
+use Rattle.integers.proofs.Prelude.{◌+◌, ◌*◌, ◌≤◌, arith}
 use native.Mathlib.Nat.{mul-le-mul}
 use Rattle.model.specs.Limits.{most_triples, most_variables}
 use Rattle.lanes.specs.Lanes.{sums_at}

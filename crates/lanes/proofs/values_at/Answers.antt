@@ -1,5 +1,5 @@
 -- `lanes::values_at` meets its contract. Assumes nothing.
-use Rattle.integers.proofs.Prelude.{◌*◌, ◌≤◌, arith, rules}
+use Rattle.integers.proofs.Prelude.{◌*◌, ◌≤◌, arith}
 use native.Mathlib.Nat.{mul-le-mul}
 use Rattle.model.specs.Limits.{most_triples}
 use Rattle.lanes.specs.Lanes.{values_at}

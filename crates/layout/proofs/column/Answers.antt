@@ -1,5 +1,5 @@
 -- `layout::column` meets its contract. Assumes nothing.
-use Rattle.integers.proofs.Prelude.{rules, w32}
+use Rattle.integers.proofs.Prelude.{w32}
 use Rattle.integers.proofs.Machine.{param}
 use Rattle.model.specs.Limits.{most_row}
 use Rattle.rows.proofs.Four.{four_are}

@@ -1,5 +1,5 @@
 -- `layout::load_four` meets its contract. Assumes nothing.
-use Rattle.integers.proofs.Prelude.{ap, ◌∙◌, List, ◌+◌, ◌*◌, arith, rules, ℤ}
+use Rattle.integers.proofs.Prelude.{ap, ◌∙◌, List, ◌+◌, ◌*◌, arith, ℤ}
 use Rattle.lists.specs.Tabulated.{tab}
 use Rattle.model.specs.Iteration.{row}
 use Rattle.layout.specs.Transposed.{cell}

@@ -1,5 +1,5 @@
 -- `layout::store` meets its contract. Assumes nothing.
-use Rattle.integers.proofs.Prelude.{◌*◌, arith, rules, length-set}
+use Rattle.integers.proofs.Prelude.{◌*◌, arith, length-set}
 use Rattle.model.specs.Limits.{most_row}
 use Rattle.layout.proofs.Entries.{four_stored}
 use Rattle.layout.proofs.store.Goals as goal

@@ -1,5 +1,5 @@
 -- `layout::store_four` meets its contract. Assumes nothing.
-use Rattle.integers.proofs.Prelude.{ap, ◌∙◌, List, ◌*◌, ◌/◌, ◌%◌, arith, rules, ℤ, sets}
+use Rattle.integers.proofs.Prelude.{ap, ◌∙◌, List, ◌*◌, ◌/◌, ◌%◌, arith, ℤ, sets}
 use Rattle.lists.specs.Tabulated.{tab}
 use Rattle.layout.specs.Transposed.{cell}
 use Rattle.layout.proofs.Places.{fours_are}

@@ -1,5 +1,5 @@
 -- `lines::begin` meets its contract: a letter and two fields. Assumes nothing.
-use Rattle.integers.proofs.Prelude.{[], ◌∷◌, ◌++◌, append_assoc, arith, rules}
+use Rattle.integers.proofs.Prelude.{[], ◌∷◌, ◌++◌, append_assoc, arith}
 use Rattle.model.specs.Text.{decimal}
 use Rattle.program.specs.Frames.{opening}
 use Rattle.text.proofs.Appended.{then}

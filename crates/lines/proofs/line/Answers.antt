@@ -1,5 +1,5 @@
 -- `lines::line` meets its contract: each case has its letter, and a refusal's number is none of an outcome. Assumes nothing.
-use Rattle.integers.proofs.Prelude.{◌≡◌, subst, List, ℕ, arith, rules, ne_eqb}
+use Rattle.integers.proofs.Prelude.{◌≡◌, subst, List, ℕ, arith, ne_eqb}
 use Rattle.model.specs.declared.Decoding.{Decoding}
 use Rattle.model.specs.Calls.{decoding_told}
 use Rattle.program.specs.Frames.{refusal, spaced, line}

@@ -1,5 +1,4 @@
 -- `lines::place_line` meets its contract: the opening, then the place. Assumes nothing.
-use Rattle.integers.proofs.Prelude.{rules}
 use Rattle.text.proofs.Appended.{then}
 use Rattle.lines.proofs.place_line.Goals as goal
 

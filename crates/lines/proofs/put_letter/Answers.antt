@@ -1,5 +1,5 @@
 -- `lines::put_letter` meets its contract: two pieces. Assumes nothing.
-use Rattle.integers.proofs.Prelude.{arith, rules}
+use Rattle.integers.proofs.Prelude.{arith}
 use Rattle.text.proofs.Appended.{then}
 use Rattle.lines.proofs.put_letter.Goals as goal
 

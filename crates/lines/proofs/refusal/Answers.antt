@@ -1,5 +1,4 @@
 -- `lines::refusal` meets its contract: the letter, then the number. Assumes nothing.
-use Rattle.integers.proofs.Prelude.{rules}
 use Rattle.program.specs.Frames.{refusal}
 use Rattle.text.proofs.Appended.{then}
 use Rattle.lines.proofs.refusal.Goals as goal

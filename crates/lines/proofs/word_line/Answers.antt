@@ -1,5 +1,5 @@
 -- `lines::word_line` meets its contract: the opening, the bits, a line feed. Assumes nothing.
-use Rattle.integers.proofs.Prelude.{List, [], ◌∷◌, ◌++◌, map, append_assoc, ℕ, ◌+◌, ◌≤◌, arith, rules, length, length-map}
+use Rattle.integers.proofs.Prelude.{List, [], ◌∷◌, ◌++◌, map, append_assoc, ℕ, ◌+◌, ◌≤◌, arith, length, length-map}
 use Rattle.program.specs.Frames.{glyph, opening}
 use Rattle.text.specs.Appended.{Appended}
 use Rattle.text.proofs.Appended.{long, then}

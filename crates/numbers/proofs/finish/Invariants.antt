@@ -1,10 +1,8 @@
 -- `numbers::finish` meets its contract: in a number that is `value` so far. Assumes nothing.
-use Rattle.integers.proofs.Prelude.{◌≡◌, sym, ap, ◌∙◌, false, ◌∷◌, suc, ◌-◌, ◌≤◌, ◌<◌, arith, add-one, rules, length, get_or, drop}
+use Rattle.integers.proofs.Prelude.{◌≡◌, false, suc, ◌-◌, ◌≤◌, ◌<◌, length, get_or, drop}
 use Rattle.model.specs.Limits.{most_number}
 use Rattle.model.specs.Alist.{separator, numbers_of}
-use Rattle.model.proofs.Spelling.{walk_more, walk_end}
 use Rattle.numbers.specs.Walked.{from}
-use Rattle.numbers.proofs.Walk.{walk_begin, walk_out}
 use Rattle.numbers.proofs.finish.Given as goal
 
 abbrev pub invariant-loop-i : goal.invariant-loop-i

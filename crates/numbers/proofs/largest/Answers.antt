@@ -1,9 +1,6 @@
 -- `numbers::largest` meets its contract: the numbers so far are small, and the largest of them is known. Assumes nothing.
-use Rattle.integers.proofs.Prelude.{◌≡◌, refl, ◌-◌, ◌≤◌, max, arith, add-one, rules, length, take, drop}
-use mathlib.Core.Logic.{⊎_elim}
-use Rattle.model.specs.Limits.{most_number}
-use Rattle.model.specs.Alist as alist
-use Rattle.numbers.specs.Walked.{from, none, Small}
+use Rattle.integers.proofs.Prelude.{◌≡◌, refl, max, arith, add-one, rules}
+use Rattle.numbers.specs.Walked.{from, none}
 use Rattle.numbers.proofs.Walk.{next_at, small_none, small_at, small_next, largest_next}
 use Rattle.numbers.proofs.largest.Goals as goal
 use Rattle.numbers.proofs.largest.Goals.{else-largest-value, then-largest-value}

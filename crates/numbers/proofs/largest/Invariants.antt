@@ -1,10 +1,8 @@
 -- `numbers::largest` meets its contract: the numbers so far are small, and the largest of them is known. Assumes nothing.
-use Rattle.integers.proofs.Prelude.{◌≡◌, refl, ◌-◌, ◌≤◌, max, arith, add-one, rules, length, take, drop}
-use mathlib.Core.Logic.{⊎_elim}
+use Rattle.integers.proofs.Prelude.{◌≡◌, ◌-◌, ◌≤◌, length, take, drop}
 use Rattle.model.specs.Limits.{most_number}
 use Rattle.model.specs.Alist as alist
-use Rattle.numbers.specs.Walked.{from, none, Small}
-use Rattle.numbers.proofs.Walk.{next_at, small_none, small_at, small_next, largest_next}
+use Rattle.numbers.specs.Walked.{from, Small}
 use Rattle.numbers.proofs.largest.Given as goal
 
 abbrev pub invariant-loop-i : goal.invariant-loop-i

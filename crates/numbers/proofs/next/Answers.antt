@@ -1,5 +1,5 @@
 -- `numbers::next` meets its contract. Assumes nothing.
-use Rattle.integers.proofs.Prelude.{sym, ap, ◌∙◌, List, ℕ, arith, rules, get_or, drop}
+use Rattle.integers.proofs.Prelude.{sym, ap, ◌∙◌, List, ℕ, arith, get_or, drop}
 use Rattle.numbers.specs.Walked.{none}
 use Rattle.numbers.proofs.next.Goals as goal
 

@@ -1,8 +1,6 @@
 -- `numbers::read` meets its contract: k numbers are in the list, and the next one is begun where inside is 1. Assumes nothing.
-use Rattle.integers.proofs.Prelude.{refl, ◌∙◌, ◌-◌, arith, rules, ltb-true, ltb-false, length, length-set}
-use mathlib.Core.Logic.{⊎_elim}
-use Rattle.numbers.specs.Walked.{from}
-use Rattle.numbers.proofs.Fill.{Reading, read_byte, read_all, read_last}
+use Rattle.integers.proofs.Prelude.{refl, ◌∙◌, arith, ltb-true, length, length-set}
+use Rattle.numbers.proofs.Fill.{read_byte, read_all, read_last}
 use Rattle.numbers.proofs.read.Goals as goal
 use Rattle.numbers.proofs.read.Goals.{else-digit-eq0, else-digit-inside, then-digit-eq0, then-digit-inside, then-loop-k-test+else-i-text, else-loop-k-test}
 

@@ -1,8 +1,7 @@
 -- `numbers::read` meets its contract: k numbers are in the list, and the next one is begun where inside is 1. Assumes nothing.
-use Rattle.integers.proofs.Prelude.{refl, ◌∙◌, ◌-◌, arith, rules, ltb-true, ltb-false, length, length-set}
-use mathlib.Core.Logic.{⊎_elim}
+use Rattle.integers.proofs.Prelude.{◌-◌, length}
 use Rattle.numbers.specs.Walked.{from}
-use Rattle.numbers.proofs.Fill.{Reading, read_byte, read_all, read_last}
+use Rattle.numbers.proofs.Fill.{Reading}
 use Rattle.numbers.proofs.read.Given as goal
 
 abbrev pub invariant-loop-k : goal.invariant-loop-k

@@ -1,7 +1,6 @@
 -- `numbers::skip` meets its contract: the numbers from here on are those from `at` on. Assumes nothing.
-use Rattle.integers.proofs.Prelude.{◌≡◌, refl, sym, ◌∙◌, ◌-◌, ◌≤◌, arith, add-one, rules, not-false, not-true, length}
+use Rattle.integers.proofs.Prelude.{refl, sym, ◌∙◌, arith, add-one, not-false, not-true}
 use Rattle.model.proofs.Spelling.{walk_apart, walk_end}
-use Rattle.numbers.specs.Walked.{from}
 use Rattle.numbers.proofs.skip.Goals as goal
 
 pub returns-then-not-separates : goal.returns-then-not-separates

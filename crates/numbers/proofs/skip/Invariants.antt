@@ -1,6 +1,5 @@
 -- `numbers::skip` meets its contract: the numbers from here on are those from `at` on. Assumes nothing.
-use Rattle.integers.proofs.Prelude.{◌≡◌, refl, sym, ◌∙◌, ◌-◌, ◌≤◌, arith, add-one, rules, not-false, not-true, length}
-use Rattle.model.proofs.Spelling.{walk_apart, walk_end}
+use Rattle.integers.proofs.Prelude.{◌≡◌, ◌-◌, ◌≤◌, length}
 use Rattle.numbers.specs.Walked.{from}
 use Rattle.numbers.proofs.skip.Given as goal
 

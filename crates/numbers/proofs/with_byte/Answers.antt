@@ -1,5 +1,5 @@
 -- `numbers::with_byte` meets its contract. Assumes nothing.
-use Rattle.integers.proofs.Prelude.{◌≡◌, suc, ◌+◌, ◌-◌, ◌*◌, min, arith, rules, ltb-false, lt-ltb, le-ltb}
+use Rattle.integers.proofs.Prelude.{◌≡◌, suc, ◌+◌, ◌-◌, ◌*◌, min, arith, ltb-false, lt-ltb, le-ltb}
 use mathlib.Core.Logic.{⊎_elim}
 use Rattle.model.specs.Limits.{most_number}
 use Rattle.model.specs.Alist.{further}

@@ -1,5 +1,5 @@
 -- `outcome::answer` meets its contract: case by case. Assumes nothing.
-use Rattle.integers.proofs.Prelude.{sym, ap, ◌∙◌, rules}
+use Rattle.integers.proofs.Prelude.{sym, ap, ◌∙◌}
 use Rattle.model.specs.Calls.{decoding_told}
 use Rattle.outcome.proofs.answer.Goals as goal
 

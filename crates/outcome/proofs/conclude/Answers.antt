@@ -1,5 +1,5 @@
 -- `outcome::conclude` meets its contract: the first thing found decides. Assumes nothing.
-use Rattle.integers.proofs.Prelude.{◌≡◌, refl, ap, ◌∙◌, List, ℕ, arith, rules, eqb, ℤ, nat_abs}
+use Rattle.integers.proofs.Prelude.{◌≡◌, refl, ap, ◌∙◌, List, ℕ, arith, eqb, ℤ, nat_abs}
 use Rattle.lists.specs.Entries.{first}
 use Rattle.lists.specs.Tabulated.{over, written}
 use Rattle.lists.proofs.Tabulated.{over_tab}

@@ -1,5 +1,5 @@
 -- `outcome::first_odd_in` meets its contract: the first entries of `aside` are the word. Assumes nothing.
-use Rattle.integers.proofs.Prelude.{◌≡◌, sym, ap, ◌∙◌, ◌++◌, ℕ, arith, rules, length, take, drop, length-take-le, take_at}
+use Rattle.integers.proofs.Prelude.{◌≡◌, sym, ap, ◌∙◌, ◌++◌, ℕ, arith, length, take, drop, length-take-le, take_at}
 use Rattle.lists.specs.Tabulated.{tab}
 use Rattle.lists.proofs.Tabulated.{length_tab, over_whole}
 use Rattle.model.specs.Iteration.{at}

@@ -1,5 +1,5 @@
 -- `outcome::first_undecided` meets its contract: no value before v is 0. Assumes nothing.
-use Rattle.integers.proofs.Prelude.{◌≡◌, sym, ap, ◌∙◌, Bool, false, ℕ, ◌-◌, ◌≤◌, ◌<◌, arith, rules, eqb, ℤ, nat_abs, w16}
+use Rattle.integers.proofs.Prelude.{◌≡◌, sym, ap, ◌∙◌, Bool, false, ℕ, arith, eqb, ℤ, nat_abs, w16}
 use Rattle.integers.proofs.Machine.{kept}
 use Rattle.lists.proofs.Entries.{below_next, first_at, first_none}
 use Rattle.model.specs.Iteration.{at}

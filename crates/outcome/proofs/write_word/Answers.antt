@@ -1,5 +1,5 @@
 -- `outcome::write_word` meets its contract: the first v entries are written. Assumes nothing.
-use Rattle.integers.proofs.Prelude.{◌≡◌, refl, sym, ap, ◌∙◌, ℕ, ◌-◌, ◌≤◌, arith, add-one, rules, length, w16}
+use Rattle.integers.proofs.Prelude.{◌≡◌, refl, sym, ap, ◌∙◌, ℕ, arith, add-one, length, w16}
 use Rattle.integers.proofs.Machine.{kept}
 use Rattle.lists.specs.Tabulated.{over}
 use Rattle.lists.proofs.Tabulated.{length_over, over_next}

@@ -1,8 +1,6 @@
 -- `outcome::write_word` meets its contract: the first v entries are written. Assumes nothing.
-use Rattle.integers.proofs.Prelude.{◌≡◌, refl, sym, ap, ◌∙◌, ℕ, ◌-◌, ◌≤◌, arith, add-one, rules, length, w16}
-use Rattle.integers.proofs.Machine.{kept}
+use Rattle.integers.proofs.Prelude.{◌≡◌, ◌-◌, ◌≤◌}
 use Rattle.lists.specs.Tabulated.{over}
-use Rattle.lists.proofs.Tabulated.{length_over, over_next}
 use Rattle.model.specs.Iteration.{at}
 use Rattle.model.specs.Words.{bit_of}
 use Rattle.outcome.proofs.write_word.Given as goal

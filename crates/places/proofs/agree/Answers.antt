@@ -1,5 +1,5 @@
 -- `places::agree` meets its contract: no index is too large, and columns and rows agree in all windows. Assumes nothing.
-use Rattle.integers.proofs.Prelude.{◌≡◌, sym, ℕ, ◌*◌, ◌^◌, ◌≤◌, arith, rules, ltb-true, ltb-false, take}
+use Rattle.integers.proofs.Prelude.{◌≡◌, sym, ℕ, ◌*◌, ◌^◌, ◌≤◌, arith, ltb-false, take}
 use mathlib.Core.Logic.{⊎_elim}
 use native.Mathlib.Nat.{mul-le-mul}
 use Rattle.model.specs.Limits.{most_number}

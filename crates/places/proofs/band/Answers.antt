@@ -1,5 +1,5 @@
 -- `places::band` meets its contract: columns and rows agree in the windows so far, and all counters are 0. Assumes nothing.
-use Rattle.integers.proofs.Prelude.{◌≡◌, sym, ap, ◌∙◌, List, ◌++◌, ℕ, ◌+◌, ◌-◌, ◌*◌, ◌≤◌, arith, rules, not-true, not-false, length, take, drop}
+use Rattle.integers.proofs.Prelude.{◌≡◌, sym, ap, ◌∙◌, List, ◌++◌, ℕ, ◌+◌, ◌*◌, ◌≤◌, arith, not-true, not-false, length, take, drop}
 use Rattle.integers.proofs.Prelude.{length-take-le, take_at}
 use lib.Seq.{length_front}
 use native.Mathlib.Nat.{mul-le-mul_left, mul-le-mul_right}

@@ -1,15 +1,7 @@
 -- `places::band` meets its contract: columns and rows agree in the windows so far, and all counters are 0. Assumes nothing.
-use Rattle.integers.proofs.Prelude.{◌≡◌, sym, ap, ◌∙◌, List, ◌++◌, ℕ, ◌+◌, ◌-◌, ◌*◌, ◌≤◌, arith, rules, not-true, not-false, length, take, drop}
-use Rattle.integers.proofs.Prelude.{length-take-le, take_at}
-use lib.Seq.{length_front}
-use native.Mathlib.Nat.{mul-le-mul_left, mul-le-mul_right}
-use Rattle.lists.specs.Entries.{sum}
+use Rattle.integers.proofs.Prelude.{◌≡◌, ◌-◌, ◌*◌, ◌≤◌, length, drop}
 use Rattle.numbers.specs.Walked.{from}
-use Rattle.numbers.proofs.Walk.{small_part}
-use Rattle.places.specs.declared.Window.{Window}
-use Rattle.places.specs.Counters.{most_counters, Agrees, Tells, Zeros, Inside}
-use Rattle.places.proofs.Counters.{zeros_take, zeros_back}
-use Rattle.places.proofs.Windows.{window_tells, list_past, wider, wide_part}
+use Rattle.places.specs.Counters.{most_counters, Agrees, Zeros}
 use Rattle.places.proofs.band.Given as goal
 
 abbrev pub invariant-loop-left : goal.invariant-loop-left

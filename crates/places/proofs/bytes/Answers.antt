@@ -1,5 +1,5 @@
 -- `places::bytes` meets its contract. Assumes nothing.
-use Rattle.integers.proofs.Prelude.{suc, ◌+◌, ◌-◌, ◌*◌, ◌/◌, ◌^◌, ◌<◌, arith, rules}
+use Rattle.integers.proofs.Prelude.{suc, ◌+◌, ◌-◌, ◌*◌, ◌/◌, ◌^◌, ◌<◌, arith}
 use native.Mathlib.Nat.{div-add-mod', mod-lt, div-lt_iff_lt-mul}
 use Rattle.places.proofs.bytes.Goals as goal
 

@@ -1,12 +1,11 @@
 -- `places::columns_down` meets its contract: the first numbers of the columns are counted down, block by block. Assumes nothing.
-use Rattle.integers.proofs.Prelude.{◌≡◌, refl, sym, ◌∙◌, ℕ, ◌-◌, ◌*◌, ◌≤◌, arith, rules, not-true, not-false, take}
+use Rattle.integers.proofs.Prelude.{◌≡◌, refl, sym, ◌∙◌, ℕ, ◌*◌, ◌≤◌, arith, not-true, not-false, take}
 use native.Mathlib.Nat.{mul-le-mul}
-use Rattle.lists.specs.Entries.{sum}
 use Rattle.model.specs.Limits.{most_number}
 use Rattle.numbers.specs.Walked.{from}
 use Rattle.places.specs.Counters.{in_columns, More}
 use Rattle.places.proofs.Counters.{more_none, above_tells, end_tells, end_zeros}
-use Rattle.places.proofs.Blocks.{Reached, reached_none, reached_small, Next, next_block, down_block, above_block}
+use Rattle.places.proofs.Blocks.{reached_none, reached_small, Next, next_block, down_block, above_block}
 use Rattle.places.proofs.columns_down.Goals as goal
 use Rattle.places.proofs.columns_down.Goals.{Start, At-loop-done, After-read_block-block, After-count_down-counted}
 

@@ -1,5 +1,5 @@
 -- `places::count_up` meets its contract: k numbers of the block are counted. Assumes nothing.
-use Rattle.integers.proofs.Prelude.{◌≡◌, refl, List, ℕ, ◌+◌, ◌-◌, ◌≤◌, ◌<◌, arith, rules, leb-true, leb-false, length, get_or, take, set, take_all}
+use Rattle.integers.proofs.Prelude.{◌≡◌, refl, List, ℕ, ◌+◌, ◌-◌, ◌≤◌, ◌<◌, arith, leb-true, length, get_or, take, set, take_all}
 use mathlib.Core.Logic.{⊎_elim}
 use Rattle.lists.specs.Entries.{sum}
 use Rattle.places.specs.Counters.{in_rows, More}

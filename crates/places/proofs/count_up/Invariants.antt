@@ -1,10 +1,8 @@
 -- `places::count_up` meets its contract: k numbers of the block are counted. Assumes nothing.
-use Rattle.integers.proofs.Prelude.{◌≡◌, refl, List, ℕ, ◌+◌, ◌-◌, ◌≤◌, ◌<◌, arith, rules, leb-true, leb-false, length, get_or, take, set, take_all}
-use mathlib.Core.Logic.{⊎_elim}
+use Rattle.integers.proofs.Prelude.{◌≡◌, ◌+◌, ◌≤◌, take}
 use Rattle.lists.specs.Entries.{sum}
 use Rattle.places.specs.Counters.{in_rows, More}
-use Rattle.places.proofs.Counters.{sum_set, more_none}
-use Rattle.places.proofs.Counting.{Stands, row_start, stands_first, in_list, list_goes_on, list_ends, Up, up_turn}
+use Rattle.places.proofs.Counting.{Stands}
 use Rattle.places.proofs.count_up.Given as goal
 
 abbrev pub invariant-loop-k : goal.invariant-loop-k

@@ -1,5 +1,5 @@
 -- `places::read_block` meets its contract: the first entries are filled with the next numbers. Assumes nothing.
-use Rattle.integers.proofs.Prelude.{◌≡◌, sym, ◌∙◌, arith, rules, length, take, drop, length-take-le, take_at}
+use Rattle.integers.proofs.Prelude.{◌≡◌, sym, ◌∙◌, arith, length, take, drop, length-take-le, take_at}
 use lib.Seq.{length_front}
 use Rattle.numbers.proofs.Walk.{small_part}
 use Rattle.places.proofs.read_block.Goals as goal

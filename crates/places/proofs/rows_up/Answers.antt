@@ -1,12 +1,10 @@
 -- `places::rows_up` meets its contract: the first numbers of the rows are counted, block by block. Assumes nothing.
-use Rattle.integers.proofs.Prelude.{◌≡◌, refl, sym, List, ℕ, ◌+◌, ◌-◌, ◌*◌, ◌≤◌, arith, rules, take}
+use Rattle.integers.proofs.Prelude.{◌≡◌, refl, sym, List, ℕ, ◌+◌, ◌*◌, ◌≤◌, arith}
 use native.Mathlib.Nat.{mul-le-mul}
-use Rattle.lists.specs.Entries.{sum}
 use Rattle.model.specs.Limits.{most_number}
 use Rattle.numbers.specs.Walked.{from}
-use Rattle.places.specs.Counters.{in_rows, More}
 use Rattle.places.proofs.Counters.{zeros_sum, more_none}
-use Rattle.places.proofs.Blocks.{Reached, reached_none, reached_small, Next, next_block, room_rows, up_block}
+use Rattle.places.proofs.Blocks.{reached_none, reached_small, Next, next_block, room_rows, up_block}
 use Rattle.places.proofs.rows_up.Goals as goal
 use Rattle.places.proofs.rows_up.Goals.{Start, At-loop-done, After-read_block-block, After-count_up-open}
 

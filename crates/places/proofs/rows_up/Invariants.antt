@@ -1,12 +1,9 @@
 -- `places::rows_up` meets its contract: the first numbers of the rows are counted, block by block. Assumes nothing.
-use Rattle.integers.proofs.Prelude.{◌≡◌, refl, sym, List, ℕ, ◌+◌, ◌-◌, ◌*◌, ◌≤◌, arith, rules, take}
-use native.Mathlib.Nat.{mul-le-mul}
+use Rattle.integers.proofs.Prelude.{◌≡◌, ◌-◌, ◌≤◌, take}
 use Rattle.lists.specs.Entries.{sum}
-use Rattle.model.specs.Limits.{most_number}
 use Rattle.numbers.specs.Walked.{from}
 use Rattle.places.specs.Counters.{in_rows, More}
-use Rattle.places.proofs.Counters.{zeros_sum, more_none}
-use Rattle.places.proofs.Blocks.{Reached, reached_none, reached_small, Next, next_block, room_rows, up_block}
+use Rattle.places.proofs.Blocks.{Reached}
 use Rattle.places.proofs.rows_up.Given as goal
 
 abbrev pub invariant-loop-done : goal.invariant-loop-done

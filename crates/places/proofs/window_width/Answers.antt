@@ -1,5 +1,5 @@
 -- `places::window_width` meets its contract: the width is one of a window. Assumes nothing.
-use Rattle.integers.proofs.Prelude.{◌-◌, ◌≤◌, arith, rules}
+use Rattle.integers.proofs.Prelude.{arith}
 use native.Mathlib.Nat.{le-div_iff_mul-le}
 use Rattle.places.specs.Counters.{most_counters}
 use Rattle.places.proofs.window_width.Goals as goal

@@ -1,6 +1,5 @@
 -- `places::window_width` meets its contract: the width is one of a window. Assumes nothing.
-use Rattle.integers.proofs.Prelude.{◌-◌, ◌≤◌, arith, rules}
-use native.Mathlib.Nat.{le-div_iff_mul-le}
+use Rattle.integers.proofs.Prelude.{◌-◌, ◌≤◌}
 use Rattle.places.specs.Counters.{most_counters}
 use Rattle.places.proofs.window_width.Given as goal
 

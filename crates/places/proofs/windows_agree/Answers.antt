@@ -1,10 +1,10 @@
 -- `places::windows_agree` meets its contract: columns and rows agree in the bands so far, and all counters are 0. Assumes nothing.
-use Rattle.integers.proofs.Prelude.{◌≡◌, refl, sym, ap, ◌∙◌, List, ℕ, ◌+◌, ◌-◌, ◌*◌, ◌/◌, ◌≤◌, arith, rules, not-true, not-false, length, drop}
+use Rattle.integers.proofs.Prelude.{◌≡◌, refl, sym, ap, ◌∙◌, List, ℕ, ◌+◌, ◌*◌, ◌/◌, ◌≤◌, arith, not-true, not-false, drop}
 use native.Mathlib.Nat.{mul-le-mul, mul-le-mul_right, div-mul-le_self, le-div_iff_mul-le}
 use Rattle.model.specs.Limits.{most_number}
 use Rattle.numbers.specs.Walked.{from, Small}
 use Rattle.numbers.proofs.Walk.{small_part, scanned_small}
-use Rattle.places.specs.Counters.{most_counters, Agrees, Tells, Zeros}
+use Rattle.places.specs.Counters.{most_counters, Agrees, Tells}
 use Rattle.places.proofs.Counters.{zeros_at}
 use Rattle.places.proofs.Windows.{list_past, higher, high_part}
 use Rattle.places.proofs.windows_agree.Goals as goal

@@ -1,5 +1,5 @@
 -- `quotient::dividend` meets its contract. Assumes nothing.
-use Rattle.integers.proofs.Prelude.{◌≡◌, ap, ap₂, ◌∙◌, ℕ, ◌+◌, ◌-◌, ◌*◌, ◌^◌, ◌≤◌, arith, rules, ℤ, pos, nat_abs, ◌+ℤ◌, ◌-ℤ◌, ◌*ℤ◌, w32, to_z, of_z}
+use Rattle.integers.proofs.Prelude.{◌≡◌, ap, ap₂, ◌∙◌, ℕ, ◌+◌, ◌-◌, ◌*◌, ◌^◌, ◌≤◌, arith, ℤ, pos, nat_abs, ◌+ℤ◌, ◌-ℤ◌, ◌*ℤ◌, w32, to_z, of_z}
 use Rattle.integers.proofs.Linear.{to_ℕ}
 use Rattle.integers.proofs.Machine.{Worth, param, local, literal, also, plus, minus, times, fits, stored}
 use Rattle.quotient.specs.Narrowed.{gap_of, rest_of, dividend_of}

@@ -1,5 +1,5 @@
 -- `quotient::gap` meets its contract. Assumes nothing.
-use Rattle.integers.proofs.Prelude.{◌≡◌, ap, ◌∙◌, ℕ, ◌+◌, ◌-◌, ◌*◌, ◌^◌, arith, rules, ℤ, pos, nat_abs, neg_ℤ, ◌+ℤ◌, ◌-ℤ◌, ◌*ℤ◌, w32, to_z, of_z}
+use Rattle.integers.proofs.Prelude.{◌≡◌, ap, ◌∙◌, ℕ, ◌+◌, ◌-◌, ◌*◌, ◌^◌, arith, ℤ, pos, nat_abs, neg_ℤ, ◌+ℤ◌, ◌-ℤ◌, ◌*ℤ◌, w32, to_z, of_z}
 use Rattle.integers.specs.Parts.{up}
 use Rattle.integers.proofs.Linear.{read_ℤ, above_abs, false_lt_z, about, about_neg, about_sum}
 use Rattle.integers.proofs.Machine.{Worth, param, literal, local, also, plus, minus, times, fits, stored, read_back}

@@ -1,5 +1,5 @@
 -- `quotient::scaled` meets its contract. Assumes nothing.
-use Rattle.integers.proofs.Prelude.{ℕ, ◌+◌, ◌*◌, ◌/◌, ◌^◌, ◌≤◌, arith, rules, pos, nat_abs, w32, to_z, of_z}
+use Rattle.integers.proofs.Prelude.{ℕ, ◌+◌, ◌*◌, ◌/◌, ◌^◌, ◌≤◌, arith, pos, nat_abs, w32, to_z, of_z}
 use native.Mathlib.Nat.{mul-le-mul}
 use lib.Signed.{yes_non_neg}
 use Rattle.integers.proofs.Machine.{Worth, param, unsigned}

@@ -1,7 +1,5 @@
 -- `reader::all_marked` meets its contract: what is left to test decides. Assumes nothing.
-use Rattle.integers.proofs.Prelude.{◌≡◌, refl, sym, ◌∙◌, Bool, true, false, List, ℕ, ◌-◌, ◌<◌, arith, add-one, rules, eq-eqb, ne_eqb, get_or, drop}
-use Rattle.lists.specs.Tabulated.{tab}
-use Rattle.lists.specs.Entries.{every}
+use Rattle.integers.proofs.Prelude.{◌≡◌, refl, sym, ◌∙◌, Bool, true, false, List, ℕ, ◌<◌, arith, add-one, eq-eqb, ne_eqb, get_or}
 use Rattle.lists.proofs.Tabulated.{length_tab, get_or_tab}
 use Rattle.lists.proofs.Entries.{every_next, every_stop, every_end}
 use Rattle.reader.specs.Marks.{marked, all_marked}

@@ -1,10 +1,8 @@
 -- `reader::all_marked` meets its contract: what is left to test decides. Assumes nothing.
-use Rattle.integers.proofs.Prelude.{◌≡◌, refl, sym, ◌∙◌, Bool, true, false, List, ℕ, ◌-◌, ◌<◌, arith, add-one, rules, eq-eqb, ne_eqb, get_or, drop}
+use Rattle.integers.proofs.Prelude.{◌≡◌, List, ℕ, ◌-◌, drop}
 use Rattle.lists.specs.Tabulated.{tab}
 use Rattle.lists.specs.Entries.{every}
-use Rattle.lists.proofs.Tabulated.{length_tab, get_or_tab}
-use Rattle.lists.proofs.Entries.{every_next, every_stop, every_end}
-use Rattle.reader.specs.Marks.{marked, all_marked}
+use Rattle.reader.specs.Marks.{marked}
 use Rattle.reader.proofs.all_marked.Given as goal
 
 abbrev pub places : ℕ → List ℕ

@@ -1,5 +1,5 @@
 -- `reader::covers` meets its contract: the bits of the checks so far are marked. Assumes nothing.
-use Rattle.integers.proofs.Prelude.{◌≡◌, refl, sym, ◌∙◌, List, ℕ, ◌-◌, ◌≤◌, ◌<◌, arith, rules, eqb, length}
+use Rattle.integers.proofs.Prelude.{◌≡◌, refl, sym, ◌∙◌, List, ℕ, ◌<◌, arith, eqb}
 use lib.ListN.{get_or-replicate}
 use Rattle.lists.specs.Entries.{some}
 use Rattle.lists.proofs.Entries.{some_last, every_same}
@@ -7,7 +7,7 @@ use Rattle.model.specs.Limits.{most_bits}
 use Rattle.model.specs.Records.{checks_in, judge_check, covered}
 use Rattle.model.proofs.Accepted.{record_sound}
 use Rattle.reader.specs.Marks.{marked, all_marked}
-use Rattle.records.proofs.Walk.{Walk, walk_start, walk_next, walk_checks, walk_judged}
+use Rattle.records.proofs.Walk.{walk_start, walk_next, walk_checks, walk_judged}
 use Rattle.reader.proofs.covers.Goals as goal
 use Rattle.reader.proofs.covers.Goals.{In-loop-j}
 

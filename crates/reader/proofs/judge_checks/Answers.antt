@@ -1,11 +1,10 @@
 -- `reader::judge_checks` meets its contract: the records so far are sound. Assumes nothing.
-use Rattle.integers.proofs.Prelude.{◌≡◌, refl, sym, ap, ◌∙◌, ◌-◌, ◌*◌, ◌≤◌, arith, rules, length}
-use Rattle.lists.specs.Entries.{total}
+use Rattle.integers.proofs.Prelude.{◌≡◌, refl, sym, ap, ◌∙◌, arith, length}
 use Rattle.model.specs.Code.{triple_count}
 use Rattle.model.specs.Records.{checks_in, judge_check, judge_checks}
 use Rattle.model.proofs.Accepted.{record_sound}
 use Rattle.records.specs.Whole.{Whole}
-use Rattle.records.proofs.Walk.{Walk, walk_start, walk_next, walk_total, walk_passed, walk_refused}
+use Rattle.records.proofs.Walk.{walk_start, walk_next, walk_total, walk_passed, walk_refused}
 use Rattle.reader.proofs.judge_checks.Goals as goal
 use Rattle.reader.proofs.judge_checks.Goals.{Else-cause-ne0}
 

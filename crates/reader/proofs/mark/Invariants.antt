@@ -1,13 +1,8 @@
 -- `reader::mark` meets its contract: the indices so far are marked. Assumes nothing.
-use Rattle.integers.proofs.Prelude.{◌≡◌, refl, sym, ◌∙◌, ◌||◌, ℕ, ◌-◌, ◌<◌, arith, add-one, rules, eqb, length, take, length-set, take_all, take-suc}
-use mathlib.Core.Bool.{or_assoc}
+use Rattle.integers.proofs.Prelude.{◌≡◌, ◌||◌, ℕ, ◌-◌, ◌<◌, eqb, length, take}
 use Rattle.lists.specs.Entries.{some}
-use Rattle.lists.proofs.Entries.{some_last}
 use Rattle.model.specs.Records.{indices}
-use Rattle.model.proofs.Accepted.{SoundRecord, record_sound}
-use Rattle.model.proofs.Sound.{rising_below}
 use Rattle.reader.specs.Marks.{marked}
-use Rattle.reader.proofs.Marks.{marked_set}
 use Rattle.reader.proofs.mark.Given as goal
 
 abbrev pub invariant-loop-i : goal.invariant-loop-i

@@ -1,5 +1,5 @@
 -- `reader::read` meets its contract: the causes in their order, and the answer of an accepted code. Assumes nothing.
-use Rattle.integers.proofs.Prelude.{◌≡◌, sym, ◌∙◌, Bool, true, false, not, List, [], ◌∷◌, ℕ, suc, ◌-◌, arith, rules, lt-ltb, le-ltb, ltb, drop}
+use Rattle.integers.proofs.Prelude.{◌≡◌, sym, ◌∙◌, Bool, true, false, not, List, [], ◌∷◌, ℕ, suc, ◌-◌, arith, lt-ltb, le-ltb, ltb, drop}
 use Rattle.model.specs.Limits.{most_triples}
 use Rattle.model.specs.Causes.{◌if◌, first_of}
 use Rattle.model.specs.RecordClaims.{Bytes}

@@ -1,5 +1,5 @@
 -- `records::after_check` meets its contract. Assumes nothing.
-use Rattle.integers.proofs.Prelude.{◌∙◌, ◌+◌, ◌*◌, rules}
+use Rattle.integers.proofs.Prelude.{◌∙◌, ◌+◌, ◌*◌}
 use Rattle.lists.proofs.Parts.{part_from}
 use Rattle.records.proofs.after_check.Goals as goal
 

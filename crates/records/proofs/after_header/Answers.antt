@@ -1,5 +1,4 @@
 -- `records::after_header` meets its contract. Assumes nothing.
-use Rattle.integers.proofs.Prelude.{rules}
 use Rattle.lists.proofs.Parts.{part_from}
 use Rattle.records.proofs.after_header.Goals as goal
 

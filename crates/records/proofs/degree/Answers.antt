@@ -1,5 +1,5 @@
 -- `records::degree` meets its contract: a check has as many indices as its degree says. Assumes nothing.
-use Rattle.integers.proofs.Prelude.{sym, ◌∙◌, rules, drop}
+use Rattle.integers.proofs.Prelude.{sym, ◌∙◌, drop}
 use Rattle.model.specs.Records.{degree}
 use Rattle.model.proofs.Accepted.{length_numbers}
 use Rattle.records.proofs.degree.Goals as goal

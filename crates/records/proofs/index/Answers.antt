@@ -1,5 +1,5 @@
 -- `records::index` meets its contract. Assumes nothing.
-use Rattle.integers.proofs.Prelude.{sym, ◌∙◌, rules}
+use Rattle.integers.proofs.Prelude.{sym, ◌∙◌}
 use Rattle.records.proofs.Walk.{index_at}
 use Rattle.records.proofs.index.Goals as goal
 

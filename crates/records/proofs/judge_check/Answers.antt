@@ -1,5 +1,5 @@
 -- `records::judge_check` meets its contract: the tests in the definition's order. Assumes nothing.
-use Rattle.integers.proofs.Prelude.{◌≡◌, sym, ◌∙◌, [], ◌∷◌, rules, lt-ltb, le-ltb, ne_eqb, drop}
+use Rattle.integers.proofs.Prelude.{◌≡◌, sym, ◌∙◌, [], ◌∷◌, lt-ltb, le-ltb, ne_eqb, drop}
 use Rattle.lists.proofs.Parts.{part_from}
 use Rattle.model.specs.Limits.{least_degree, most_degree}
 use Rattle.model.specs.Causes.{◌if◌, first_of, short, outside}

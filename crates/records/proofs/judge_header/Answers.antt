@@ -1,5 +1,5 @@
 -- `records::judge_header` meets its contract: the tests in the definition's order. Assumes nothing.
-use Rattle.integers.proofs.Prelude.{◌≡◌, sym, ap, ◌∙◌, [], ◌∷◌, rules, lt-ltb, le-ltb, ne_eqb}
+use Rattle.integers.proofs.Prelude.{◌≡◌, sym, ap, ◌∙◌, [], ◌∷◌, lt-ltb, le-ltb, ne_eqb}
 use Rattle.model.specs.Limits.{most_bits, most_checks}
 use Rattle.model.specs.Causes.{◌if◌, first_of, short, outside}
 use Rattle.model.specs.Records.{bit_count, check_count, judge_header}

@@ -1,5 +1,5 @@
 -- `records::judge_indices` meets its contract: what is left to read decides. Assumes nothing.
-use Rattle.integers.proofs.Prelude.{◌≡◌, refl, List, [], ◌∷◌, ℕ, zero, suc, ◌+◌, ◌-◌, ◌<◌, arith, add-one, rules, lt-ltb, le-ltb, lt-leb, le-leb, ltb, leb}
+use Rattle.integers.proofs.Prelude.{◌≡◌, refl, List, [], ◌∷◌, ℕ, zero, suc, ◌+◌, ◌-◌, ◌<◌, arith, add-one, lt-ltb, le-ltb, lt-leb, le-leb, ltb, leb}
 use Rattle.integers.proofs.Prelude.{drop}
 use Rattle.lists.proofs.Parts.{part_from}
 use Rattle.model.specs.Causes.{◌if◌, first_of, short}

@@ -1,10 +1,6 @@
 -- `records::judge_indices` meets its contract: what is left to read decides. Assumes nothing.
-use Rattle.integers.proofs.Prelude.{◌≡◌, refl, List, [], ◌∷◌, ℕ, zero, suc, ◌+◌, ◌-◌, ◌<◌, arith, add-one, rules, lt-ltb, le-ltb, lt-leb, le-leb, ltb, leb}
-use Rattle.integers.proofs.Prelude.{drop}
-use Rattle.lists.proofs.Parts.{part_from}
-use Rattle.model.specs.Causes.{◌if◌, first_of, short}
-use Rattle.model.specs.Records.{two_bytes, judge_indices}
-use Rattle.model.proofs.Causes.{only}
+use Rattle.integers.proofs.Prelude.{◌≡◌}
+use Rattle.model.specs.Records.{judge_indices}
 use Rattle.records.proofs.judge_indices.Given as goal
 
 abbrev pub invariant-loop-left : goal.invariant-loop-left

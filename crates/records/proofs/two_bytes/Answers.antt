@@ -1,6 +1,6 @@
 -- `records::two_bytes` meets its contract. Assumes nothing.
 use native.Mathlib.Nat.{add-zero}
-use Rattle.integers.proofs.Prelude.{arith, rules, get_or-drop}
+use Rattle.integers.proofs.Prelude.{arith, get_or-drop}
 use Rattle.model.specs.Records.{two_bytes}
 use Rattle.records.proofs.two_bytes.Goals as goal
 

@@ -1,5 +1,4 @@
 -- `records::write_check` meets its contract: the mark, the degree, the indices. Assumes nothing.
-use Rattle.integers.proofs.Prelude.{rules}
 use Rattle.model.specs.Records.{record_of}
 use Rattle.text.proofs.Appended.{then}
 use Rattle.records.proofs.write_check.Goals as goal

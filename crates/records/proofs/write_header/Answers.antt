@@ -1,5 +1,4 @@
 -- `records::write_header` meets its contract: the mark, the bits, the checks. Assumes nothing.
-use Rattle.integers.proofs.Prelude.{rules}
 use Rattle.text.proofs.Appended.{then}
 use Rattle.records.proofs.write_header.Goals as goal
 

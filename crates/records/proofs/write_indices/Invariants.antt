@@ -1,9 +1,7 @@
 -- `records::write_indices` meets its contract: after i turns the first i indices are written. Assumes nothing.
-use Rattle.integers.proofs.Prelude.{◌≡◌, ◌++◌, ◌+◌, ◌-◌, ◌≤◌, arith, add-one, rules, length, get_or, take, length-take-le, take_all}
-use Rattle.model.specs.Records.{two, bytes_of}
+use Rattle.integers.proofs.Prelude.{◌≤◌, length, take}
+use Rattle.model.specs.Records.{bytes_of}
 use Rattle.text.specs.Appended.{Appended}
-use Rattle.text.proofs.Appended.{none, long, then}
-use Rattle.records.proofs.Written.{length_bytes, bytes_next}
 use Rattle.records.proofs.write_indices.Given as goal
 
 abbrev pub invariant-loop-i : goal.invariant-loop-i

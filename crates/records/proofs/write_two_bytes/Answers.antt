@@ -1,5 +1,4 @@
 -- `records::write_two_bytes` meets its contract: two bytes, one after the other. Assumes nothing.
-use Rattle.integers.proofs.Prelude.{rules}
 use Rattle.text.proofs.Appended.{then}
 use Rattle.records.proofs.write_two_bytes.Goals as goal
 

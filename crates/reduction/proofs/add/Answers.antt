@@ -1,5 +1,5 @@
 -- `reduction::add` meets its contract: the columns so far are sums, the others as they were. Assumes nothing.
-use Rattle.integers.proofs.Prelude.{◌≡◌, refl, ap₂, ◌∙◌, ℕ, ◌+◌, ◌-◌, ◌%◌, ◌≤◌, ◌<◌, arith, rules, length, length-set, set}
+use Rattle.integers.proofs.Prelude.{◌≡◌, refl, ap₂, ◌∙◌, ℕ, ◌+◌, ◌%◌, ◌≤◌, arith, length-set, set}
 use lib.Seq.{get_or-set_same, get_or-set_other}
 use Rattle.lists.proofs.Entries.{below_next}
 use Rattle.model.specs.Words.{bit_at}

@@ -1,13 +1,9 @@
 -- `reduction::check_row` meets its contract: the bits so far have their 1. Assumes nothing.
-use Rattle.integers.proofs.Prelude.{◌≡◌, refl, ◌∙◌, ℕ, ◌-◌, ◌≤◌, ◌<◌, arith, add-one, rules, length, take, length-set, take_all, take-suc}
-use lib.ListN.{get_or-replicate}
+use Rattle.integers.proofs.Prelude.{◌≡◌, ℕ, ◌-◌, ◌≤◌, ◌<◌, length, take}
 use Rattle.model.specs.Limits.{most_encoded_bits}
 use Rattle.model.specs.Records.{indices}
 use Rattle.model.specs.Words.{bit_at}
 use Rattle.model.specs.Encoding.{element}
-use Rattle.model.proofs.Accepted.{SoundRecord, record_sound}
-use Rattle.model.proofs.Sound.{rising_below}
-use Rattle.reduction.proofs.Table.{row_next, row_taken}
 use Rattle.reduction.proofs.check_row.Given as goal
 
 abbrev pub invariant-loop-i : goal.invariant-loop-i

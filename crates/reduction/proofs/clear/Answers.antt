@@ -1,10 +1,7 @@
 -- `reduction::clear` meets its contract: the columns before j, and what the row makes of the others, are the whole. Assumes nothing.
-use Rattle.integers.proofs.Prelude.{◌≡◌, refl, sym, ap, ◌∙◌, ◌++◌, ◌-◌, ◌≤◌, arith, rules, not-true, not-false, length, take, drop, length-set}
-use mathlib.Core.Logic.{⊎_elim}
+use Rattle.integers.proofs.Prelude.{◌≡◌, refl, sym, ap, ◌∙◌, ◌≤◌, arith, not-true, length, length-set}
 use lib.Seq.{slice}
 use Rattle.model.specs.Limits.{most_encoded_bits}
-use Rattle.model.specs.Encoding.{cleared}
-use Rattle.reduction.specs.Table.{columns_in}
 use Rattle.reduction.proofs.Clearing.{cleared_zero, cleared_pivot, cleared_other, cleared_end}
 use Rattle.reduction.proofs.clear.Goals as goal
 use Rattle.reduction.proofs.clear.Goals.{At-loop-j, then-row-j-ne0+else-not-is_pivot, else-row-j-ne0}

@@ -1,6 +1,5 @@
 -- `reduction::count_others` meets its contract: the others among the columns so far. Assumes nothing.
-use Rattle.integers.proofs.Prelude.{◌≡◌, refl, ap, ◌∙◌, not, ◌+◌, ◌-◌, ◌≤◌, arith, add-one, rules, take, take_all}
-use mathlib.Core.Logic.{⊎_elim}
+use Rattle.integers.proofs.Prelude.{◌≡◌, refl, ap, ◌∙◌, not, ◌+◌, arith, add-one, take_all}
 use Rattle.model.specs.Causes.{◌if◌}
 use Rattle.model.specs.Encoding.{others}
 use Rattle.model.proofs.Reduction.{small_if}

@@ -1,5 +1,5 @@
 -- `reduction::parity` meets its contract: the sum so far and what remains are the whole. Assumes nothing.
-use Rattle.integers.proofs.Prelude.{◌≡◌, ap, ap₂, ◌∙◌, ℕ, ◌+◌, ◌-◌, ◌*◌, ◌%◌, ◌≤◌, arith, add-one, rules, length, drop, drop_of_length-le}
+use Rattle.integers.proofs.Prelude.{◌≡◌, ap, ap₂, ◌∙◌, ℕ, ◌*◌, ◌%◌, ◌≤◌, arith, add-one, length, drop, drop_of_length-le}
 use native.Mathlib.Nat.{mul-le-mul}
 use lib.Seq.{slice}
 use Rattle.model.specs.Encoding.{inner_product}

@@ -1,10 +1,7 @@
 -- `reduction::parity` meets its contract: the sum so far and what remains are the whole. Assumes nothing.
-use Rattle.integers.proofs.Prelude.{◌≡◌, ap, ap₂, ◌∙◌, ℕ, ◌+◌, ◌-◌, ◌*◌, ◌%◌, ◌≤◌, arith, add-one, rules, length, drop, drop_of_length-le}
-use native.Mathlib.Nat.{mul-le-mul}
+use Rattle.integers.proofs.Prelude.{◌≡◌, ◌+◌, ◌*◌, ◌≤◌, length, drop}
 use lib.Seq.{slice}
 use Rattle.model.specs.Encoding.{inner_product}
-use Rattle.model.proofs.Reduction.{product_none}
-use Rattle.reduction.proofs.Table.{product_from}
 use Rattle.reduction.proofs.parity.Given as goal
 
 abbrev pub invariant-loop-i : goal.invariant-loop-i

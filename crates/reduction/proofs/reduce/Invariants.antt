@@ -1,14 +1,11 @@
 -- `reduction::reduce` meets its contract: the checks so far are reduced. Assumes nothing.
-use Rattle.integers.proofs.Prelude.{◌≡◌, sym, ap, ◌∙◌, ◌-◌, ◌≤◌, ◌<◌, arith, rules, length, drop}
+use Rattle.integers.proofs.Prelude.{◌≡◌, ◌-◌, ◌≤◌, length, drop}
 use lib.ListN.{replicate}
 use Rattle.model.specs.Limits.{most_encoded_bits}
-use Rattle.model.specs.Records.{bit_count, check_count, checks_in, after_checks, judge_check, code_of}
-use Rattle.model.specs.Encoding.{other, reduced_by, reduced}
-use Rattle.model.proofs.Accepted.{SoundBytes, bytes_sound, record_sound}
-use Rattle.records.proofs.Walk.{Walk, walk_next, walk_checks, walk_judged}
+use Rattle.model.specs.Records.{checks_in}
+use Rattle.model.specs.Encoding.{other, reduced_by}
+use Rattle.records.proofs.Walk.{Walk}
 use Rattle.reduction.specs.Table.{columns_in}
-use Rattle.reduction.proofs.Table.{columns_none}
-use Rattle.reduction.proofs.Clearing.{reduced_next}
 use Rattle.reduction.proofs.reduce.Given as goal
 
 abbrev pub invariant-loop-j : goal.invariant-loop-j

@@ -1,7 +1,6 @@
 -- `reduction::write_message` meets its contract: the message of the columns so far. Assumes nothing.
-use Rattle.integers.proofs.Prelude.{sym, ◌∙◌, ◌-◌, ◌≤◌, arith, rules, not-true, not-false, length}
-use mathlib.Core.Logic.{⊎_elim}
-use Rattle.reduction.proofs.Messages.{Begun, begun_start, begun_long, begun_few, begun_end, begun_pivot, begun_room, begun_other}
+use Rattle.integers.proofs.Prelude.{sym, ◌∙◌, ◌≤◌, arith, not-true, length}
+use Rattle.reduction.proofs.Messages.{begun_start, begun_long, begun_few, begun_end, begun_pivot, begun_room, begun_other}
 use Rattle.reduction.proofs.write_message.Goals as goal
 use Rattle.reduction.proofs.write_message.Goals.{After-shared_slice_known-then-not-is_pivot-1, else-not-is_pivot, then-not-is_pivot}
 

@@ -1,7 +1,7 @@
 -- `reduction::write_word` meets its contract: the entries from column j on are the word of what is left of the message. Assumes nothing.
-use Rattle.integers.proofs.Prelude.{◌≡◌, sym, ◌∙◌, suc, ◌-◌, ◌≤◌, ◌<◌, arith, rules, length}
+use Rattle.integers.proofs.Prelude.{◌≡◌, sym, ◌∙◌, suc, ◌-◌, ◌≤◌, ◌<◌, arith, length}
 use Rattle.model.specs.Limits.{most_encoded_bits}
-use Rattle.reduction.proofs.Words.{Ended, ended_start, ended_most, ended_end, ended_inside, ended_pivot, ended_some, ended_other}
+use Rattle.reduction.proofs.Words.{ended_start, ended_most, ended_end, ended_inside, ended_pivot, ended_some, ended_other}
 use Rattle.reduction.proofs.write_word.Goals as goal
 use Rattle.reduction.proofs.write_word.Goals.{Start, At-loop-j, In-loop-j, Else-is_pivot}
 

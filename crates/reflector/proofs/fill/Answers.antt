@@ -1,7 +1,6 @@
 -- `reflector::fill` meets its contract: after i turns the first i entries are the reflected ones. Assumes nothing.
-use Rattle.integers.proofs.Prelude.{◌≡◌, refl, ap, ◌∙◌, ◌-◌, ◌≤◌, arith, rules, length, w16}
+use Rattle.integers.proofs.Prelude.{◌≡◌, refl, ap, ◌∙◌, arith, length, w16}
 use Rattle.integers.proofs.Machine.{kept}
-use Rattle.lists.specs.Tabulated.{over}
 use Rattle.lists.proofs.Tabulated.{length_over, over_stored, over_tab}
 use Rattle.model.specs.Iteration.{at}
 use Rattle.model.specs.Reflection.{negated_if, reflect}

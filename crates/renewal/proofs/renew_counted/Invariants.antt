@@ -1,8 +1,7 @@
 -- `renewal::renew_counted` meets its contract: with t triples done the list and the totals will be the same in the end. Assumes nothing.
-use Rattle.integers.proofs.Prelude.{◌∙◌, ◌+◌, ◌-◌, ◌≤◌, arith, rules}
+use Rattle.integers.proofs.Prelude.{◌-◌}
 use Rattle.layout.specs.Transposed.{Aligned}
 use Rattle.renewal.specs.InPlace.{Renewed}
-use Rattle.renewal.proofs.Renewal.{old_fours, new_fours, four_renewed, renewed_none, both, at_first, totals_small, met, unmet}
 use Rattle.renewal.proofs.renew_counted.Given as goal
 
 abbrev pub invariant-loop-t : goal.invariant-loop-t

@@ -1,5 +1,5 @@
 -- `renewal::renew_first` meets its contract: with t triples done the list and the totals will be the same in the end. Assumes nothing.
-use Rattle.integers.proofs.Prelude.{◌≡◌, ap, subst, ◌∙◌, List, ℕ, ◌-◌, ◌%◌, ◌≤◌, arith, rules, ℤ}
+use Rattle.integers.proofs.Prelude.{◌≡◌, ap, subst, ◌∙◌, List, ℕ, ◌%◌, arith, rules, ℤ}
 use Rattle.lists.specs.Tabulated.{tab}
 use Rattle.model.specs.Iteration.{at, row, sum_at, renewed}
 use Rattle.rows.specs.Sides.{Rows}

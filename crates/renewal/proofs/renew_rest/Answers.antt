@@ -1,7 +1,6 @@
 -- `renewal::renew_rest` meets its contract: what remains at t comes to the same as what remained at first. Assumes nothing.
-use Rattle.integers.proofs.Prelude.{◌≡◌, refl, sym, ap, ◌∙◌, ℕ, ◌+◌, ◌-◌, ◌≤◌, arith, rules}
-use Rattle.layout.specs.Transposed.{Aligned}
-use Rattle.renewal.specs.InPlace.{Left, renewed_from}
+use Rattle.integers.proofs.Prelude.{◌≡◌, refl, sym, ap, ◌∙◌, ℕ, ◌+◌, ◌≤◌, arith, rules}
+use Rattle.renewal.specs.InPlace.{renewed_from}
 use Rattle.renewal.proofs.Renewal.{four_renewed, all_done}
 use Rattle.renewal.proofs.renew_rest.Goals as goal
 use Rattle.renewal.proofs.renew_rest.Goals.{Start, At-loop-t, In-loop-t}

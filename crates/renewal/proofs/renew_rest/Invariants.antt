@@ -1,8 +1,7 @@
 -- `renewal::renew_rest` meets its contract: what remains at t comes to the same as what remained at first. Assumes nothing.
-use Rattle.integers.proofs.Prelude.{◌≡◌, refl, sym, ap, ◌∙◌, ℕ, ◌+◌, ◌-◌, ◌≤◌, arith, rules}
+use Rattle.integers.proofs.Prelude.{◌≡◌, ◌-◌}
 use Rattle.layout.specs.Transposed.{Aligned}
 use Rattle.renewal.specs.InPlace.{Left, renewed_from}
-use Rattle.renewal.proofs.Renewal.{four_renewed, all_done}
 use Rattle.renewal.proofs.renew_rest.Given as goal
 
 abbrev pub invariant-loop-t : goal.invariant-loop-t

@@ -1,5 +1,5 @@
 -- `renewal::renew_rows` meets its contract: the rows in two parts, and the totals of the first. Assumes nothing.
-use Rattle.integers.proofs.Prelude.{◌≡◌, ap, ◌∙◌, ◌*◌, rules, length}
+use Rattle.integers.proofs.Prelude.{◌≡◌, ap, ◌∙◌, ◌*◌, length}
 use Rattle.lists.proofs.Tabulated.{length_tab}
 use Rattle.layout.specs.Transposed.{straight}
 use Rattle.renewal.specs.InPlace.{renewed_from}

@@ -1,5 +1,5 @@
 -- `renewal::renewed_four` meets its contract. Assumes nothing.
-use Rattle.integers.proofs.Prelude.{◌≡◌, ap, ◌∙◌, List, ℕ, ◌+◌, ◌≤◌, ◌<◌, arith, rules, ℤ, pos, nat_abs, w32, to_z, of_z}
+use Rattle.integers.proofs.Prelude.{◌≡◌, ap, ◌∙◌, List, ℕ, ◌+◌, ◌≤◌, ◌<◌, arith, ℤ, pos, nat_abs, w32, to_z, of_z}
 use Rattle.integers.proofs.Machine.{param}
 use Rattle.quotient.specs.Quotient.{unit}
 use Rattle.lists.specs.Tabulated.{tab}

@@ -1,5 +1,5 @@
 -- `renewal::renewed_triple` meets its contract. Assumes nothing.
-use Rattle.integers.proofs.Prelude.{sym, subst, T, arith, rules, w32}
+use Rattle.integers.proofs.Prelude.{sym, subst, T, arith, w32}
 use Rattle.integers.proofs.Machine.{read_back}
 use Rattle.model.specs.Splitting.{member}
 use Rattle.model.proofs.Rows.{value_small}

@@ -1,5 +1,5 @@
 -- `renewal::renewed_with` meets its contract. Assumes nothing.
-use Rattle.integers.proofs.Prelude.{◌≡◌, ap, ◌∙◌, List, arith, rules, ℤ, w32}
+use Rattle.integers.proofs.Prelude.{◌≡◌, ap, ◌∙◌, List, arith, ℤ, w32}
 use Rattle.integers.proofs.Machine.{read, read_back}
 use Rattle.lists.specs.Tabulated.{tab}
 use Rattle.model.specs.Iteration.{at, sum_at, renewed}

@@ -1,5 +1,5 @@
 -- `renewal::thirds` meets its contract. Assumes nothing.
-use Rattle.integers.proofs.Prelude.{◌≡◌, sym, ap, subst, ◌∙◌, List, ℕ, ◌+◌, ◌≤◌, arith, rules, nat_abs, ℤ, w32}
+use Rattle.integers.proofs.Prelude.{◌≡◌, sym, ap, subst, ◌∙◌, List, ℕ, ◌+◌, ◌≤◌, arith, nat_abs, ℤ, w32}
 use Rattle.integers.proofs.Machine.{read_back}
 use Rattle.quotient.specs.Quotient.{unit}
 use Rattle.model.specs.Splitting.{member}

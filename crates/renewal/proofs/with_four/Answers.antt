@@ -1,5 +1,5 @@
 -- `renewal::with_four` meets its contract. Assumes nothing.
-use Rattle.integers.proofs.Prelude.{◌≡◌, [], ℕ, ◌+◌, ◌*◌, ◌^◌, ◌≤◌, arith, rules, get_or}
+use Rattle.integers.proofs.Prelude.{◌≡◌, [], ℕ, ◌+◌, ◌*◌, ◌^◌, ◌≤◌, arith, get_or}
 use Rattle.rows.specs.Sides.{Rows, most_changes}
 use Rattle.renewal.specs.declared.Totals.{Totals}
 use Rattle.renewal.proofs.with_four.Goals as goal

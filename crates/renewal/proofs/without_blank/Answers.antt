@@ -1,9 +1,7 @@
 -- `renewal::without_blank` meets its contract: what was tested and what is left to test is the whole. Assumes nothing.
-use Rattle.integers.proofs.Prelude.{◌≡◌, refl, Bool, not, List, ℕ, ◌-◌, ◌<◌, arith, rules, eqb, length, get_or}
-use Rattle.lists.specs.Tabulated.{tab}
+use Rattle.integers.proofs.Prelude.{◌≡◌, refl, ◌<◌, arith, length, get_or}
 use Rattle.lists.proofs.Tabulated.{length_tab, get_or_tab}
-use Rattle.lists.proofs.Entries.{Passed, passed_next, passed_end}
-use Rattle.model.specs.Splitting.{blank, member}
+use Rattle.lists.proofs.Entries.{passed_next, passed_end}
 use Rattle.renewal.proofs.without_blank.Invariants.{all, test}
 use Rattle.renewal.proofs.without_blank.Goals as goal
 

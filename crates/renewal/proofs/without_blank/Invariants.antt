@@ -1,8 +1,7 @@
 -- `renewal::without_blank` meets its contract: what was tested and what is left to test is the whole. Assumes nothing.
-use Rattle.integers.proofs.Prelude.{◌≡◌, refl, Bool, not, List, ℕ, ◌-◌, ◌<◌, arith, rules, eqb, length, get_or}
+use Rattle.integers.proofs.Prelude.{Bool, not, List, ℕ, ◌-◌, eqb}
 use Rattle.lists.specs.Tabulated.{tab}
-use Rattle.lists.proofs.Tabulated.{length_tab, get_or_tab}
-use Rattle.lists.proofs.Entries.{Passed, passed_next, passed_end}
+use Rattle.lists.proofs.Entries.{Passed}
 use Rattle.model.specs.Splitting.{blank, member}
 use Rattle.renewal.proofs.without_blank.Given as goal
 

@@ -1,5 +1,5 @@
 -- `rows::change` meets its contract. Assumes nothing.
-use Rattle.integers.proofs.Prelude.{◌≡◌, ap, ◌∙◌, ◌*◌, arith, rules, ℤ, nat_abs, w32}
+use Rattle.integers.proofs.Prelude.{◌≡◌, ap, ◌∙◌, ◌*◌, arith, ℤ, nat_abs, w32}
 use native.Mathlib.Nat.{mul-le-mul}
 use Rattle.integers.proofs.Machine.{param, read_back}
 use Rattle.model.specs.Limits.{most_row}

@@ -1,5 +1,5 @@
 -- `rows::change_at` meets its contract. Assumes nothing.
-use Rattle.integers.proofs.Prelude.{◌≡◌, arith, rules, w32}
+use Rattle.integers.proofs.Prelude.{◌≡◌, arith, w32}
 use Rattle.integers.proofs.Machine.{param}
 use Rattle.model.specs.Limits.{most_row}
 use Rattle.model.specs.Iteration.{at}

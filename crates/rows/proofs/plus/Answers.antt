@@ -1,5 +1,5 @@
 -- `rows::plus` meets its contract: a sign is 1 or -1. Assumes nothing.
-use Rattle.integers.proofs.Prelude.{◌≡◌, arith, rules, ℤ, pos, negsuc, ◌+ℤ◌, ◌*ℤ◌, w32}
+use Rattle.integers.proofs.Prelude.{◌≡◌, arith, ℤ, pos, negsuc, ◌+ℤ◌, ◌*ℤ◌, w32}
 use Rattle.integers.proofs.Linear.{split, to_ℕ}
 use Rattle.integers.proofs.Machine.{param}
 use Rattle.quotient.specs.Quotient.{unit}

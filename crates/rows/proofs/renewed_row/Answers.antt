@@ -1,5 +1,5 @@
 -- `rows::renewed_row` meets its contract. Assumes nothing.
-use Rattle.integers.proofs.Prelude.{◌≡◌, ap, ◌∙◌, ◌*◌, arith, rules, ℤ, pos, ◌+ℤ◌, ◌-ℤ◌, w32, to_z, of_z}
+use Rattle.integers.proofs.Prelude.{◌≡◌, ap, ◌∙◌, ◌*◌, arith, ℤ, pos, ◌+ℤ◌, ◌-ℤ◌, w32, to_z, of_z}
 use Rattle.integers.proofs.Machine.{Worth, fits, stored, local, param, literal, plus, minus}
 use Rattle.integers.proofs.Linear.{split, to_ℕ, about}
 use Rattle.model.specs.Limits.{most_row}

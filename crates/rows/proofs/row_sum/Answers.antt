@@ -1,5 +1,5 @@
 -- `rows::row_sum` meets its contract. Assumes nothing.
-use Rattle.integers.proofs.Prelude.{◌≡◌, refl, sym, ap, ◌∙◌, ℕ, ◌*◌, ◌^◌, ◌≤◌, ◌<◌, arith, rules, ℤ, pos, nat_abs, ◌+ℤ◌, ◌-ℤ◌, ◌*ℤ◌, w32, to_z, of_z}
+use Rattle.integers.proofs.Prelude.{◌≡◌, refl, sym, ap, ◌∙◌, ℕ, ◌*◌, ◌^◌, ◌≤◌, ◌<◌, arith, ℤ, pos, nat_abs, ◌+ℤ◌, ◌-ℤ◌, ◌*ℤ◌, w32, to_z, of_z}
 use lib.Signed.{mag}
 use mir.Val.{hbits}
 use Rattle.integers.proofs.Linear.{split, to_ℕ, abs_add, abs_mul}

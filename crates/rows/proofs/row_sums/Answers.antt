@@ -1,5 +1,5 @@
 -- `rows::row_sums` meets its contract. Assumes nothing.
-use Rattle.integers.proofs.Prelude.{◌≡◌, ap, ap₂, ◌∙◌, ℕ, ◌*◌, rules, ℤ, w32, to_z, of_z, to_z-of_z}
+use Rattle.integers.proofs.Prelude.{◌≡◌, ap, ap₂, ◌∙◌, ℕ, ◌*◌, ℤ, w32, to_z, of_z, to_z-of_z}
 use Rattle.integers.proofs.Machine.{read_back}
 use Rattle.quotient.specs.Quotient.{unit}
 use Rattle.model.specs.Iteration.{row_sum}

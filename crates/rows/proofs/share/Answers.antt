@@ -1,5 +1,5 @@
 -- `rows::share` meets its contract. Assumes nothing.
-use Rattle.integers.proofs.Prelude.{◌≡◌, ap, ◌∙◌, ℕ, ◌*◌, ◌^◌, ◌≤◌, ◌<◌, arith, rules, ℤ, nat_abs, ◌+ℤ◌, ◌*ℤ◌, w32}
+use Rattle.integers.proofs.Prelude.{◌≡◌, ap, ◌∙◌, ℕ, ◌*◌, ◌^◌, ◌≤◌, ◌<◌, arith, ℤ, nat_abs, ◌+ℤ◌, ◌*ℤ◌, w32}
 use lib.Signed.{mag}
 use mir.Val.{hbits}
 use Rattle.integers.proofs.Linear.{split, to_ℕ}

@@ -1,5 +1,5 @@
 -- `rows::side_change` meets its contract: a side is 1 or −1. Assumes nothing.
-use Rattle.integers.proofs.Prelude.{◌≡◌, sym, ap, ap₂, subst, ◌∙◌, true, false, ℕ, ◌+◌, ◌≤◌, arith, rules, ltb-true, T, ℤ, pos, negsuc, nat_abs, ◌-ℤ◌, ◌*ℤ◌, lt_z, w32, to_z, of_z, to_z-of_z}
+use Rattle.integers.proofs.Prelude.{◌≡◌, sym, ap, ap₂, subst, ◌∙◌, true, false, ℕ, ◌+◌, ◌≤◌, arith, ltb-true, T, ℤ, pos, negsuc, nat_abs, ◌-ℤ◌, ◌*ℤ◌, lt_z, w32, to_z, of_z, to_z-of_z}
 use Rattle.integers.proofs.Machine.{Worth, within_raw, fits, stored, param, read_back, also, minus}
 use Rattle.integers.proofs.Linear.{◌⊖◌, split, to_ℕ, about, abs_difference}
 use Rattle.model.specs.Limits.{most_row}

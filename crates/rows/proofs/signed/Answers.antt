@@ -1,5 +1,5 @@
 -- `rows::signed` meets its contract: a sign is 1 or -1. Assumes nothing.
-use Rattle.integers.proofs.Prelude.{◌≡◌, ◌∙◌, arith, rules, ℤ, pos, negsuc, neg_ℤ, ◌-ℤ◌, ◌*ℤ◌, w32}
+use Rattle.integers.proofs.Prelude.{◌≡◌, ◌∙◌, arith, ℤ, pos, negsuc, neg_ℤ, ◌-ℤ◌, ◌*ℤ◌, w32}
 use Rattle.integers.proofs.Linear.{split, to_ℕ}
 use Rattle.integers.proofs.Machine.{Worth, fits, stored, param, negative}
 use Rattle.model.specs.Limits.{most_row}

@@ -1,5 +1,5 @@
 -- `rows::size_at` meets its contract. Assumes nothing.
-use Rattle.integers.proofs.Prelude.{ap, ◌∙◌, ◌+◌, rules, ℤ, pos, w32}
+use Rattle.integers.proofs.Prelude.{ap, ◌∙◌, ◌+◌, ℤ, pos, w32}
 use Rattle.integers.proofs.Machine.{param, read_back}
 use Rattle.model.specs.Limits.{most_row}
 use Rattle.model.specs.Iteration.{at, slack, multiplier}

@@ -1,5 +1,5 @@
 -- `rows::square` meets its contract. Assumes nothing.
-use Rattle.integers.proofs.Prelude.{◌≡◌, ap, ◌∙◌, ◌+◌, arith, rules, ℤ, pos, nat_abs, w32, to_z, of_z}
+use Rattle.integers.proofs.Prelude.{◌≡◌, ap, ◌∙◌, ◌+◌, arith, ℤ, pos, nat_abs, w32, to_z, of_z}
 use native.Mathlib.Nat.{mul-le-mul}
 use Rattle.integers.proofs.Machine.{param, read_back}
 use Rattle.integers.proofs.Linear.{about}

@@ -1,5 +1,5 @@
 -- `run::go_on` meets its contract: the rows are put where they stand while a run goes, and there they are read as they were. Assumes nothing.
-use Rattle.integers.proofs.Prelude.{◌≡◌, refl, sym, ap, ◌∙◌, subst, false, arith, rules, eqb, eq-eqb, ne_eqb}
+use Rattle.integers.proofs.Prelude.{◌≡◌, refl, sym, ap, ◌∙◌, subst, false, arith, eqb, eq-eqb, ne_eqb}
 use Rattle.integers.proofs.Linear.{about}
 use Rattle.model.specs.Iteration.{at}
 use Rattle.model.specs.Bounds.{RowsWithin}

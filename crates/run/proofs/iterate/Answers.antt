@@ -1,5 +1,5 @@
 -- `run::iterate` meets its contract: S, then c, then s. Assumes nothing.
-use Rattle.integers.proofs.Prelude.{◌≡◌, sym, ap, ◌∙◌, List, ℕ, ◌<◌, arith, rules, ℤ, length, get_or}
+use Rattle.integers.proofs.Prelude.{◌≡◌, sym, ap, ◌∙◌, List, ℕ, ◌<◌, arith, ℤ, length, get_or}
 use Rattle.lists.specs.Tabulated.{tab}
 use Rattle.lists.proofs.Tabulated.{length_tab, get_or_tab}
 use Rattle.model.specs.Limits.{most_done}

@@ -1,12 +1,8 @@
 -- `run::iterations` meets its contract: what has been done and what remains is the whole. Assumes nothing.
-use Rattle.integers.proofs.Prelude.{◌≡◌, refl, sym, ◌∙◌, true, false, ◌&&◌, ℕ, ◌-◌, ◌*◌, ◌≤◌, ◌<◌, arith, ltb-true, ltb-false, eqb-true, eq-eqb, eqb, ltb}
+use Rattle.integers.proofs.Prelude.{◌≡◌, ◌-◌, ◌*◌}
 use Rattle.integers.proofs.Prelude.{length}
-use Rattle.lists.proofs.Tests.{and_left, and_right, and_false}
-use Rattle.model.specs.Limits.{most_done}
-use Rattle.model.specs.declared.Settings.{Settings}
-use Rattle.layout.proofs.Places.{straight_back}
 use Rattle.run.specs.States.{state_in}
-use Rattle.run.proofs.Remains.{weaker, lent_again, Remains, remains_next, remains_end}
+use Rattle.run.proofs.Remains.{Remains}
 use Rattle.run.proofs.iterations.Given as goal
 
 abbrev pub invariant-loop-k : goal.invariant-loop-k

@@ -1,5 +1,5 @@
 -- `run::run` meets its contract. Assumes nothing.
-use Rattle.integers.proofs.Prelude.{refl, sym, ◌∙◌, arith, rules}
+use Rattle.integers.proofs.Prelude.{refl, sym, ◌∙◌, arith}
 use Rattle.run.proofs.Remains.{lent_again, cleared_within, cleared_start}
 use Rattle.run.proofs.run.Goals as goal
 

@@ -1,5 +1,5 @@
 -- `run::run_from` meets its contract. Assumes nothing.
-use Rattle.integers.proofs.Prelude.{sym, arith, rules}
+use Rattle.integers.proofs.Prelude.{sym, arith}
 use Rattle.integers.proofs.Linear.{about}
 use Rattle.model.specs.Iteration.{at}
 use Rattle.renewal.proofs.Renewal.{none_known}

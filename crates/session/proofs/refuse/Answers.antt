@@ -1,6 +1,5 @@
 -- `session::refuse` meets its contract. Assumes nothing.
 use Rattle.text.proofs.Appended.{lent, counted}
-use Rattle.integers.proofs.Prelude.{rules}
 use Rattle.session.proofs.refuse.Goals as goal
 
 pub returns : goal.returns

@@ -1,12 +1,12 @@
 -- `sides::column_degrees` meets its contract: the degrees among the checks so far. Assumes nothing.
-use Rattle.integers.proofs.Prelude.{◌≡◌, sym, ap, ◌∙◌, ℕ, ◌-◌, ◌≤◌, arith, rules, length}
+use Rattle.integers.proofs.Prelude.{◌≡◌, sym, ap, ◌∙◌, ℕ, arith, length}
 use Rattle.lists.specs.Tabulated.{tab}
 use Rattle.lists.proofs.Tabulated.{length_tab}
 use Rattle.model.specs.Records.{checks_in, indices, judge_check}
 use Rattle.model.proofs.Accepted.{record_sound, length_checks}
-use Rattle.records.proofs.Walk.{Walk, walk_start, walk_next, walk_checks, walk_judged}
+use Rattle.records.proofs.Walk.{walk_start, walk_next, walk_checks, walk_judged}
 use Rattle.sides.specs.Columns.{Counted}
-use Rattle.sides.proofs.Columns.{degrees_of, degrees_are, degrees_few, degrees_next}
+use Rattle.sides.proofs.Columns.{degrees_are, degrees_few, degrees_next}
 use Rattle.sides.proofs.column_degrees.Goals as goal
 use Rattle.sides.proofs.column_degrees.Goals.{After-clear_u16, At-loop-j, In-loop-j}
 

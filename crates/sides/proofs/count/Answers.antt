@@ -1,8 +1,7 @@
 -- `sides::count` meets its contract: the bits so far are counted. Assumes nothing.
-use Rattle.integers.proofs.Prelude.{◌≡◌, refl, sym, ap, ◌∙◌, ◌-◌, ◌≤◌, arith, rules, length, get_or, take, take_all}
+use Rattle.integers.proofs.Prelude.{◌≡◌, refl, sym, ap, ◌∙◌, ◌≤◌, arith, length, get_or, take, take_all}
 use Rattle.model.specs.Records.{indices}
 use Rattle.model.proofs.Accepted.{SoundRecord, record_sound}
-use Rattle.sides.specs.Columns.{counted}
 use Rattle.sides.proofs.Counting.{counted_none, length_counted, Turn, turn_bit, turn_entry, turn_value, turn_next}
 use Rattle.sides.proofs.count.Goals as goal
 use Rattle.sides.proofs.count.Goals.{Start, At-loop-i, After-index-b, After-slice_known-in-loop-i-1}

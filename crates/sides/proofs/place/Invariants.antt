@@ -1,10 +1,7 @@
 -- `sides::place` meets its contract: the number stands at the places of the bits so far. Assumes nothing.
-use Rattle.integers.proofs.Prelude.{◌≡◌, refl, sym, ap, ◌∙◌, ℕ, ◌+◌, ◌-◌, ◌≤◌, ◌<◌, arith, rules, length, get_or, take, take_all}
-use Rattle.model.specs.Limits.{most_bits}
+use Rattle.integers.proofs.Prelude.{◌≡◌, ◌-◌, ◌≤◌, take}
 use Rattle.model.specs.Records.{indices}
-use Rattle.model.proofs.Accepted.{SoundRecord, record_sound}
 use Rattle.sides.specs.Columns.{counted, placed}
-use Rattle.sides.proofs.Counting.{counted_none, Turn, turn_bit, turn_value, turn_next, length_placed, placed_next}
 use Rattle.sides.proofs.place.Given as goal
 
 abbrev pub invariant-loop-i : goal.invariant-loop-i

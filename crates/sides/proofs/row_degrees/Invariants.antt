@@ -1,11 +1,9 @@
 -- `sides::row_degrees` meets its contract: the degrees of the records so far, and their sum. Assumes nothing.
-use Rattle.integers.proofs.Prelude.{◌≡◌, refl, sym, ap, ◌∙◌, List, [], map, ℕ, ◌-◌, ◌*◌, ◌≤◌, arith, add-one, rules, length, get_or}
-use Rattle.lists.specs.Tabulated.{tab, over}
+use Rattle.integers.proofs.Prelude.{◌≡◌, List, [], ℕ, ◌*◌, ◌≤◌, length, get_or}
+use Rattle.lists.specs.Tabulated.{over}
 use Rattle.lists.specs.Entries.{total}
-use Rattle.lists.proofs.Tabulated.{length_over, over_next, over_whole, tab_map}
 use Rattle.model.specs.Records.{checks_in}
-use Rattle.model.proofs.Accepted.{SoundRecord, record_sound, length_checks}
-use Rattle.records.proofs.Walk.{Walk, walk_start, walk_next, walk_check, walk_judged, walk_total}
+use Rattle.records.proofs.Walk.{Walk}
 use Rattle.sides.proofs.row_degrees.Given as goal
 
 -- the degree of check k, of m

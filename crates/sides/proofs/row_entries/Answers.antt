@@ -1,11 +1,10 @@
 -- `sides::row_entries` meets its contract: the rows so far. Assumes nothing.
-use Rattle.integers.proofs.Prelude.{◌≡◌, ◌-◌, ◌+◌, ◌≤◌, arith, rules, length}
+use Rattle.integers.proofs.Prelude.{◌≡◌, ◌+◌, ◌≤◌, arith, length}
 use Rattle.model.specs.Records.{checks_in, indices, judge_check}
 use Rattle.model.proofs.Accepted.{record_sound}
-use Rattle.records.proofs.Walk.{Walk, total_within, walk_start, walk_next, walk_checks, walk_judged, walk_total}
-use Rattle.text.specs.Appended.{Appended}
+use Rattle.records.proofs.Walk.{total_within, walk_start, walk_next, walk_checks, walk_judged, walk_total}
 use Rattle.text.proofs.Appended.{none, long, then}
-use Rattle.sides.proofs.Rows.{rows_of, rows_next, length_rows, whole}
+use Rattle.sides.proofs.Rows.{rows_next, length_rows, whole}
 use Rattle.sides.proofs.row_entries.Goals as goal
 use Rattle.sides.proofs.row_entries.Goals.{In-loop-j}
 

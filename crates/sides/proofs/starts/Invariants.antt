@@ -1,9 +1,6 @@
 -- `sides::starts` meets its contract: the columns so far begin where they should. Assumes nothing.
-use Rattle.integers.proofs.Prelude.{◌≡◌, refl, sym, ◌-◌, ◌≤◌, ◌<◌, arith, add-one, rules, length}
+use Rattle.integers.proofs.Prelude.{◌≡◌, ◌≤◌, length}
 use Rattle.lists.specs.Tabulated.{over}
-use Rattle.lists.proofs.Tabulated.{over_next}
-use Rattle.lists.proofs.Entries.{total_next, total_part}
-use Rattle.model.specs.Limits.{most_bits}
 use Rattle.sides.specs.Columns.{start_of}
 use Rattle.sides.proofs.starts.Given as goal
 

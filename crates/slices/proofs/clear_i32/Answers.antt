@@ -1,6 +1,6 @@
 -- `slices::clear_i32` meets its contract. Assumes nothing.
-use Rattle.integers.proofs.Prelude.{◌-◌, arith, pos, length}
-use Rattle.slices.proofs.Fills.{Filled, filled_none, filled_long, filled_next, filled_all}
+use Rattle.integers.proofs.Prelude.{arith}
+use Rattle.slices.proofs.Fills.{filled_none, filled_long, filled_next, filled_all}
 use Rattle.slices.proofs.clear_i32.Goals as goal
 
 pub slice_set_of-l : goal.slice_set_of-l

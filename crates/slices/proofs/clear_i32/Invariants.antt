@@ -1,6 +1,6 @@
 -- `slices::clear_i32` meets its contract. Assumes nothing.
-use Rattle.integers.proofs.Prelude.{◌-◌, arith, pos, length}
-use Rattle.slices.proofs.Fills.{Filled, filled_none, filled_long, filled_next, filled_all}
+use Rattle.integers.proofs.Prelude.{pos}
+use Rattle.slices.proofs.Fills.{Filled}
 use Rattle.slices.proofs.clear_i32.Given as goal
 
 abbrev pub invariant-loop-i : goal.invariant-loop-i

@@ -1,6 +1,6 @@
 -- `slices::clear_u16` meets its contract. Assumes nothing.
-use Rattle.integers.proofs.Prelude.{◌-◌, arith, length}
-use Rattle.slices.proofs.Fills.{Filled, filled_none, filled_long, filled_next, filled_all}
+use Rattle.integers.proofs.Prelude.{arith}
+use Rattle.slices.proofs.Fills.{filled_none, filled_long, filled_next, filled_all}
 use Rattle.slices.proofs.clear_u16.Goals as goal
 
 pub bounds-l-i : goal.bounds-l-i

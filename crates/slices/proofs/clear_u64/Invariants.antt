@@ -1,6 +1,5 @@
 -- `slices::clear_u64` meets its contract. Assumes nothing.
-use Rattle.integers.proofs.Prelude.{◌-◌, arith, length}
-use Rattle.slices.proofs.Fills.{Filled, filled_none, filled_long, filled_next, filled_all}
+use Rattle.slices.proofs.Fills.{Filled}
 use Rattle.slices.proofs.clear_u64.Given as goal
 
 abbrev pub invariant-loop-i : goal.invariant-loop-i

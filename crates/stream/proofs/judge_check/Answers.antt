@@ -1,5 +1,5 @@
 -- `stream::judge_check` meets its contract: the record's cause, then the triples with its own. Assumes nothing.
-use Rattle.integers.proofs.Prelude.{◌≡◌, sym, ◌∙◌, [], ◌∷◌, ◌+◌, arith, rules, lt-ltb, le-ltb, ltb}
+use Rattle.integers.proofs.Prelude.{◌≡◌, sym, ◌∙◌, [], ◌∷◌, ◌+◌, arith, lt-ltb, le-ltb, ltb}
 use Rattle.model.specs.Code.{triple_count}
 use Rattle.model.specs.Causes.{◌if◌}
 use Rattle.model.specs.Records.{indices, judge_check}

@@ -1,5 +1,5 @@
 -- `stream::judge_code` meets its contract: the reader's number. Assumes nothing.
-use Rattle.integers.proofs.Prelude.{sym, rules}
+use Rattle.integers.proofs.Prelude.{sym}
 use Rattle.reader.proofs.Answers.{told_code, told_refused}
 use Rattle.stream.proofs.judge_code.Goals as goal
 

@@ -1,5 +1,5 @@
 -- `stream::judge_header` meets its contract: the header's cause, then the bits. Assumes nothing.
-use Rattle.integers.proofs.Prelude.{◌≡◌, sym, ◌∙◌, [], ◌∷◌, arith, rules, lt-ltb, le-ltb, ltb}
+use Rattle.integers.proofs.Prelude.{◌≡◌, sym, ◌∙◌, [], ◌∷◌, arith, lt-ltb, le-ltb, ltb}
 use Rattle.model.specs.Causes.{◌if◌}
 use Rattle.model.specs.Records.{bit_count, judge_header}
 use Rattle.program.specs.Frames.{judge_held_header}

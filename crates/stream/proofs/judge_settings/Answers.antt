@@ -1,5 +1,5 @@
 -- `stream::judge_settings` meets its contract: the tests in the definition's order. Assumes nothing.
-use Rattle.integers.proofs.Prelude.{◌≡◌, ◌∙◌, false, List, [], ◌∷◌, ℕ, rules, lt-ltb, le-ltb, ne_eqb, ltb, drop}
+use Rattle.integers.proofs.Prelude.{◌≡◌, ◌∙◌, false, List, [], ◌∷◌, ℕ, lt-ltb, le-ltb, ne_eqb, ltb, drop}
 use Rattle.model.specs.Causes.{◌if◌, first_of, short, outside}
 use Rattle.model.specs.Records.{two_bytes}
 use Rattle.model.specs.Limits.{most_iterations}

@@ -1,5 +1,5 @@
 -- `stream::judge_whole` meets its contract: the tests in the definition's order. Assumes nothing.
-use Rattle.integers.proofs.Prelude.{◌≡◌, sym, ◌∙◌, rules, lt-ltb, le-ltb, ne_eqb, length}
+use Rattle.integers.proofs.Prelude.{◌≡◌, sym, ◌∙◌, lt-ltb, le-ltb, ne_eqb, length}
 use Rattle.model.specs.Records.{two_bytes}
 use Rattle.program.specs.Frames.{frame_size, judge_whole}
 use Rattle.stream.proofs.judge_whole.Goals as goal

@@ -1,5 +1,5 @@
 -- `stream::read_frame` meets its contract: the bytes, then the costs. Assumes nothing.
-use Rattle.integers.proofs.Prelude.{◌≡◌, refl, sym, ap, ◌∙◌, Bool, List, ℕ, zero, suc, rules, ℤ, length, take}
+use Rattle.integers.proofs.Prelude.{◌≡◌, refl, sym, ap, ◌∙◌, Bool, List, ℕ, zero, suc, ℤ, length, take}
 use Rattle.lists.specs.Entries.{some}
 use Rattle.model.specs.Causes.{◌if◌, accepted}
 use Rattle.model.specs.Calls.{forbidden}

@@ -1,5 +1,5 @@
 -- `stream::settings` meets its contract: field by field. Assumes nothing.
-use Rattle.integers.proofs.Prelude.{rules, drop-drop}
+use Rattle.integers.proofs.Prelude.{drop-drop}
 use Rattle.program.specs.Frames.{settings_of}
 use Rattle.stream.proofs.settings.Goals as goal
 

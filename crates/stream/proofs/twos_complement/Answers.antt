@@ -1,5 +1,5 @@
 -- `stream::twos_complement` meets its contract: both parts fit. Assumes nothing.
-use Rattle.integers.proofs.Prelude.{◌≡◌, ℕ, ◌-◌, ◌≤◌, arith, rules, lt-ltb, le-ltb, negsuc, ◌-ℤ◌, w16, to_z, to_z-of_z}
+use Rattle.integers.proofs.Prelude.{◌≡◌, ℕ, ◌-◌, ◌≤◌, arith, lt-ltb, le-ltb, negsuc, ◌-ℤ◌, w16, to_z, to_z-of_z}
 use mir.Val.{SFits}
 use Rattle.integers.proofs.Machine.{unsigned}
 use Rattle.program.specs.Frames.{twos_complement}

@@ -1,9 +1,7 @@
 -- `stream::write_costs` meets its contract: after i turns the first i costs are written. Assumes nothing.
-use Rattle.integers.proofs.Prelude.{◌≡◌, refl, ap, ◌∙◌, ◌-◌, ◌≤◌, arith, rules, length, w16}
+use Rattle.integers.proofs.Prelude.{◌≡◌, ◌-◌, ◌≤◌}
 use Rattle.lists.specs.Tabulated.{over}
-use Rattle.lists.proofs.Tabulated.{length_over, over_stored}
-use Rattle.program.specs.Frames.{twos_complement}
-use Rattle.stream.proofs.Costs.{cost_at, costs_written}
+use Rattle.stream.proofs.Costs.{cost_at}
 use Rattle.stream.proofs.write_costs.Given as goal
 
 abbrev pub invariant-loop-i : goal.invariant-loop-i

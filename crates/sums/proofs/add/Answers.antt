@@ -1,5 +1,5 @@
 -- `sums::add` meets its contract. Assumes nothing.
-use Rattle.integers.proofs.Prelude.{ap, ◌∙◌, ◌+◌, ◌^◌, ◌<◌, arith, rules, ℤ, pos, ◌+ℤ◌, length, set, w32, w64, to_z, of_z}
+use Rattle.integers.proofs.Prelude.{ap, ◌∙◌, ◌+◌, ◌^◌, ◌<◌, arith, ℤ, pos, ◌+ℤ◌, length, set, w32, w64, to_z, of_z}
 use Rattle.integers.proofs.Machine.{Worth, fits, stored, param, read, plus}
 use Rattle.lists.proofs.Tabulated.{length_tab, get_or_tab}
 use Rattle.model.specs.Iteration.{at}

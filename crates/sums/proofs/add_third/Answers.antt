@@ -1,5 +1,5 @@
 -- `sums::add_third` meets its contract. Assumes nothing.
-use Rattle.integers.proofs.Prelude.{sym, ap, ◌∙◌, ◌≤◌, arith, rules, ne_eqb, eqb, ℤ, ◌+ℤ◌, length, w32}
+use Rattle.integers.proofs.Prelude.{sym, ap, ◌∙◌, ◌≤◌, arith, ne_eqb, eqb, ℤ, ◌+ℤ◌, length, w32}
 use lib.IntN.{+ℤ_idr}
 use Rattle.integers.proofs.Machine.{read}
 use Rattle.lists.specs.Tabulated.{tab}

@@ -1,5 +1,5 @@
 -- `sums::copy_four` meets its contract: one triple after the other. Assumes nothing.
-use Rattle.integers.proofs.Prelude.{arith, rules}
+use Rattle.integers.proofs.Prelude.{arith}
 use Rattle.sums.proofs.copy_four.Goals as goal
 
 pub returns : goal.returns

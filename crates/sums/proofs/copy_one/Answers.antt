@@ -1,5 +1,5 @@
 -- `sums::copy_one` meets its contract. Assumes nothing.
-use Rattle.integers.proofs.Prelude.{◌≡◌, ap, ℕ, ◌+◌, ◌*◌, arith, add-one, add-two, rules, get_or, length-set}
+use Rattle.integers.proofs.Prelude.{◌≡◌, ap, ℕ, ◌+◌, ◌*◌, arith, add-one, add-two, get_or, length-set}
 use Rattle.model.specs.Splitting.{member}
 use Rattle.sums.proofs.Groups.{copied_next}
 use Rattle.sums.proofs.copy_one.Goals as goal

@@ -1,7 +1,5 @@
 -- `sums::form_group` meets its contract: after b fours 4b triples and their shares are in the lists. Assumes nothing.
-use Rattle.integers.proofs.Prelude.{◌≡◌, sym, ◌∙◌, ℕ, ◌-◌, ◌*◌, ◌≤◌, arith, length}
-use Rattle.layout.specs.Transposed.{straight}
-use Rattle.sums.specs.Shares.{Copied, Shared, InFours}
+use Rattle.integers.proofs.Prelude.{◌≡◌, sym, ◌∙◌, arith}
 use Rattle.sums.proofs.form_group.Goals as goal
 use Rattle.sums.proofs.form_group.Goals.{Start, At-loop-b}
 

@@ -1,5 +1,5 @@
 -- `sums::form_group` meets its contract: after b fours 4b triples and their shares are in the lists. Assumes nothing.
-use Rattle.integers.proofs.Prelude.{◌≡◌, sym, ◌∙◌, ℕ, ◌-◌, ◌*◌, ◌≤◌, arith, length}
+use Rattle.integers.proofs.Prelude.{◌≡◌, ℕ, ◌-◌, ◌*◌, ◌≤◌, length}
 use Rattle.layout.specs.Transposed.{straight}
 use Rattle.sums.specs.Shares.{Copied, Shared, InFours}
 use Rattle.sums.proofs.form_group.Given as goal

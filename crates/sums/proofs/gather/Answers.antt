@@ -1,8 +1,7 @@
 -- `sums::gather` meets its contract: after t triples the sums are those of t triples. Assumes nothing.
-use mathlib.Core.Logic.{⊎_elim}
-use Rattle.integers.proofs.Prelude.{◌≡◌, refl, sym, ◌∙◌, List, ℕ, ◌+◌, ◌-◌, ◌*◌, ◌/◌, ◌%◌, ◌≤◌, arith, ℤ, length}
+use Rattle.integers.proofs.Prelude.{◌≡◌, refl, sym, ◌∙◌, List, ℕ, ◌+◌, ◌*◌, ◌/◌, ◌%◌, ◌≤◌, arith, ℤ, length}
 use Rattle.layout.specs.Transposed.{straight}
-use Rattle.sums.specs.Shares.{Summed, Group}
+use Rattle.sums.specs.Shares.{Group}
 use Rattle.sums.proofs.Sums.{summed_long, summed_also}
 use Rattle.sums.proofs.gather.Goals as goal
 use Rattle.sums.proofs.gather.Goals.{Start, At-loop-t, Joined-count-t-lt32, After-form_group, else-count-t-lt32, then-count-t-lt32}

@@ -1,9 +1,7 @@
 -- `sums::gather` meets its contract: after t triples the sums are those of t triples. Assumes nothing.
-use mathlib.Core.Logic.{⊎_elim}
-use Rattle.integers.proofs.Prelude.{◌≡◌, refl, sym, ◌∙◌, List, ℕ, ◌+◌, ◌-◌, ◌*◌, ◌/◌, ◌%◌, ◌≤◌, arith, ℤ, length}
+use Rattle.integers.proofs.Prelude.{◌≡◌, ◌-◌, ◌%◌, ◌≤◌, length}
 use Rattle.layout.specs.Transposed.{straight}
-use Rattle.sums.specs.Shares.{Summed, Group}
-use Rattle.sums.proofs.Sums.{summed_long, summed_also}
+use Rattle.sums.specs.Shares.{Summed}
 use Rattle.sums.proofs.gather.Given as goal
 
 abbrev pub invariant-loop-t : goal.invariant-loop-t

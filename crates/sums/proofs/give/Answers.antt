@@ -1,5 +1,5 @@
 -- `sums::give` meets its contract: one position after the other. Assumes nothing.
-use Rattle.integers.proofs.Prelude.{◌≡◌, ap, ◌∙◌, List, ℕ, ◌<◌, arith, rules, ℤ, pos, w32, to_z, of_z}
+use Rattle.integers.proofs.Prelude.{◌≡◌, ap, ◌∙◌, List, ℕ, ◌<◌, arith, ℤ, pos, w32, to_z, of_z}
 use Rattle.lists.specs.Tabulated.{tab}
 use Rattle.lists.proofs.Tabulated.{get_or_tab}
 use Rattle.model.specs.Iteration.{at, share}

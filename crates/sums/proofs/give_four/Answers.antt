@@ -1,5 +1,5 @@
 -- `sums::give_four` meets its contract: one triple after the other. Assumes nothing.
-use Rattle.integers.proofs.Prelude.{refl, List, ℕ, ◌+◌, ◌*◌, ◌≤◌, arith, rules, ℤ}
+use Rattle.integers.proofs.Prelude.{refl, List, ℕ, ◌+◌, ◌*◌, ◌≤◌, arith, ℤ}
 use Rattle.sums.specs.Shares.{Summed, Group}
 use Rattle.sums.proofs.Sums.{summed_also}
 use Rattle.sums.proofs.Groups.{group_fewer}

@@ -1,6 +1,6 @@
 -- `sums::give_group` meets its contract: after b fours of the group the sums are those of t + 4b triples. Assumes nothing.
-use Rattle.integers.proofs.Prelude.{refl, sym, ◌∙◌, List, ℕ, ◌+◌, ◌-◌, ◌*◌, ◌≤◌, arith, ℤ}
-use Rattle.sums.specs.Shares.{Summed, Group}
+use Rattle.integers.proofs.Prelude.{refl, sym, ◌∙◌, ◌+◌, ◌*◌, arith}
+use Rattle.sums.specs.Shares.{Summed}
 use Rattle.sums.proofs.Sums.{summed_long, summed_also}
 use Rattle.sums.proofs.Groups.{group_fewer}
 use Rattle.sums.proofs.give_group.Goals as goal

@@ -1,5 +1,5 @@
 -- `sums::give_one` meets its contract. Assumes nothing.
-use Rattle.integers.proofs.Prelude.{refl, List, [], ◌∷◌, ℕ, suc, ◌+◌, arith, rules, ℤ, w32, to_z, of_z}
+use Rattle.integers.proofs.Prelude.{refl, List, [], ◌∷◌, ℕ, suc, ◌+◌, arith, ℤ, w32, to_z, of_z}
 use Rattle.model.specs.Iteration.{at}
 use Rattle.sums.specs.Shares.{Summed, Due, Group}
 use Rattle.sums.proofs.Sums.{read_three, summed_also}

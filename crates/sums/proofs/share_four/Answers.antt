@@ -1,5 +1,5 @@
 -- `sums::share_four` meets its contract. Assumes nothing.
-use Rattle.integers.proofs.Prelude.{◌≡◌, refl, ap, ◌∙◌, List, [], ◌∷◌, ℕ, ◌+◌, ◌*◌, ◌≤◌, ◌<◌, arith, rules, ℤ, nat_abs, get_or, sets, w32, to_z, of_z}
+use Rattle.integers.proofs.Prelude.{◌≡◌, refl, ap, ◌∙◌, List, [], ◌∷◌, ℕ, ◌+◌, ◌*◌, ◌≤◌, ◌<◌, arith, ℤ, nat_abs, get_or, sets, w32, to_z, of_z}
 use Rattle.lists.specs.Tabulated.{tab}
 use Rattle.lists.proofs.Tabulated.{get_or_tab}
 use Rattle.model.specs.Limits.{most_row}

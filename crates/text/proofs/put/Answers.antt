@@ -1,5 +1,4 @@
 -- `text::put` meets its contract: a piece of one byte. Assumes nothing.
-use Rattle.integers.proofs.Prelude.{rules}
 use Rattle.text.proofs.Appended.{one}
 use Rattle.text.proofs.put.Goals as goal
 

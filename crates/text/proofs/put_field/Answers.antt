@@ -1,5 +1,5 @@
 -- `text::put_field` meets its contract: the digits, then the byte. Assumes nothing.
-use Rattle.integers.proofs.Prelude.{◌≤◌, arith, rules, length}
+use Rattle.integers.proofs.Prelude.{◌≤◌, arith, length}
 use Rattle.model.specs.Text.{decimal}
 use Rattle.text.proofs.Decimals.{decimal_few}
 use Rattle.text.proofs.Appended.{long, then}

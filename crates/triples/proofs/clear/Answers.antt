@@ -1,6 +1,5 @@
 -- `triples::clear` meets its contract: what is filled so far. Assumes nothing.
-use Rattle.integers.proofs.Prelude.{◌≡◌, refl, ap, ◌∙◌, ℕ, ◌-◌, ◌≤◌, arith, add-one, length}
-use Rattle.lists.specs.Tabulated.{over}
+use Rattle.integers.proofs.Prelude.{◌≡◌, refl, ap, ◌∙◌, arith, add-one, length}
 use Rattle.lists.proofs.Tabulated.{over_next, length_over}
 use Rattle.triples.proofs.clear.Invariants.{none}
 use Rattle.triples.proofs.clear.Goals as goal

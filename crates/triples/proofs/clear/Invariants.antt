@@ -1,7 +1,6 @@
 -- `triples::clear` meets its contract: what is filled so far. Assumes nothing.
-use Rattle.integers.proofs.Prelude.{◌≡◌, refl, ap, ◌∙◌, ℕ, ◌-◌, ◌≤◌, arith, add-one, length}
+use Rattle.integers.proofs.Prelude.{◌≡◌, ℕ, ◌-◌, ◌≤◌}
 use Rattle.lists.specs.Tabulated.{over}
-use Rattle.lists.proofs.Tabulated.{over_next, length_over}
 use Rattle.triples.proofs.clear.Given as goal
 
 abbrev pub none : ℕ → ℕ

@@ -1,5 +1,5 @@
 -- `triples::count` meets its contract. Assumes nothing.
-use Rattle.integers.proofs.Prelude.{◌≡◌, sym, ◌∙◌, ℕ, ◌<◌, arith, rules, eq-eqb, ne_eqb, length, get_or}
+use Rattle.integers.proofs.Prelude.{◌≡◌, sym, ◌∙◌, ℕ, ◌<◌, arith, eq-eqb, ne_eqb, length, get_or}
 use Rattle.model.specs.Splitting.{blank}
 use Rattle.triples.proofs.count.Goals as goal
 use Rattle.triples.proofs.count.Goals.{Start, Then-v-ne-BLANK}

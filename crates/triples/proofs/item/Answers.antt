@@ -1,5 +1,5 @@
 -- `triples::item` meets its contract: a bit of the check, the blank behind two, or an auxiliary. Assumes nothing.
-use Rattle.integers.proofs.Prelude.{sym, ◌∙◌, arith, rules}
+use Rattle.integers.proofs.Prelude.{sym, ◌∙◌, arith}
 use Rattle.model.specs.Records.{indices}
 use Rattle.triples.proofs.Items.{length_waiting, item_bit, item_blank, item_auxiliary}
 use Rattle.triples.proofs.item.Goals as goal

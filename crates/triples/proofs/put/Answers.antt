@@ -1,5 +1,5 @@
 -- `triples::put` meets its contract. Assumes nothing.
-use Rattle.integers.proofs.Prelude.{arith, rules, length-set}
+use Rattle.integers.proofs.Prelude.{arith, length-set}
 use Rattle.triples.proofs.put.Goals as goal
 
 pub bounds-out-t-2 : goal.bounds-out-t-2

@@ -1,5 +1,5 @@
 -- `triples::split` meets its contract: the causes in their order, and the lists of an accepted code. Assumes nothing.
-use Rattle.integers.proofs.Prelude.{◌≡◌, ap₂, true, false, ◌||◌, List, ℕ, zero, suc, ◌*◌, ◌≤◌, arith, rules, lt-ltb, le-ltb, length}
+use Rattle.integers.proofs.Prelude.{◌≡◌, ap₂, true, false, ◌||◌, List, ℕ, zero, suc, ◌*◌, ◌≤◌, arith, lt-ltb, le-ltb, length}
 use Rattle.model.specs.Causes.{short}
 use Rattle.model.specs.Code.{triples, variables}
 use Rattle.model.specs.Records.{code_of, judge}

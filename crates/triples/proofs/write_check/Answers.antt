@@ -1,5 +1,5 @@
 -- `triples::write_check` meets its contract: the triples that are written so far. Assumes nothing.
-use Rattle.integers.proofs.Prelude.{◌≡◌, refl, sym, ap, ◌∙◌, ℕ, ◌+◌, ◌-◌, ◌*◌, ◌≤◌, ◌<◌, arith, rules, lt-ltb, le-ltb, length, get_or, set}
+use Rattle.integers.proofs.Prelude.{◌≡◌, refl, sym, ap, ◌∙◌, ℕ, ◌+◌, ◌*◌, ◌<◌, arith, lt-ltb, le-ltb, length, get_or, set}
 use Rattle.lists.specs.Tabulated.{over}
 use Rattle.lists.proofs.Tabulated.{length_over, over_all}
 use Rattle.model.specs.Code.{turns, triple_count}

@@ -1,5 +1,5 @@
 -- `triples::write_counts` meets its contract: the counts of the entries so far. Assumes nothing.
-use Rattle.integers.proofs.Prelude.{◌≡◌, sym, ap, ◌∙◌, List, ℕ, ◌-◌, ◌*◌, ◌≤◌, ◌<◌, arith, add-one, rules, length, get_or}
+use Rattle.integers.proofs.Prelude.{◌≡◌, sym, ap, ◌∙◌, List, ℕ, ◌*◌, ◌<◌, arith, add-one, length, get_or}
 use mathlib.Core.Logic.{◌⊎◌, inl, inr}
 use Rattle.lists.specs.Tabulated.{over}
 use Rattle.lists.proofs.Tabulated.{length_over, over_in, over_same, over_over}

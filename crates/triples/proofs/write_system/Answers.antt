@@ -1,5 +1,5 @@
 -- `triples::write_system` meets its contract: the triples, then the counts of what is written. Assumes nothing.
-use Rattle.integers.proofs.Prelude.{◌≡◌, sym, ap, ◌∙◌, List, ℕ, ◌*◌, arith, rules, length, take}
+use Rattle.integers.proofs.Prelude.{◌≡◌, sym, ap, ◌∙◌, List, ℕ, ◌*◌, arith, length, take}
 use Rattle.lists.specs.Tabulated.{over, written}
 use Rattle.lists.proofs.Tabulated.{over_tab, take_written}
 use Rattle.model.specs.Code.{Code}

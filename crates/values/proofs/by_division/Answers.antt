@@ -1,5 +1,5 @@
 -- `values::by_division` meets its contract: below the limit by the division, from it on by the law of the limit. Assumes nothing.
-use Rattle.integers.proofs.Prelude.{◌≡◌, ap, ap₂, ◌∙◌, ◌*◌, arith, rules, ℤ, pos, nat_abs, neg_ℤ, ◌-ℤ◌, ◌*ℤ◌, w16, w64, to_z, of_z}
+use Rattle.integers.proofs.Prelude.{◌≡◌, ap, ap₂, ◌∙◌, ◌*◌, arith, ℤ, pos, nat_abs, neg_ℤ, ◌-ℤ◌, ◌*ℤ◌, w16, w64, to_z, of_z}
 use Rattle.integers.proofs.Linear.{read_ℤ, about, abs_neg, positive}
 use Rattle.integers.proofs.Machine.{Worth, param, literal, also, times, negative, fits, stored, read_back}
 use Rattle.quotient.specs.Quotient.{unit, most_divisor, signed, quotient}

@@ -1,5 +1,5 @@
 -- `values::by_product` meets its contract: below the limit by the product, from it on by the law of the limit. Assumes nothing.
-use Rattle.integers.proofs.Prelude.{◌≡◌, ap, ◌∙◌, rules, ℤ, pos, nat_abs, neg_ℤ, w16, w64, to_z, of_z, to_z-of_z}
+use Rattle.integers.proofs.Prelude.{◌≡◌, ap, ◌∙◌, ℤ, pos, nat_abs, neg_ℤ, w16, w64, to_z, of_z, to_z-of_z}
 use Rattle.integers.proofs.Machine.{read_back}
 use Rattle.quotient.specs.Quotient.{unit, signed, quotient}
 use Rattle.values.proofs.Limit.{below_limit, from_limit, limit_known}

@@ -1,5 +1,5 @@
 -- `values::divide` meets its contract. Assumes nothing.
-use Rattle.integers.proofs.Prelude.{◌≡◌, ap, ap₂, ◌∙◌, ◌-◌, ◌*◌, rules, ℤ, neg_ℤ, w16, w64, to_z, of_z, to_z-of_z}
+use Rattle.integers.proofs.Prelude.{◌≡◌, ap, ap₂, ◌∙◌, ◌-◌, ◌*◌, ℤ, neg_ℤ, w16, w64, to_z, of_z, to_z-of_z}
 use Rattle.integers.proofs.Machine.{kept, read_back}
 use Rattle.quotient.specs.Quotient.{quotient}
 use Rattle.quotient.specs.Prepared.{Prepared}

@@ -1,5 +1,5 @@
 -- `values::divisor` meets its contract. Assumes nothing.
-use Rattle.integers.proofs.Prelude.{◌≡◌, ap, ℕ, ◌+◌, ◌*◌, arith, rules, pos, ◌-ℤ◌, w64, to_z}
+use Rattle.integers.proofs.Prelude.{◌≡◌, ap, ℕ, ◌+◌, ◌*◌, arith, pos, ◌-ℤ◌, w64, to_z}
 use Rattle.integers.proofs.Machine.{Worth, fits, fits_one, stored, unsigned, also, minus}
 use Rattle.model.specs.Limits.{most_checks, most_ratio}
 use Rattle.model.specs.Iteration.{divisor}

@@ -1,7 +1,7 @@
 -- `values::prepare` meets its contract: the first i entries stand for their divisors. Assumes nothing.
-use Rattle.integers.proofs.Prelude.{◌≡◌, ◌∙◌, ℕ, suc, ◌-◌, ◌*◌, ◌≤◌, ◌<◌, arith, rules, length, length-set, w64, to_z, of_z}
+use Rattle.integers.proofs.Prelude.{◌≡◌, ◌∙◌, suc, ◌*◌, arith, rules, length-set, w64, to_z, of_z}
 use Rattle.quotient.specs.Prepared.{Prepared}
-use Rattle.model.specs.Iteration.{at, divisor}
+use Rattle.model.specs.Iteration.{divisor}
 use Rattle.model.proofs.Bounds.{divisor_above, divisor_below}
 use Rattle.values.proofs.Divisors.{next_is, next_entries}
 use Rattle.values.proofs.prepare.Goals as goal

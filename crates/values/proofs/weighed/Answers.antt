@@ -1,5 +1,5 @@
 -- `values::weighed` meets its contract. Assumes nothing.
-use Rattle.integers.proofs.Prelude.{ap, ◌+◌, ◌*◌, arith, rules, ℤ, pos, nat_abs, ◌+ℤ◌, ◌*ℤ◌, w16, w64, to_z, of_z}
+use Rattle.integers.proofs.Prelude.{ap, ◌+◌, ◌*◌, arith, ℤ, pos, nat_abs, ◌+ℤ◌, ◌*ℤ◌, w16, w64, to_z, of_z}
 use Rattle.integers.proofs.Machine.{Worth, fits, stored, unsigned, param, literal, plus, times}
 use Rattle.model.specs.Limits.{most_weight, most_cost, most_sum}
 use Rattle.values.proofs.weighed.Goals as goal

@@ -1,5 +1,5 @@
 -- `values::write_range` meets its contract: the values below v are written. Assumes nothing.
-use Rattle.integers.proofs.Prelude.{◌≡◌, ap, ap₂, ◌∙◌, ℕ, ◌+◌, ◌-◌, ◌*◌, ◌≤◌, ◌<◌, arith, rules, ℤ, pos, neg_ℤ, ◌+ℤ◌, ◌*ℤ◌, length, sets, w16, w64, to_z, of_z}
+use Rattle.integers.proofs.Prelude.{◌≡◌, ap, ap₂, ◌∙◌, ℕ, ◌+◌, ◌-◌, ◌*◌, ◌<◌, arith, rules, ℤ, pos, neg_ℤ, ◌+ℤ◌, ◌*ℤ◌, length, w16, w64, to_z, of_z}
 use lib.Seq.{length-sets}
 use Rattle.integers.proofs.Machine.{kept, read_back, param}
 use Rattle.lists.specs.Tabulated.{tab}

@@ -1,13 +1,7 @@
 -- `values::write_range` meets its contract: the values below v are written. Assumes nothing.
-use Rattle.integers.proofs.Prelude.{◌≡◌, ap, ap₂, ◌∙◌, ℕ, ◌+◌, ◌-◌, ◌*◌, ◌≤◌, ◌<◌, arith, rules, ℤ, pos, neg_ℤ, ◌+ℤ◌, ◌*ℤ◌, length, sets, w16, w64, to_z, of_z}
-use lib.Seq.{length-sets}
-use Rattle.integers.proofs.Machine.{kept, read_back, param}
+use Rattle.integers.proofs.Prelude.{◌≡◌, ◌+◌, ◌-◌, ◌≤◌, sets}
 use Rattle.lists.specs.Tabulated.{tab}
-use Rattle.quotient.specs.Quotient.{quotient}
-use Rattle.model.specs.Limits.{most_sum}
-use Rattle.model.specs.Iteration.{at, divisor}
-use Rattle.values.specs.Values.{Given, value_from}
-use Rattle.values.proofs.Values.{range_next}
+use Rattle.values.specs.Values.{value_from}
 use Rattle.values.proofs.write_range.Given as goal
 
 abbrev pub invariant-loop-v : goal.invariant-loop-v

@@ -1,5 +1,5 @@
 -- `values::write_values` meets its contract: the bits, then the auxiliaries, past whose number no cost is left. Assumes nothing.
-use Rattle.integers.proofs.Prelude.{◌≡◌, ◌∙◌, List, [], ℕ, ◌+◌, ◌-◌, arith, rules, ℤ, pos, length, take, drop, drop_of_length-le, get_or-eq_default}
+use Rattle.integers.proofs.Prelude.{◌≡◌, ◌∙◌, List, [], ℕ, ◌+◌, ◌-◌, arith, ℤ, pos, length, take, drop, drop_of_length-le, get_or-eq_default}
 use Rattle.lists.proofs.Parts.{part_from}
 use Rattle.model.specs.Iteration.{at}
 use Rattle.values.specs.Values.{value_from}

@@ -1,5 +1,5 @@
 -- `example_calls::codes::append` meets its contract: the place stays within the list. Assumes nothing.
-use Rattle.integers.proofs.Prelude.{◌≡◌, ◌-◌, ◌≤◌, arith, length}
+use Rattle.integers.proofs.Prelude.{◌≡◌, ◌≤◌, length}
 use Rattle.example_calls.proofs.codes.append.Given as goal
 
 abbrev pub invariant-loop-i : goal.invariant-loop-i

@@ -1,5 +1,5 @@
 -- `example_calls::codes::check` meets its contract: the record has room. Assumes nothing.
-use Rattle.integers.proofs.Prelude.{◌≡◌, ◌-◌, rules, length}
+use Rattle.integers.proofs.Prelude.{◌≡◌, ◌-◌, length}
 use Rattle.example_calls.proofs.codes.check.Given as goal
 
 abbrev pub invariant-loop-i : goal.invariant-loop-i

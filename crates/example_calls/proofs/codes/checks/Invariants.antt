@@ -1,5 +1,5 @@
 -- `example_calls::codes::checks` meets its contract: the place stays within the list. Assumes nothing.
-use Rattle.integers.proofs.Prelude.{◌≡◌, ◌-◌, ◌≤◌, arith, length}
+use Rattle.integers.proofs.Prelude.{◌≡◌, ◌-◌, ◌≤◌, length}
 use Rattle.example_calls.proofs.codes.checks.Given as goal
 
 abbrev pub invariant-loop-j : goal.invariant-loop-j

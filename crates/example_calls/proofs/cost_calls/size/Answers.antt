@@ -1,5 +1,5 @@
 -- `example_calls::cost_calls::size` meets its contract: bits up to those of infinity are no NaN's. Assumes nothing.
-use Rattle.integers.proofs.Prelude.{◌≡◌, refl, subst, Bool, true, false, not, ℕ, ◌/◌, ◌%◌, ◌≤◌, arith, rules, ltb-true, ltb-false, ne_eqb, T, ltb}
+use Rattle.integers.proofs.Prelude.{◌≡◌, refl, subst, Bool, true, false, not, ℕ, ◌/◌, ◌%◌, ◌≤◌, arith, ltb-true, ltb-false, ne_eqb, T, ltb}
 use lib.Ieee.{binary32, nan_bits}
 use Rattle.example_calls.proofs.cost_calls.size.Goals as goal
 

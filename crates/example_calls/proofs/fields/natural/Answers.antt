@@ -1,5 +1,5 @@
 -- `example_calls::fields::natural` meets its contract: the number stays below 2^32. Assumes nothing.
-use Rattle.integers.proofs.Prelude.{◌-◌, ◌*◌, ◌≤◌, arith, length}
+use Rattle.integers.proofs.Prelude.{◌*◌, ◌≤◌, arith}
 use native.Mathlib.Nat.{mul-le-mul}
 use Rattle.example_calls.proofs.fields.natural.Goals as goal
 use Rattle.example_calls.proofs.fields.natural.Goals.{At-loop-i}

@@ -1,6 +1,5 @@
 -- `example_calls::fields::natural` meets its contract: the number stays below 2^32. Assumes nothing.
-use Rattle.integers.proofs.Prelude.{◌-◌, ◌*◌, ◌≤◌, arith, length}
-use native.Mathlib.Nat.{mul-le-mul}
+use Rattle.integers.proofs.Prelude.{◌-◌, ◌≤◌, length}
 use Rattle.example_calls.proofs.fields.natural.Given as goal
 
 abbrev pub invariant-loop-i : goal.invariant-loop-i

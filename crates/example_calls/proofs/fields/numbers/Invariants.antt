@@ -1,5 +1,5 @@
 -- `example_calls::fields::numbers` meets its contract. Assumes nothing.
-use Rattle.integers.proofs.Prelude.{◌≡◌, ◌-◌, ◌≤◌, rules, length}
+use Rattle.integers.proofs.Prelude.{◌≡◌, ◌-◌, ◌≤◌, length}
 use Rattle.example_calls.proofs.fields.numbers.Given as goal
 
 abbrev pub invariant-loop-n : goal.invariant-loop-n

@@ -1,5 +1,4 @@
 -- `example_calls::show::list` meets its contract. Assumes nothing.
-use Rattle.integers.proofs.Prelude.{◌-◌, arith}
 use Rattle.example_calls.proofs.show.list.Goals as goal
 
 pub text-requires : goal.text-requires

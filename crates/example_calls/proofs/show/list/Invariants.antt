@@ -1,5 +1,5 @@
 -- `example_calls::show::list` meets its contract. Assumes nothing.
-use Rattle.integers.proofs.Prelude.{◌-◌, arith}
+use Rattle.integers.proofs.Prelude.{◌-◌}
 use Rattle.example_calls.proofs.show.list.Given as goal
 
 abbrev pub invariant-loop-i : goal.invariant-loop-i

@@ -1,5 +1,5 @@
 -- `examples::group_calls::answer` meets its contract. Assumes nothing.
-use Rattle.integers.proofs.Prelude.{◌-◌, ◌≤◌, rules}
+use Rattle.integers.proofs.Prelude.{◌-◌, ◌≤◌}
 use Rattle.examples.proofs.group_calls.answer.Given as goal
 
 abbrev pub invariant-loop-f : goal.invariant-loop-f

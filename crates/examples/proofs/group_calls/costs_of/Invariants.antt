@@ -1,5 +1,5 @@
 -- `examples::group_calls::costs_of` meets its contract. Assumes nothing.
-use Rattle.integers.proofs.Prelude.{◌≡◌, ◌-◌, ◌≤◌, rules, length}
+use Rattle.integers.proofs.Prelude.{◌≡◌, ◌-◌, ◌≤◌, length}
 use Rattle.examples.proofs.group_calls.costs_of.Given as goal
 
 abbrev pub invariant-loop-i : goal.invariant-loop-i

@@ -1,5 +1,4 @@
 -- `examples::table::each` meets its contract. Assumes nothing.
-use Rattle.integers.proofs.Prelude.{◌-◌, arith, length}
 use Rattle.examples.proofs.table.each.Goals as goal
 
 pub loop-at-init : goal.loop-at-init

@@ -1,5 +1,5 @@
 -- `examples::table::each` meets its contract. Assumes nothing.
-use Rattle.integers.proofs.Prelude.{◌-◌, arith, length}
+use Rattle.integers.proofs.Prelude.{◌-◌, length}
 use Rattle.examples.proofs.table.each.Given as goal
 
 abbrev pub invariant-loop-at : goal.invariant-loop-at

@@ -1,5 +1,5 @@
 -- `examples::table::find` meets its contract. Assumes nothing.
-use Rattle.integers.proofs.Prelude.{◌-◌, ◌≤◌, arith, length}
+use Rattle.integers.proofs.Prelude.{◌-◌, ◌≤◌, length}
 use Rattle.examples.proofs.table.find.Given as goal
 
 abbrev pub invariant-loop-i : goal.invariant-loop-i
