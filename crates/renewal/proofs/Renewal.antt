@@ -139,15 +139,15 @@ module _ (T : ℕ) (ts : List ℕ) (c : List ℤ) where
       rw (place_first T (4 * t + r) (omega arith), d, m)
 
   module _ (t : ℕ) (s s' old new' : List ℤ) (m z a b : ℕ) (h : t < T % 4) (left : Left T t s)
-      (old_is : old ≡ tab 4 (λ r. row s t r)) (New-is : new' ≡ tab 4 (λ r. renewed (row s t r) (sum_at ts c t r))) where
+      (old_is : old ≡ tab 4 (λ r. row s t r)) (new_is : new' ≡ tab 4 (λ r. renewed (row s t r) (sum_at ts c t r))) where
     triple_total : (side : ℤ) → triple_changes side old new' ≡ sum_ℕ 4 (λ r. change side s (4 * t + r))
     triple_total side =
-        ap₂ (triple_changes side) old_is New-is
+        ap₂ (triple_changes side) old_is new_is
         ∙ sum_ℕ_same 4 (λ r. change_of side (row s t r) (renewed (row s t r) (sum_at ts c t r))) _ (λ r l. ap (change_of side (row s t r)) (new_first s t r h l))
 
     pub triple_renewed : s' ≡ sets s (4 * t) (tab 4 (at new')) → a ≡ m + triple_changes (pos 1) old new' → b ≡ z + triple_changes (negsuc 0) old new' → Renewed T ts c t (t + 1) s s' m a z b
     triple_renewed put p q =
-        step 1 t s s' (λ r. renewed (row s t r) (sum_at ts c t r)) (omega arith) left (put ∙ ap (λ (k : List ℤ). sets s (4 * t) (tab 4 (at k))) New-is) (λ r l. new_first s t r h l)
+        step 1 t s s' (λ r. renewed (row s t r) (sum_at ts c t r)) (omega arith) left (put ∙ ap (λ (k : List ℤ). sets s (4 * t) (tab 4 (at k))) new_is) (λ r l. new_first s t r h l)
         m z a b (p ∙ ap (λ (x : ℕ). m + x) (triple_total (pos 1))) (q ∙ ap (λ (x : ℕ). z + x) (triple_total (negsuc 0)))
 
   -- ---- four triples

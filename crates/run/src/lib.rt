@@ -111,8 +111,8 @@ fn run_from(
     requires rows_within { RowsWithin done (straight count rows.old) }
     requires done_le_limit { (done ≤ settings.limit) × (settings.limit ≤ most_iterations) }
     ensures { ((k : Code) → let g = system_in k triples.now count values.old in
-        let first = state_in count sums.entry.now values.old rows.old in
-        let last : State = record { sums = sums.exit.now; values = values.new; rows = rows.new } in
+        let first = state_in count sums.old values.old rows.old in
+        let last : State = record { sums = sums.new; values = values.new; rows = rows.new } in
         record { k = result.k; settled = result.settled; last = last } ≡ Run.run_from quotient g settings costs.now (settings.limit - done) done first) }
 {
     let mut limits = [0i64; 31];
@@ -141,7 +141,7 @@ pub fn run(
     requires lent { Lent settings triples.now counts.now costs.now count sums.old values.old rows.old }
     requires le_limit { (1 ≤ settings.limit) × (settings.limit ≤ most_iterations) }
     ensures { ((k : Code) → let g = system_in k triples.now count values.old in
-        let last : State = record { sums = sums.exit.now; values = values.new; rows = rows.new } in
+        let last : State = record { sums = sums.new; values = values.new; rows = rows.new } in
         record { k = result.k; settled = result.settled; last = last } ≡ Run.run quotient g settings costs.now) }
 {
     slices::clear_i32(rows);
@@ -166,8 +166,8 @@ pub fn go_on(
     requires rows_within { eqb done 0 ≡ false → RowsWithin done rows.old }
     requires le_limit { (1 ≤ settings.limit) × (done ≤ settings.limit) × (settings.limit ≤ most_iterations) }
     ensures { ((k : Code) → let g = system_in k triples.now total values.old in
-        let first : State = record { sums = sums.entry.now; values = values.old; rows = rows.old } in
-        let last : State = record { sums = sums.exit.now; values = values.new; rows = rows.new } in
+        let first : State = record { sums = sums.old; values = values.old; rows = rows.old } in
+        let last : State = record { sums = sums.new; values = values.new; rows = rows.new } in
         record { k = result.k; settled = result.settled; last = last } ≡ cond (eqb done 0) (Run.run quotient g settings costs.now)
         (Run.run_from quotient g settings costs.now (settings.limit - done) done first)) }
 {

@@ -109,8 +109,12 @@ fn links_and_permissions_stay() {
     symlink(&file, &link).unwrap();
     let text = normal(&hamming());
     let line = ["import", "-", &link.display().to_string()];
-    assert_eq!(alist(&line, &text), silent(b""));
-    assert!(fs::symlink_metadata(&link).unwrap().is_symlink());
+    let done = alist(&line, &text);
+    let stayed = fs::symlink_metadata(&link).unwrap().is_symlink();
+    // Gone before anything can fail: the gate refuses a tree that holds a link.
+    fs::remove_file(&link).unwrap();
+    assert_eq!(done, silent(b""));
+    assert!(stayed);
     assert_eq!(fs::read(&file).unwrap(), records(&hamming()));
     assert_eq!(
         fs::metadata(&file).unwrap().permissions().mode() & 0o777,

@@ -3,7 +3,8 @@
 use std::env;
 use std::io::Write;
 use std::path::{Path, PathBuf};
-use std::process::{Command, Stdio};
+use std::process::{Child, Command, Stdio};
+use std::sync::{Mutex, MutexGuard, PoisonError};
 use std::thread;
 
 /// The frame program's file: the one that WIDAGBE_FRAMES names, or the one that
@@ -13,15 +14,34 @@ pub fn path() -> PathBuf {
     env::var_os("WIDAGBE_FRAMES").map_or_else(default, PathBuf::from)
 }
 
+static STARTING: Mutex<()> = Mutex::new(());
+
+/// Held while a program starts. Until it runs its own code it has every file of
+/// this process, so a pipe that another test closes meanwhile would stay open.
+pub fn starting() -> MutexGuard<'static, ()> {
+    STARTING.lock().unwrap_or_else(PoisonError::into_inner)
+}
+
+/// The program, started while no other starts.
+pub fn start(stdin: Stdio, stdout: Stdio) -> Child {
+    let _alone = starting();
+    spawn(stdin, stdout)
+}
+
+/// The program, started by one who holds `starting`.
+pub fn spawn(stdin: Stdio, stdout: Stdio) -> Child {
+    let program = path();
+    Command::new(&program)
+        .stdin(stdin)
+        .stdout(stdout)
+        .spawn()
+        .unwrap_or_else(|error| panic!("{}: {error}", program.display()))
+}
+
 /// Feeds the program, in two pieces so that it meets a short read, and hands
 /// back what it prints. It may stop reading early.
 pub fn frames(input: &[u8]) -> Vec<u8> {
-    let program = path();
-    let mut child = Command::new(&program)
-        .stdin(Stdio::piped())
-        .stdout(Stdio::piped())
-        .spawn()
-        .unwrap_or_else(|error| panic!("{}: {error}", program.display()));
+    let mut child = start(Stdio::piped(), Stdio::piped());
     let mut stdin = child.stdin.take().expect("a pipe was asked for");
     let (first, second) = input.split_at(input.len() / 3);
     let output = thread::scope(|scope| {

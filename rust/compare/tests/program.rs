@@ -4,19 +4,16 @@
 use compare::comparison::compare;
 use compare::families::{program, Effort};
 use compare::outcome::printed;
-use compare::program::{frames, path};
+use compare::program::{frames, spawn, start, starting};
 use std::fs::File;
 use std::io::{Read, Write};
 use std::os::fd::OwnedFd;
 use std::os::unix::net::UnixStream;
-use std::process::{Child, ChildStdin, Command, ExitStatus, Stdio};
+use std::process::{Child, ChildStdin, ExitStatus, Stdio};
 use std::thread::sleep;
 use std::time::{Duration, Instant};
 
 const PATIENCE: Duration = Duration::from_secs(20);
-
-/// A frame record: three costs of 20,000.
-const FRAME: &[u8] = b"LF\x4e\x20\x4e\x20\x4e\x20";
 
 #[test]
 fn the_frame_program_equals_the_reference() {
@@ -29,17 +26,9 @@ fn the_frame_program_equals_the_reference() {
 fn stream(frames: usize) -> Vec<u8> {
     let mut input = b"LH\0\x03\0\x01LC\x03\0\0\0\x01\0\x02LS\x01\0\0\0\0\x02\0\0\0\0".to_vec();
     for _ in 0..frames {
-        input.extend(FRAME);
+        input.extend(b"LF\x4e\x20\x4e\x20\x4e\x20");
     }
     input
-}
-
-fn start(stdin: Stdio, stdout: Stdio) -> Child {
-    Command::new(path())
-        .stdin(stdin)
-        .stdout(stdout)
-        .spawn()
-        .expect("the program starts")
 }
 
 /// What the program prints with a standard input that cannot be read.
@@ -49,8 +38,7 @@ fn printed_without_input(stdin: Stdio) -> Vec<u8> {
 }
 
 /// Feeds the program and waits for its end, with its standard input still open.
-/// While it runs it is fed `more`, again and again.
-fn end_with_input_open(mut child: Child, input: &[u8], more: &[u8]) -> ExitStatus {
+fn end_with_input_open(mut child: Child, input: &[u8]) -> ExitStatus {
     let mut stdin: ChildStdin = child.stdin.take().expect("a pipe was asked for");
     let _ = stdin.write_all(input);
     let begun = Instant::now();
@@ -59,7 +47,6 @@ fn end_with_input_open(mut child: Child, input: &[u8], more: &[u8]) -> ExitStatu
             return status;
         }
         sleep(Duration::from_millis(5));
-        let _ = stdin.write_all(more);
     }
     child.kill().expect("the program runs");
     panic!("the program goes on after a write that failed");
@@ -77,16 +64,16 @@ fn a_read_that_fails_ends_the_input() {
 fn a_write_that_fails_ends_the_program() {
     let full = File::options().write(true).open("/dev/full").unwrap();
     let child = start(Stdio::piped(), Stdio::from(full));
-    assert!(end_with_input_open(child, &stream(2), &[]).success());
+    assert!(end_with_input_open(child, &stream(2)).success());
 }
 
 #[test]
 fn an_output_that_is_closed_ends_the_program() {
-    let mut child = start(Stdio::piped(), Stdio::piped());
+    let alone = starting();
+    let mut child = spawn(Stdio::piped(), Stdio::piped());
     drop(child.stdout.take());
-    // A program that another test starts at this moment has the output's other end until
-    // it runs its own code, so the first writes need not fail.
-    end_with_input_open(child, &stream(2), FRAME);
+    drop(alone);
+    end_with_input_open(child, &stream(2));
 }
 
 #[test]
@@ -95,7 +82,7 @@ fn nothing_is_written_after_a_write_that_failed() {
     output.set_nonblocking(true).unwrap();
     let child = start(Stdio::piped(), Stdio::from(OwnedFd::from(output)));
     let input = stream(7_000);
-    assert!(end_with_input_open(child, &input, &[]).success());
+    assert!(end_with_input_open(child, &input).success());
     let mut printed = Vec::new();
     received.read_to_end(&mut printed).unwrap();
     let whole = frames(&input);
