@@ -20,7 +20,7 @@ loop-i-preserved c =
     let indices = c.args.indices.now in
     let i = c.loop-i.i in
     let e : bytes_of (take (i + 1) indices) ≡ bytes_of (take i indices) ++ two (get_or indices i 0) = rw (add-one i) (bytes_next indices i (omega arith)) in
-    (omega arith, rw (e, ← c.index.ensures.0) (then c.loop-i.invariant.1 c.write_two_bytes-next.ensures))
+    (omega arith, rw (e, ← c.from.ensures) (then c.loop-i.invariant.1 c.write_two_bytes-next.ensures))
 
 pub returns : goal.returns
 returns c =
