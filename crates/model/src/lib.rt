@@ -155,6 +155,18 @@ pub struct Decoding {
     pub ending: Ending,
 }
 
+// The lists that a caller lends to the decoder. For T triples, V variables and n bits of a code it wants 3T, V, V, V, 4T and n entries; for a group of frames as many of
+// the last four for each frame. Entries past those stay.
+#[derive(Drop)]
+pub struct Lists<'a> {
+    pub triples: &'a mut [u16],
+    pub counts: &'a mut [u16],
+    pub sums: &'a mut [i64],
+    pub values: &'a mut [i16],
+    pub rows: &'a mut [i32],
+    pub word: &'a mut [u8],
+}
+
 // What is told of a run: a number, a bit or a check, the iterations, and whether the frame settled.
 #[repr(C)]
 #[derive(Clone, Copy)]

@@ -1,10 +1,10 @@
--- `reader::all_marked` meets its contract: what is left to test decides. Assumes nothing.
+-- `all_marked` meets its contract: what is left to test decides. Assumes nothing.
 use Rattle.integers.proofs.Prelude.{◌≡◌, refl, sym, ◌∙◌, Bool, true, false, List, ℕ, ◌<◌, arith, add-one, eq-eqb, ne_eqb, get_or}
 use Rattle.lists.proofs.Tabulated.{length_tab, get_or_tab}
 use Rattle.lists.proofs.Entries.{every_next, every_stop, every_end}
 use Rattle.reader.specs.Marks.{marked, all_marked}
-use Rattle.reader.proofs.all_marked.Invariants.{places}
-use Rattle.reader.proofs.all_marked.Goals as goal
+use Rattle.reader.proofs.coverage.all_marked.Invariants.{places}
+use Rattle.reader.proofs.coverage.all_marked.Goals as goal
 
 -- the test of entry b
 test_at : (seen : List ℕ) (n b : ℕ) (t : Bool) → b < n → marked seen b ≡ t → marked seen (get_or (places n) b 0) ≡ t
