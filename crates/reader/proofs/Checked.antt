@@ -1,11 +1,10 @@
 -- What a judged check record has, and what judged records leave once the first is taken. Assumes nothing.
-use Rattle.integers.proofs.Prelude.{◌≡◌, refl, sym, ap, ◌∙◌, List, [], ◌∷◌, ℕ, zero, suc, ◌+◌, ◌-◌, ◌≤◌, ◌<◌, arith, length, get_or}
+use Rattle.integers.proofs.Prelude.{◌≡◌, refl, List, [], ◌∷◌, ℕ, zero, suc, ◌-◌, ◌≤◌, ◌<◌, arith, length, get_or}
 use Rattle.model.specs.Limits.{most_bits, least_degree, most_degree}
-use Rattle.model.specs.Code.{turns, triple_count}
-use Rattle.model.specs.Records.{degree, indices, after_check, checks_in, judge_check, judge_checks}
+use Rattle.model.specs.Records.{indices, after_check, checks_in, judge_check, judge_checks}
 use Rattle.model.specs.Sound.{SoundCheck}
 use Rattle.model.proofs.Causes.{clear}
-use Rattle.model.proofs.Accepted.{SoundRecord, record_sound, check_sound, length_checks}
+use Rattle.model.proofs.Accepted.{SoundRecord, record_sound, check_sound}
 use Rattle.model.proofs.Sound.{rising_below}
 use Rattle.records.specs.Whole.{Whole}
 use Rattle.reader.specs.Judged.{JudgedCheck, JudgedChecks}

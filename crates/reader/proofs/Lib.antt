@@ -1,2 +1,5 @@
 pub mod Checked
+pub mod Decided
+pub mod Known
 pub mod Marks
+pub mod Steps

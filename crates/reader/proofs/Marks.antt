@@ -1,5 +1,5 @@
 -- Marks, one more at a time, and of check after check. Assumes nothing.
-use Rattle.integers.proofs.Prelude.{◌≡◌, refl, sym, ◌∙◌, Bool, true, false, ◌||◌, List, [], ◌∷◌, ◌++◌, ℕ, ◌+◌, ◌≤◌, ◌<◌, arith, add-one}
+use Rattle.integers.proofs.Prelude.{◌≡◌, refl, sym, ◌∙◌, Bool, true, false, ◌||◌, List, [], ◌∷◌, ℕ, ◌+◌, ◌≤◌, ◌<◌, arith, add-one}
 use Rattle.integers.proofs.Prelude.{eqb-true, eqb-false, eqb, length, get_or, take, set, length-set, take-suc}
 use mathlib.Core.Bool.{or_assoc, or-false}
 use lib.Seq.{get_or-set_same, get_or-set_other}

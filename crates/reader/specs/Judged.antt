@@ -1,5 +1,5 @@
 -- What is known of records that were judged. Definitions only.
-use Rattle.std.specs.Prelude.{◌≡◌, List, ℕ, ◌≤◌, length}
+use Rattle.std.specs.Prelude.{◌≡◌, List, ℕ, ◌≤◌}
 use Rattle.model.specs.declared.Sizes.{Sizes}
 use Rattle.model.specs.Limits.{most_bits}
 use Rattle.model.specs.Records.{judge_check, judge_checks, code_of, judge}

@@ -33,6 +33,7 @@ impl<'a> Model for Code<'a> {
 }
 
 // How many triples the check records that `s` begins with have, and what follows them; or their first cause.
+#[tactic(auto, using(crate::proofs::Steps::one_check))]
 fn judge_checks(s: &[u8], bits: usize, checks: usize) -> Result<(usize, &[u8]), Cause>
     requires { checks ≤ most_checks }
     ensures number { number_of result ≡ judge_checks bits checks s.now }
@@ -48,6 +49,7 @@ fn judge_checks(s: &[u8], bits: usize, checks: usize) -> Result<(usize, &[u8]), 
     Ok((triples, rest))
 }
 
+#[tactic(auto, using(crate::proofs::Known::judged_code))]
 impl<'a> Code<'a> {
     // The code that these bytes are the records of, or the first cause: 1 to 6, then 9, 7, 8.
     pub fn read(bytes: &'a [u8]) -> Result<Code<'a>, Cause>

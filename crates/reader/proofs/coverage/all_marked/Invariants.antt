@@ -1,5 +1,5 @@
 -- `all_marked` meets its contract: what is left to test decides. Assumes nothing.
-use Rattle.integers.proofs.Prelude.{◌≡◌, List, ℕ, ◌-◌, drop}
+use Rattle.integers.proofs.Prelude.{◌≡◌, List, ℕ, drop}
 use Rattle.lists.specs.Tabulated.{tab}
 use Rattle.lists.specs.Entries.{every}
 use Rattle.reader.specs.Marks.{marked}

@@ -1,4 +1,4 @@
-use Rattle.integers.proofs.Prelude.{sym, ◌∙◌, arith, ap, length}
+use Rattle.integers.proofs.Prelude.{sym}
 use Rattle.model.proofs.Accepted.{length_numbers}
 use Rattle.reader.proofs.Checked.{whole, bit_below}
 use Rattle.reader.proofs.check.Check.bit.Goals as goal

@@ -1,4 +1,4 @@
-use Rattle.integers.proofs.Prelude.{sym, ◌∙◌, arith}
+use Rattle.integers.proofs.Prelude.{arith}
 use Rattle.reader.proofs.Checked.{begun, degree_least, degree_most}
 use Rattle.reader.proofs.check.Check.degree.Goals as goal
 

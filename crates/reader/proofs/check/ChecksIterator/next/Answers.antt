@@ -1,5 +1,4 @@
-use Rattle.integers.proofs.Prelude.{◌≡◌, ◌-◌, ◌<◌, ℕ, refl, sym, arith, length}
-use Rattle.model.specs.Records.{checks_in}
+use Rattle.integers.proofs.Prelude.{◌-◌, refl, sym, arith}
 use Rattle.model.proofs.Accepted.{length_checks}
 use Rattle.reader.proofs.Checked.{whole, first_judged, others_judged, checks_more, checks_none}
 use Rattle.reader.proofs.check.ChecksIterator.next.Goals as goal
