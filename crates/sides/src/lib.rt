@@ -111,9 +111,10 @@ pub fn column_entries(code: &Code, degrees: &[u16], entries: &mut [u16])
     requires places { length entries.old ≤ 65535 }
     ensures { entries.new ≡ joined (tab code.now.bits (λ b. column_from 0 b code.now.checks)) }
 {
+    let checks = code.checks();
     let mut next = [0u16; MOST_BITS];
     starts(degrees, &mut next);
-    for (j, check) in code.checks().enumerate() {
+    for (j, check) in checks.enumerate() {
         place(&check, j + 1, &mut next, entries);
     }
 }

@@ -1,12 +1,12 @@
 -- `sides::column_entries` meets its contract: the columns among the checks so far stand where they begin. Assumes nothing.
-use Rattle.integers.proofs.Prelude.{◌≡◌, refl, sym, ap, ◌∙◌, ◌+◌, ◌++◌, [], ◌∷◌, arith, length, length-append, get_or}
+use Rattle.integers.proofs.Prelude.{◌≡◌, refl, ap, ◌∙◌, ◌+◌, ◌++◌, [], ◌∷◌, arith, length, length-append, get_or}
 use Rattle.lists.specs.Entries.{sum}
-use Rattle.lists.proofs.Tabulated.{length_over, length_tab}
+use Rattle.lists.proofs.Tabulated.{length_tab}
 use Rattle.model.specs.Limits.{most_bits}
 use Rattle.model.specs.Sound.{Rising, SoundCheck}
 use Rattle.model.proofs.Sound.{rising_below, rising_more}
 use Rattle.reader.proofs.Done.{Done, none_done, one_done, all_done, some_left, each_here}
-use Rattle.sides.specs.Columns.{start_of, Room}
+use Rattle.sides.specs.Columns.{Room}
 use Rattle.sides.proofs.Counting.{length_counted, length_placed}
 use Rattle.sides.proofs.Sorting.{start, ends_before, start_end, sorted_next, sorted_all}
 use Rattle.sides.proofs.Columns.{column, column_within, column_start, column_open, column_grown}
@@ -22,10 +22,19 @@ filled : (s : Start) → length s.args.entries.now ≡ start (column s.args.code
 filled s = s.requires.sum ∙ ap sum s.requires.degrees ∙ start_end s.args.code.now.bits (column s.args.code.now.checks)
 
 pub starts-requires : goal.starts-requires
-starts-requires c = ?
+starts-requires c = record { few = omega (arith, width (goal.at.starts-requires c).Start, c.checks-checks.ensures.sound.bits_most); sum = omega (arith, c.requires) }
 
 pub loop-j-init : goal.loop-j-init
-loop-j-init c = ?
+loop-j-init c =
+    let k = c.args.code.now in
+    let n = width (goal.at.loop-j-init c).Start in
+    rw (c.into_iter-j-iterator.ensures.into_iter_gives, c.enumerate-j-items.ensures.source, c.enumerate-j-items.ensures.count, c.checks-checks.ensures.value)
+    (none_done _ (record {
+      count = refl;
+      next_long = c.type_inv.next;
+      entries_long = refl;
+      sorted = column_start k.checks k.bits c.args.degrees.now _ _ _ c.requires.degrees (rw n at c.starts.ensures);
+    }))
 
 -- the checks that are done, and the one at hand
 taken : (c : In-Some)
@@ -34,7 +43,7 @@ taken : (c : In-Some)
 taken c = rw c.in-Some.ensures.steps.0 at c.loop-j.invariant
 
 rising : (c : In-Some) → Rising c.args.code.now.bits 0 c.in-Some.check
-rising c = (each_here (taken c) (SoundCheck c.args.code.now.bits) c.checks.ensures.sound.checks).rising
+rising c = (each_here (taken c) (SoundCheck c.args.code.now.bits) c.checks-checks.ensures.sound.checks).rising
 
 room : (c : In-Some) → Room c.in-Some.check c.loop-j.next c.loop-j.entries
 room c i h =
@@ -55,8 +64,8 @@ pub place-requires : goal.place-requires
 place-requires c =
     let d = taken (goal.at.place-requires c).In-Some in
     record {
-      rising = rising_more c.args.code.now.bits most_bits 0 c.in-Some.check c.checks.ensures.sound.bits_most (rising (goal.at.place-requires c).In-Some);
-      number = omega (arith, c.in-Some.ensures.steps, d.known.count, some_left d, c.checks.ensures.sound.checks_most);
+      rising = rising_more c.args.code.now.bits most_bits 0 c.in-Some.check c.checks-checks.ensures.sound.bits_most (rising (goal.at.place-requires c).In-Some);
+      number = omega (arith, c.in-Some.ensures.steps, d.known.count, some_left d, c.checks-checks.ensures.sound.checks_most);
       places = omega (arith, c.requires.places, d.known.entries_long);
       room = room (goal.at.place-requires c).In-Some;
     }
@@ -76,7 +85,7 @@ loop-j-preserved c =
       entries_long = ap length entries ∙ length_placed (c.in-Some.j + 1) c.loop-j.next x c.loop-j.entries ∙ d.known.entries_long;
       sorted = rw (next, entries, number)
           (sorted_next d.known.sorted (column (d.items ++ (x ∷ []))) x (length d.items + 1)
-          (omega (arith, c.checks.ensures.sound.bits_most, d.known.next_long))
+          (omega (arith, c.checks-checks.ensures.sound.bits_most, d.known.next_long))
           (omega (arith, filled (goal.at.loop-j-preserved c).Start, d.known.entries_long))
           (rising (goal.at.loop-j-preserved c).In-Some)
           (column_open k.checks d.items left x d.whole)
@@ -87,5 +96,5 @@ loop-j-preserved c =
 pub returns : goal.returns
 returns c =
     let k = c.args.code.now in
-    let known = all_done (rw c.in-None.ensures.steps.0 at c.loop-j.invariant) in
+    let known = all_done (rw c.in-None.ensures.steps.0.0 at c.loop-j.invariant) in
     sorted_all k.bits (column k.checks) c.loop-j.entries known.sorted.part (known.entries_long ∙ filled (goal.at.returns c).Start)

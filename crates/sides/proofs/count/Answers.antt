@@ -1,6 +1,6 @@
 -- `sides::count` meets its contract: the bits so far are counted. Assumes nothing.
-use Rattle.integers.proofs.Prelude.{◌≡◌, refl, sym, ap, ◌∙◌, ◌≤◌, arith, length, get_or, take, take_all}
-use Rattle.sides.proofs.Counting.{counted_none, length_counted, Turn, turn_bit, turn_entry, turn_value, turn_next}
+use Rattle.integers.proofs.Prelude.{refl, sym, ◌∙◌, arith, length, take_all}
+use Rattle.sides.proofs.Counting.{counted_none, Turn, turn_bit, turn_entry, turn_value, turn_next}
 use Rattle.sides.proofs.count.Goals as goal
 use Rattle.sides.proofs.count.Goals.{After-bit}
 
@@ -13,13 +13,16 @@ turn c =
     record {
       rising = c.requires.rising;
       room = omega arith;
-      below = omega (arith, c.loop-i-test.true, c.degree.ensures.value);
+      below = omega (arith, c.loop-i-test.true, c.degree-i-end.ensures.value);
       so_far = c.loop-i.invariant;
       is = c.bit.ensures.value;
     }
 
 pub bounds-degrees-bit : goal.bounds-degrees-bit
 bounds-degrees-bit c = turn_entry (turn (goal.at.bounds-degrees-bit c).After-bit)
+
+pub bounds-degrees-bit-in-loop-i : goal.bounds-degrees-bit-in-loop-i
+bounds-degrees-bit-in-loop-i c = turn_entry (turn (goal.at.bounds-degrees-bit-in-loop-i c).After-bit)
 
 pub overflow_add-degrees : goal.overflow_add-degrees
 overflow_add-degrees c =
@@ -30,4 +33,4 @@ pub loop-i-preserved : goal.loop-i-preserved
 loop-i-preserved c = turn_next (turn (goal.at.loop-i-preserved c).After-bit) _ refl
 
 pub returns : goal.returns
-returns c = c.loop-i.invariant ∙ rw (take_all c.loop-i.i c.args.check.now (omega (arith, c.degree.ensures.value)))
+returns c = c.loop-i.invariant ∙ rw (take_all c.loop-i.i c.args.check.now (omega (arith, c.degree-i-end.ensures.value)))

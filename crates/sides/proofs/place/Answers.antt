@@ -1,7 +1,7 @@
 -- `sides::place` meets its contract: the number stands at the places of the bits so far. Assumes nothing.
 use Rattle.integers.proofs.Prelude.{◌≡◌, refl, sym, ap, ◌∙◌, ℕ, ◌+◌, ◌<◌, arith, length, get_or, take, take_all}
 use Rattle.model.specs.Limits.{most_bits}
-use Rattle.sides.proofs.Counting.{counted_none, Turn, turn_bit, turn_value, turn_next, length_placed, placed_next}
+use Rattle.sides.proofs.Counting.{counted_none, Turn, turn_value, turn_next, length_placed, placed_next}
 use Rattle.sides.proofs.place.Goals as goal
 use Rattle.sides.proofs.place.Goals.{After-bit-b, After-from-at}
 
@@ -14,7 +14,7 @@ turn c =
     record {
       rising = c.requires.rising;
       room = omega arith;
-      below = omega (arith, c.loop-i-test.true, c.degree.ensures.value);
+      below = omega (arith, c.loop-i-test.true, c.degree-i-end.ensures.value);
       so_far = c.loop-i.invariant.0;
       is = c.bit-b.ensures.value;
     }
@@ -39,13 +39,12 @@ overflow_cast-next c = omega (arith, room c, long c, c.requires.places)
 pub loop-i-preserved : goal.loop-i-preserved
 loop-i-preserved c =
     let a = c.args in
-    let t = turn (goal.at.loop-i-preserved c).After-bit-b in
-    (
+    let t = turn (goal.at.loop-i-preserved c).After-bit-b in (
       turn_next t _ (ap (λ (n : ℕ). n + 1) c.from-at.ensures),
       rw (here c, c.loop-i.invariant.1) (placed_next a.j a.next.now a.check.now a.entries.now c.loop-i.i _ t.below c.bit-b.ensures.value),
     )
 
 pub returns : goal.returns
 returns c =
-    let t = take_all c.loop-i.i c.args.check.now (omega (arith, c.degree.ensures.value)) in
+    let t = take_all c.loop-i.i c.args.check.now (omega (arith, c.degree-i-end.ensures.value)) in
     record { next = rw t at c.loop-i.invariant.0; entries = rw t at c.loop-i.invariant.1 }

@@ -1,5 +1,5 @@
 -- `sides::row` meets its contract: the bits of the check so far. Assumes nothing.
-use Rattle.integers.proofs.Prelude.{◌≡◌, ◌∙◌, sym, List, [], ◌∷◌, ◌++◌, map, ℕ, suc, ◌+◌, ◌<◌, arith, add-one, length, get_or, take}
+use Rattle.integers.proofs.Prelude.{◌≡◌, List, [], ◌∷◌, ◌++◌, map, ℕ, suc, ◌+◌, ◌<◌, arith, add-one, length, get_or, take}
 use Rattle.integers.proofs.Prelude.{take_all, take-suc}
 use mathlib.Core.List.{map-append}
 use Rattle.text.proofs.Appended.{none, one, long, then}

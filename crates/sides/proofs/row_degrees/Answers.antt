@@ -1,12 +1,10 @@
 -- `sides::row_degrees` meets its contract: the degrees of the checks so far, and their sum. Assumes nothing.
-use Rattle.integers.proofs.Prelude.{◌≡◌, refl, sym, ap, ◌∙◌, ◌≤◌, ◌<◌, List, [], ◌∷◌, map, ℕ, ◌+◌, arith, length, length-map, length-append, set, append-nil}
+use Rattle.integers.proofs.Prelude.{◌≡◌, refl, sym, ◌∙◌, ◌<◌, List, [], ◌∷◌, ◌++◌, map, ℕ, arith, length, length-map, length-append, set, append-nil}
 use Rattle.integers.proofs.Prelude.{drop_of_length-le}
 use mathlib.Core.List.{map-append}
 use Rattle.lists.specs.Tabulated.{written}
-use Rattle.lists.specs.Entries.{total}
 use Rattle.lists.proofs.Entries.{total_append}
 use Rattle.lists.proofs.Parts.{written_next}
-use Rattle.lists.proofs.Tabulated.{length_written}
 use Rattle.reader.proofs.Done.{Done, none_done, one_done, all_done, some_left}
 use Rattle.sides.proofs.row_degrees.Invariants.{Degrees}
 use Rattle.sides.proofs.row_degrees.Goals as goal
@@ -28,6 +26,11 @@ few c = omega (arith, (taken c).known.count, some_left (taken c), c.requires)
 pub overflow_add-sum : goal.overflow_add-sum
 overflow_add-sum c = omega (arith, (taken c).known.most, few c, c.degree-degree.ensures.range)
 
+put : (old : List ℕ) (done : List (List ℕ)) (check degrees : List ℕ) (j d : ℕ) → degrees ≡ written (map length done) old → j ≡ length (map length done)
+    → d ≡ length check → length (map length done) < length old → set degrees j d ≡ written (map length (done ++ (check ∷ []))) old
+put old done check degrees j d so_far place value room =
+    rw (so_far, place, value, map-append length done (check ∷ [])) (written_next (map length done) old (length check) room)
+
 pub loop-j-preserved : goal.loop-j-preserved
 loop-j-preserved c =
     let d = taken c in
@@ -35,17 +38,16 @@ loop-j-preserved c =
     let s = c.in-Some.ensures.steps in
     let done = map length d.items in
     let long : length done ≡ c.in-Some.j = omega (arith, length-map d.items length, k.count, s) in
-    let step = written_next done c.args.degrees.now (length c.in-Some.check) (omega (arith, long, few c, s)) in
     one_done d _ (record {
       count = omega (arith, s, k.count, length-append d.items (c.in-Some.check ∷ []));
-      entries = rw (map-append length d.items (c.in-Some.check ∷ []), k.entries, c.degree-degree.ensures.value, sym long) step;
+      entries = put c.args.degrees.now d.items c.in-Some.check _ _ _ k.entries (sym long) c.degree-degree.ensures.value (omega (arith, long, few c, s));
       total_is = omega (arith, k.total_is, c.degree-degree.ensures.value, total_append length d.items (c.in-Some.check ∷ []));
       most = omega (arith, k.most, s, c.degree-degree.ensures);
     })
 
 pub returns : goal.returns
 returns c =
-    let known = all_done (rw c.in-None.ensures.steps.0 at c.loop-j.invariant) in
+    let known = all_done (rw c.in-None.ensures.steps.0.0 at c.loop-j.invariant) in
     let n = length c.args.degrees.now in
     record {
       degrees = known.entries ∙ rw (drop_of_length-le c.args.degrees.now {i = length (map length c.args.code.now.checks)} (omega (arith, c.requires, length-map c.args.code.now.checks length))) (append-nil _);

@@ -1,5 +1,5 @@
 -- `sides::row_entries` meets its contract: the rows so far. Assumes nothing.
-use Rattle.integers.proofs.Prelude.{◌≡◌, ◌+◌, ◌≤◌, List, [], ◌∷◌, arith, length}
+use Rattle.integers.proofs.Prelude.{◌∷◌, arith, length}
 use Rattle.reader.proofs.Done.{Done, none_done, one_done, all_done, total_left}
 use Rattle.text.specs.Appended.{Appended}
 use Rattle.text.proofs.Appended.{none, long, then}
@@ -18,7 +18,7 @@ taken c = rw c.in-Some.ensures.steps at c.loop-check.invariant
 
 pub row-at-requires : goal.row-at-requires
 row-at-requires c =
-    let d = taken c in
+    let d = taken (goal.at.row-at-requires c).In-Some in
     omega (arith, d.known.ends, length_rows d.items, total_left d length, long d.known, c.requires)
 
 pub loop-check-preserved : goal.loop-check-preserved
@@ -28,4 +28,4 @@ loop-check-preserved c =
 
 pub returns : goal.returns
 returns c =
-    whole (all_done (rw c.in-None.ensures.steps at c.loop-check.invariant)) (omega (arith, length_rows c.args.code.now.checks, c.requires))
+    whole (all_done (rw c.in-None.ensures.steps.0 at c.loop-check.invariant)) (omega (arith, length_rows c.args.code.now.checks, c.requires))
