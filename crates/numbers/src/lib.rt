@@ -27,8 +27,8 @@ impl<'a> Model for Numbers<'a> {
 // The columns or the rows of a text: how many there are, the largest degree, and the numbers from their degrees and from their lists on.
 #[derive(Drop)]
 pub struct Side<'a> {
-    pub count: usize,
-    pub most: usize,
+    pub count: u16,
+    pub most: u16,
     pub degrees: Numbers<'a>,
     pub lists: Numbers<'a>,
 }
