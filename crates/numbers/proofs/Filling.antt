@@ -7,8 +7,8 @@ use Rattle.model.specs.Limits.{most_number}
 use Rattle.model.specs.Causes.{outside}
 use Rattle.model.specs.Alist.{separator, further, numbers_of}
 use Rattle.model.proofs.Spelling.{numbers_end, walk_apart, walk_more, walk_end, by_byte, further_most, further_digit}
-use Rattle.numbers.specs.Walked.{from, none, Small, Filled}
-use Rattle.numbers.proofs.Walk.{walk_begin, walk_out, first_behind, small_at}
+use Rattle.numbers.specs.Walked.{none, Small, Filled}
+use Rattle.numbers.proofs.Walk.{from, walk_begin, walk_out, first_behind, small_at}
 
 -- ---- bytes
 -- with one byte more a number is not smaller
@@ -142,8 +142,8 @@ module _ (s l : List ℕ) (n : ℕ) (values : List ℕ) (value inside k i : ℕ)
             rw (next (λ x. omega arith) ∙ v, z, same (omega (arith, r.bit)), add-one i) d.2
 
   -- ---- the end of the list, and of the text
-  module _ (at : ℕ) (e : from s at ≡ l) where
-    full : (values' : List ℕ) (k' : ℕ) → length values' ≡ n → k' ≡ n → take k' values' ≡ take k' l → from s i ≡ drop k' l → Filled s at values' i
+  module _ (e : numbers_of 0 s ≡ l) where
+    full : (values' : List ℕ) (k' : ℕ) → length values' ≡ n → k' ≡ n → take k' values' ≡ take k' l → from s i ≡ drop k' l → Filled s values' i
     full values' k' g o t d =
         let m : k' ≡ length values' = o ∙ sym g in
         record {
@@ -152,14 +152,14 @@ module _ (s l : List ℕ) (n : ℕ) (values : List ℕ) (value inside k i : ℕ)
           within = r.within.1;
         }
 
-    pub read_all : n ≤ k → Filled s at values i
+    pub read_all : n ≤ k → Filled s values i
     read_all o =
         full values k r.long (omega (arith, r.within.0)) r.done (between (omega (arith, r.whole)))
 
-    pub read_last : k < n → length s ≤ i → Filled s at (set values k value) i
+    pub read_last : k < n → length s ≤ i → Filled s (set values k value) i
     read_last j o = by inside refl
       where
-        by : (x : ℕ) → inside ≡ x → Filled s at (set values k value) i
+        by : (x : ℕ) → inside ≡ x → Filled s (set values k value) i
         by zero z =
             absurd (omega (arith, ap length (sym (walk_end 0 s i o) ∙ between z), length-drop k l, h.long))
         by (suc x) z =
