@@ -3,3 +3,4 @@ pub mod Left
 pub mod Writing
 pub mod Counting
 pub mod Lent
+pub mod Splits
