@@ -1,5 +1,5 @@
 -- The answers of the splitting, by its causes in their order. Assumes nothing.
-use Rattle.integers.proofs.Prelude.{◌≡◌, ap₂, true, false, ◌||◌, List, ℕ, zero, suc, ◌*◌, ◌≤◌, ◌<◌, arith, lt-ltb, le-ltb, length}
+use Rattle.integers.proofs.Prelude.{◌≡◌, ap₂, true, ◌||◌, List, ℕ, zero, suc, ◌*◌, ◌≤◌, ◌<◌, arith, lt-ltb, le-ltb, length}
 use Rattle.lists.specs.Tabulated.{written}
 use Rattle.model.specs.Causes.{short}
 use Rattle.model.specs.Code.{Code, triples, variables}

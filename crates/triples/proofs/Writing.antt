@@ -3,7 +3,7 @@ use Rattle.integers.proofs.Prelude.{◌≡◌, refl, sym, ap, ◌∙◌, List, [
 use Rattle.lists.specs.Tabulated.{written}
 use Rattle.lists.proofs.Tabulated.{length_written}
 use Rattle.lists.proofs.Parts.{written_more}
-use Rattle.model.specs.Code.{Code, turns, triple_count, triples}
+use Rattle.model.specs.Code.{Code, turns, triple_count}
 use Rattle.model.specs.Sound.{Sound}
 use Rattle.model.specs.Splitting.{triples_of, triples_from, system_of}
 use Rattle.model.proofs.TripleRule.{triples_of_long, members_long}

@@ -1,13 +1,7 @@
 -- `triples::item` meets its contract: a bit of the check, the blank behind two, or an auxiliary. Assumes nothing.
 use Rattle.integers.proofs.Prelude.{sym, ◌∙◌, arith}
-use Rattle.triples.proofs.Items.{length_waiting, item_bit, item_blank, item_auxiliary}
+use Rattle.triples.proofs.Items.{item_bit, item_blank, item_auxiliary}
 use Rattle.triples.proofs.item.Goals as goal
-
-pub overflow_add-result : goal.overflow_add-result
-overflow_add-result c = omega (arith, length_waiting c.args.check.now)
-
-pub overflow_cast-result-else-d-lt3 : goal.overflow_cast-result-else-d-lt3
-overflow_cast-result-else-d-lt3 c = omega (arith, length_waiting c.args.check.now)
 
 pub returns-then-i-d : goal.returns-then-i-d
 returns-then-i-d c =

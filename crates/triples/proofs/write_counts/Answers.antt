@@ -1,4 +1,4 @@
-use Rattle.integers.proofs.Prelude.{◌≡◌, sym, ◌∙◌, ◌≤◌, arith, length, length-take-le}
+use Rattle.integers.proofs.Prelude.{sym, ◌∙◌, ◌≤◌, arith, length, length-take-le}
 use Rattle.model.specs.Code.{variables}
 use Rattle.model.specs.Splitting.{system_of}
 use Rattle.triples.proofs.Counting.{none_counted, may_count, one_counted, all_counted}

@@ -1,4 +1,4 @@
-use Rattle.integers.proofs.Prelude.{◌≡◌, ◌∷◌, arith, length, length-drop, take}
+use Rattle.integers.proofs.Prelude.{◌∷◌, arith, length-drop}
 use Rattle.lists.proofs.Parts.{part_from}
 use Rattle.triples.proofs.Left.{check_sound, next_most}
 use Rattle.triples.proofs.Writing.{Written, none_written, all_written, length_now, room_left, check_written}
