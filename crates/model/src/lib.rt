@@ -3,6 +3,7 @@
 
 ghost use Rattle.std.specs.Prelude.{◌≡◌};
 ghost use Rattle.model.specs.Causes.{number};
+ghost use Rattle.model.specs.Calls.{run_told, decoding_told};
 
 // ---- the limits, which specs/Limits.antt has under the same names
 
@@ -175,6 +176,35 @@ pub struct DecodeAnswer {
     pub place: usize,
     pub k: u32,
     pub settled: u32,
+}
+
+// What is told of a run to a caller from C; of a refused one only the cause's number.
+impl From<Result<Decoding, Cause>> for DecodeAnswer {
+    ghost from_gives = { λ decoded told. run_told told ≡ decoding_told decoded };
+
+    fn from(decoded: Result<Decoding, Cause>) -> DecodeAnswer {
+        match decoded {
+            Ok(Decoding { conclusion, ending }) => {
+                let (number, place) = match conclusion {
+                    Conclusion::Word => (0, 0),
+                    Conclusion::Undecided(v) => (16, v),
+                    Conclusion::Odd(j) => (17, j),
+                };
+                DecodeAnswer {
+                    number,
+                    place,
+                    k: ending.k,
+                    settled: u32::from(ending.settled),
+                }
+            }
+            Err(cause) => DecodeAnswer {
+                number: cause.number(),
+                place: 0,
+                k: 0,
+                settled: 0,
+            },
+        }
+    }
 }
 
 // A group's answer: its number, and what is told of each frame. Past the group's frames, and of a refused group, all numbers are 0.

@@ -100,6 +100,7 @@ impl<'a> Code<'a> {
     pub fn triples(&self) -> usize
         ensures value { result ≡ triples self.now }
         ensures most { result ≤ most_triples }
+        ensures sound { Sound self.now }
     {
         self.sizes.triples
     }
@@ -108,6 +109,7 @@ impl<'a> Code<'a> {
     pub fn variables(&self) -> usize
         ensures value { result ≡ variables self.now }
         ensures most { result ≤ most_variables }
+        ensures sound { Sound self.now }
     {
         self.sizes.bits + self.sizes.triples - self.sizes.checks
     }
