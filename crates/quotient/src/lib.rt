@@ -127,7 +127,7 @@ fn scaled(n: i32, inverse: u32, raise: u64) -> i32
     requires { (pos 0 ≤ℤ n) × (nat_abs n < 2 ^ 29) × (raise ≤ 2 ^ 41) }
     ensures { result ≡ pos ((nat_abs n * inverse + raise) / 2 ^ 42) }
 {
-    (((n as u32 as u64) * (inverse as u64) + raise) >> 42) as i32
+    ((u64::from(n as u32) * u64::from(inverse) + raise) >> 42) as i32
 }
 
 // (256 n + 255) * inverse + raise at the scale of 2^42, rounded down. Its last eight bits do not matter, so n is multiplied as it is.
@@ -135,8 +135,8 @@ fn scaled_alone(n: i32, inverse: u32, raise: u64) -> i32
     requires { (pos 0 ≤ℤ n) × (nat_abs n ≤ 2 ^ 20) × (raise ≤ 2 ^ 41) }
     ensures { result ≡ pos (((256 * nat_abs n + 255) * inverse + raise) / 2 ^ 42) }
 {
-    let rest = (255 * (inverse as u64) + raise) >> 8;
-    (((n as u32 as u64) * (inverse as u64) + rest) >> 34) as i32
+    let rest = (255 * u64::from(inverse) + raise) >> 8;
+    ((u64::from(n as u32) * u64::from(inverse) + rest) >> 34) as i32
 }
 
 // A divisor of lanes made ready: a 256th of the limit, what stands for the divisor in a product, and what is added to the product. A contract sees the divisor
