@@ -74,6 +74,7 @@ fn by_division(x: i64, den: i64) -> i16
 const PREPARED: usize = 31;
 
 // The divisors of variables, by the ratio of a run: those of variables in 1 to 31 triples are made ready once. A contract sees the ratio.
+#[derive(Drop)]
 pub struct Divisors {
     ratio: u32,
     prepared: [Divisor; PREPARED],
