@@ -1,5 +1,5 @@
 -- One iteration in lanes. Definitions only.
-use Rattle.std.specs.Prelude.{Bool, not, ◌||◌, List, ◌≡◌, ℕ, ◌+◌, ◌*◌, ◌≤◌, ◌<◌, eqb, ℤ, pos, nat_abs, ◌*ℤ◌, get_or, ◌≤ℤ◌}
+use Rattle.std.specs.Prelude.{Bool, false, ◌||◌, List, ◌≡◌, ℕ, ◌+◌, ◌*◌, ◌≤◌, ◌<◌, ℤ, pos, nat_abs, ◌*ℤ◌, get_or, ◌≤ℤ◌}
 use Rattle.lists.specs.Tabulated.{tab}
 use Rattle.quotient.specs.Quotient.{unit}
 use Rattle.model.specs.Code.{Code}
@@ -11,10 +11,10 @@ use Rattle.lanes.specs.Lanes.{in_lane, values_at, lane_rows, lane_sums, lane_wei
 use Rattle.lane_values.specs.Valued.{WeighedWithin}
 
 -- a frame runs, by its mark, in one of the four lanes from l on
-abbrev pub runs : List ℕ → ℕ → Bool
-runs running f = not (eqb (get_or running f 0) 0)
+abbrev pub runs : List Bool → ℕ → Bool
+runs running f = get_or running f false
 
-abbrev pub some_run : List ℕ → ℕ → Bool
+abbrev pub some_run : List Bool → ℕ → Bool
 some_run running l = runs running l || (runs running (l + 1) || (runs running (l + 2) || runs running (l + 3)))
 
 -- the system of the code k that the plan's sizes and the triples ts make

@@ -1,5 +1,5 @@
 -- `lane_renewal::count_rows` meets its contract: after r turns the totals have grown by the changes of r rows. Assumes nothing.
-use Rattle.integers.proofs.Prelude.{ℕ, ◌+◌, ◌*◌, ◌^◌, ◌≤◌, ◌<◌, arith, add-one, List, ℤ, pos, negsuc, nat_abs, get_or}
+use Rattle.integers.proofs.Prelude.{ℕ, ◌+◌, ◌*◌, ◌^◌, ◌≤◌, ◌<◌, arith, add-one, List, ℤ, pos, negsuc, nat_abs}
 use Rattle.integers.proofs.Sums.{sum_ℕ_bound}
 use Rattle.model.specs.Limits.{most_row}
 use Rattle.model.specs.Iteration.{at}
