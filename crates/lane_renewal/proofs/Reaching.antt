@@ -1,13 +1,11 @@
 -- Totals of lanes, as loops over lanes see them. Assumes nothing.
-use Rattle.integers.proofs.Prelude.{◌≡◌, refl, ◌∙◌, List, ℕ, zero, suc, ◌+◌, ◌≤◌, ◌<◌, arith, dec_lt, length, get_or, set, length-set}
+use Rattle.integers.proofs.Prelude.{◌≡◌, refl, ◌∙◌, List, ℕ, ◌+◌, ◌≤◌, ◌<◌, arith, dec_lt, length, get_or, set, length-set}
 use lib.Seq.{get_or-set_same, get_or-set_other}
-use Rattle.lists.specs.Tabulated.{tab}
-use Rattle.lane_renewal.specs.Counting.{Grown}
 
 -- those of the lanes from..l have grown by f, and the others are as they were
 pub record Reached (f : ℕ → ℕ) (from : ℕ) (old new : List ℕ) (l : ℕ) : Type 0 where
   pub long : length new ≡ length old
-  pub done : Grown from l f old new
+  pub done : (k : ℕ) → from ≤ k → k < l → get_or new k 0 ≡ get_or old k 0 + f k
   pub left : (k : ℕ) → l ≤ k → get_or new k 0 ≡ get_or old k 0
 
 module _ (f : ℕ → ℕ) (from : ℕ) (old : List ℕ) where
@@ -24,9 +22,3 @@ module _ (f : ℕ → ℕ) (from : ℕ) (old : List ℕ) where
       by : (k : ℕ) → from ≤ k → Dec (k < l) → k < l + 1 → get_or (set new l x) k 0 ≡ get_or old k 0 + f k
       by k a (yes m) b = get_or-set_other new l k x 0 (λ p. omega arith) ∙ r.done k a m
       by k a (no m) b = let p : k ≡ l = omega arith in rw (p, get_or-set_same new l x 0 (omega (arith, r.long))) (omega (arith, e, r.left l (omega arith)))
-
--- totals that are cleared
-pub cleared : (n l : ℕ) → ◌≡◌ {A = ℕ} (get_or (tab n (λ _. 0)) l 0) 0
-cleared zero l = refl
-cleared (suc n) zero = refl
-cleared (suc n) (suc l) = cleared n l
