@@ -1,7 +1,7 @@
 // A writer of bytes and decimal numbers, in ASCII, to a list that is lent.
 #![tactic(auto)]
 
-ghost use Rattle.std.specs.Prelude.{◌≡◌, [], ◌∷◌, ◌++◌, ◌+◌, ◌%◌, ◌≤◌, ◌<◌, length};
+ghost use Rattle.std.specs.Prelude.{◌≡◌, [], ◌∷◌, ◌++◌, ◌+◌, ◌-◌, ◌%◌, ◌≤◌, ◌<◌, length};
 ghost use Rattle.model.specs.Text.{decimal};
 
 // A lent list of bytes, of which the first `written` are written.
@@ -20,6 +20,7 @@ fn digit(x: usize) -> u8
 }
 
 impl<'a> Writer<'a> {
+    ghost use Rattle.text.specs.Appended.{Appended};
     ghost use Rattle.text.specs.Wrote.{Room, Wrote};
 
     // A writer of which nothing is written yet.
@@ -37,6 +38,15 @@ impl<'a> Writer<'a> {
     {
         self.bytes[self.written] = byte;
         self.written += 1;
+    }
+
+    // Writes a byte in the place of the last that was written.
+    pub fn replace_last(&mut self, byte: u8)
+        requires { 1 ≤ self.old.written }
+        ensures bytes { Appended (self.old.written - 1) (byte ∷ []) self.old.bytes.now self.new.bytes.now self.new.written }
+        ensures same { self.new.bytes.ghost_name ≡ self.old.bytes.ghost_name }
+    {
+        self.bytes[self.written - 1] = byte;
     }
 
     // Writes the decimal digits of `x`.
