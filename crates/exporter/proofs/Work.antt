@@ -1,16 +1,15 @@
 -- The lists that a measure and a text are made by: what the calls of `sides` want and give there. Assumes nothing.
-use Rattle.integers.proofs.Prelude.{◌≡◌, sym, ap, ◌∙◌, List, ◌++◌, map, ℕ, suc, ◌≤◌, arith, length, length-map}
-use Rattle.lists.specs.Tabulated.{tab, written}
+use Rattle.integers.proofs.Prelude.{◌≡◌, sym, ap, ◌∙◌, List, map, ℕ, suc, ◌≤◌, arith, length, length-map}
+use Rattle.lists.specs.Tabulated.{tab}
 use Rattle.lists.specs.Entries.{total, sum}
 use Rattle.lists.proofs.Tabulated.{length_tab}
 use Rattle.lists.proofs.Entries.{total_map}
-use Rattle.model.specs.Limits.{most_bits, most_checks}
 use Rattle.model.specs.Code.{Code}
 use Rattle.model.specs.Alist.{column_from, columns_of, rows_of, alist_of}
 use Rattle.model.specs.AlistClaims.{joined}
 use Rattle.text.specs.declared.Writer.{Writer}
 use Rattle.text.specs.Wrote.{Room}
-use Rattle.exporter.specs.Lines.{SideLists, Lists, Fitted}
+use Rattle.exporter.specs.Lines.{SideLists, Lists}
 use Rattle.exporter.proofs.Texts.{degrees_of_columns, degrees_of_rows, column_degrees_are, row_degrees_are, columns_joined, rows_joined}
 use Rattle.exporter.proofs.Texts.{columns_total, few, columns_side, rows_side, text_from, text_is}
 

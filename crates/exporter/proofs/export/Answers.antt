@@ -1,7 +1,6 @@
 -- `exporter::export` meets its contract: the judgement, and the text of an accepted code where it fits. Assumes nothing.
 use Rattle.std.proofs.lemmas.Result.{err_from_is_err_and}
 use Rattle.integers.proofs.Prelude.{sym, arith}
-use Rattle.model.specs.RecordClaims.{Bytes}
 use Rattle.model.proofs.Told.{determined}
 use Rattle.exporter.proofs.Answers.{export_refused, export_short, export_done}
 use Rattle.exporter.proofs.export.Goals as goal

@@ -4,7 +4,7 @@ use denote.MutBor.{MutBor}
 use Rattle.lists.specs.Tabulated.{tab, written}
 use Rattle.model.specs.Alist.{column_from, alist_of}
 use Rattle.model.specs.AlistClaims.{joined}
-use Rattle.text.specs.Wrote.{Room, Wrote}
+use Rattle.text.specs.Wrote.{Room}
 use Rattle.text.proofs.Wrote.{then, room_here, room_next, front}
 use Rattle.exporter.specs.Lines.{head_text, lists_text}
 use Rattle.exporter.proofs.Work.{places_asked, side_columns, side_rows, text, room}

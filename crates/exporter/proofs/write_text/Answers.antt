@@ -1,5 +1,5 @@
 -- `exporter::write_text` meets its contract: parts of its own lists are lent. Assumes nothing.
-use Rattle.integers.proofs.Prelude.{◌≡◌, sym, ap, ◌∙◌, ◌≤◌, arith, length, length-map, length-take-le, take_at}
+use Rattle.integers.proofs.Prelude.{sym, ap, ◌∙◌, ◌≤◌, arith, length, length-map, length-take-le, take_at}
 use Rattle.model.specs.declared.Sizes.{Sizes}
 use Rattle.model.specs.Limits.{most_places}
 use Rattle.exporter.proofs.Texts.{few}

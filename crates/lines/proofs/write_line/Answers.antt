@@ -1,8 +1,7 @@
 -- `lines::write_line` meets its contract: each case has its letter, and a refusal's number is none of an outcome. Assumes nothing.
-use Rattle.integers.proofs.Prelude.{◌≡◌, List, ℕ, ◌∙◌, ap, arith, ne_eqb}
+use Rattle.integers.proofs.Prelude.{◌≡◌, List, ℕ, arith, ne_eqb}
 use Rattle.model.specs.declared.Cause.{Cause}
 use Rattle.model.specs.Causes.{number}
-use Rattle.model.specs.Calls.{Answer}
 use Rattle.model.proofs.Told.{determined}
 use Rattle.program.specs.Frames.{refusal, spaced, line}
 use Rattle.lines.proofs.write_line.Goals as goal
