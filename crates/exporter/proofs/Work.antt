@@ -12,8 +12,9 @@ use Rattle.model.specs.Records.{checks_in, judge_checks}
 use Rattle.model.specs.Alist.{column_from, columns_of, rows_of, alist_of}
 use Rattle.model.specs.AlistClaims.{joined}
 use Rattle.model.proofs.Accepted.{length_checks}
+use Rattle.text.specs.declared.Writer.{Writer}
+use Rattle.text.specs.Wrote.{Room}
 use Rattle.exporter.specs.Lines.{SideLists, code_from, Accepted, Lists, Fitted}
-use Rattle.exporter.proofs.Lines.{Room, room_start}
 use Rattle.exporter.proofs.Texts.{degrees_of_columns, degrees_of_rows, column_degrees_are, row_degrees_are, columns_joined, rows_joined}
 use Rattle.exporter.proofs.Texts.{columns_total, few, columns_side, rows_side, text_from, text_is}
 
@@ -98,9 +99,9 @@ module _ (s columns rows entries : List ℕ) (w : Lists s columns rows entries) 
         pub text : alist_of code ≡ text_from d rows e f
         text = text_is code ∙ same_text (sym columns_are) (sym rows_are) (sym entries_are) (sym row_entries_are)
 
-        -- a list with room for the text has room for its parts
-        pub room : (t : List ℕ) → length (alist_of code) ≤ length t → Room 0 (text_from d rows e f) t
-        room t h = room_start (text_from d rows e f) t (omega (arith, ap length text))
+        -- a writer with room for the text has room for its parts
+        pub room : (o : Writer) → Room (length (alist_of code)) o → Room (length (text_from d rows e f)) o
+        room o h = omega (arith, ap length text)
 
 -- ---- such lists as parts of longer ones, x, y and z; the degrees of the rows come back from a loan as p, and their sum is r
 pub record Prepared (s : List ℕ) (n m r : ℕ) (x y z p : List ℕ) : Type 0 where

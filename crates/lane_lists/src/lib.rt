@@ -5,7 +5,7 @@ ghost use Rattle.std.specs.Prelude.{◌≡◌, ℕ, ◌+◌, ◌*◌, ◌^◌, �
 ghost use Rattle.quotient.specs.Quotient.{unit};
 ghost use Rattle.model.specs.Limits.{most_weight, most_cost};
 ghost use Rattle.model.specs.Iteration.{at};
-ghost use Rattle.lanes.specs.Lanes.{in_lane, values_at, sums_at, weighed_at, Fits, lane_rows, lane_values, lane_sum, lane_sums};
+ghost use Rattle.lanes.specs.Lanes.{in_lane, values_at, sums_at, weighed_at, Fits, Raised, lane_rows, lane_values, lane_sum, lane_sums};
 
 use lanes::Plan;
 
@@ -16,21 +16,21 @@ fn weighed(weight: u32, cost: i16) -> i32
     requires { (weight ≤ most_weight) × (nat_abs cost ≤ most_cost) }
     ensures { result ≡ pos weight *ℤ cost }
 {
-    ((weight as i64) * (cost as i64)) as i32
+    (i64::from(weight) * i64::from(cost)) as i32
 }
 
 // Lane l gets the costs of its frame.
 pub fn put_costs(costs: &[i16], weight: u32, p: Plan, l: usize, work: &mut [i32])
     requires fits { Fits p work.old × (l < p.lanes) × (length costs.now ≡ p.bits) }
-    requires weight_le_most_weight { (weight ≤ most_weight) × ((b : ℕ) → nat_abs (at costs.now b) ≤ most_cost) }
-    ensures fits_2 { Fits p work.new }
-    ensures by_index { (b : ℕ) → b < p.bits
+    requires in_range { (weight ≤ most_weight) × ((b : ℕ) → nat_abs (at costs.now b) ≤ most_cost) }
+    ensures fits { Fits p work.new }
+    ensures costs_are_in { (b : ℕ) → b < p.bits
         → in_lane p.lanes work.new l (weighed_at p + b) ≡ pos weight *ℤ at costs.now b }
-    ensures by_index_2 { (j : ℕ) → j < weighed_at p → in_lane p.lanes work.new l j ≡ in_lane p.lanes work.old l j }
-    ensures by_index_3 { (m j : ℕ) → m < p.lanes → (m ≡ l → ⊥)
+    ensures before { (j : ℕ) → j < weighed_at p → in_lane p.lanes work.new l j ≡ in_lane p.lanes work.old l j }
+    ensures other_lanes { (m j : ℕ) → m < p.lanes → (m ≡ l → ⊥)
         → in_lane p.lanes work.new m j ≡ in_lane p.lanes work.old m j }
 {
-    let first = lanes::weighed_at(p) + l;
+    let first = p.weighed_at() + l;
     for b in 0..costs.len() {
         work[first + p.lanes * b] = weighed(weight, costs[b]);
     }
@@ -40,16 +40,14 @@ pub fn put_costs(costs: &[i16], weight: u32, p: Plan, l: usize, work: &mut [i32]
 pub fn begin(p: Plan, work: &mut [i32])
     requires { Fits p work.old }
     ensures fits { Fits p work.new }
-    ensures by_index { (l v : ℕ) → l < p.lanes → v < p.variables → in_lane p.lanes work.new l (values_at p + v) ≡ pos unit }
-    ensures by_index_2 { (l j : ℕ) → l < p.lanes → j < values_at p → in_lane p.lanes work.new l j ≡ pos 0 }
-    ensures by_index_3 { (l j : ℕ) → l < p.lanes → sums_at p 0 ≤ j → in_lane p.lanes work.new l j ≡ pos 0 }
+    ensures values_are_unit { (l v : ℕ) → l < p.lanes → v < p.variables → in_lane p.lanes work.new l (values_at p + v) ≡ pos unit }
+    ensures before_zero { (l j : ℕ) → l < p.lanes → j < values_at p → in_lane p.lanes work.new l j ≡ pos 0 }
+    ensures behind_zero { (l j : ℕ) → l < p.lanes → sums_at p 0 ≤ j → in_lane p.lanes work.new l j ≡ pos 0 }
 {
-    slices::clear_i32(work);
-    let from = lanes::values_at(p);
-    let to = lanes::sums_at(p, 0);
-    for i in from..to {
-        work[i] = 16384;
-    }
+    work.fill(0);
+    let from = p.values_at();
+    let to = p.sums_at(0);
+    work[from..to].fill(16384);
 }
 
 // ---- out
@@ -75,10 +73,10 @@ fn lowered(x: i32) -> i16
 // Its values.
 pub fn take_values(work: &[i32], p: Plan, l: usize, values: &mut [i16])
     requires fits { Fits p work.now × (l < p.lanes) × (length values.old ≡ p.variables) }
-    requires by_index { (v : ℕ) → v < p.variables → let x = in_lane p.lanes work.now l (values_at p + v) in (pos 0 ≤ℤ x) × (nat_abs x ≤ 2 * unit) }
+    requires raised { Raised p work.now l }
     ensures { values.new ≡ lane_values p work.now l }
 {
-    let first = lanes::values_at(p) + l;
+    let first = p.values_at() + l;
     for v in 0..values.len() {
         values[v] = lowered(work[first + p.lanes * v]);
     }
@@ -88,7 +86,7 @@ pub fn take_values(work: &[i32], p: Plan, l: usize, values: &mut [i16])
 fn whole(low: i32, high: i32) -> i64
     ensures { result ≡ low +ℤ pos (2 ^ 14) *ℤ high }
 {
-    (low as i64) + 16384 * (high as i64)
+    i64::from(low) + 16384 * i64::from(high)
 }
 
 // S of variable v: that of a bit has a high part, which stands behind the sums. The sums of lane l begin at `first`.
@@ -100,7 +98,7 @@ fn sum_in(work: &[i32], p: Plan, i: usize, l: usize, first: usize, v: usize) -> 
     if v < p.bits {
         whole(low, work[first + p.lanes * (p.variables + v)])
     } else {
-        low as i64
+        i64::from(low)
     }
 }
 
@@ -109,7 +107,7 @@ pub fn take_sums(work: &[i32], p: Plan, i: usize, l: usize, sums: &mut [i64])
     requires { Fits p work.now × (l < p.lanes) × (i ≤ 1) × (length sums.old ≡ p.variables) }
     ensures { sums.new ≡ lane_sums p i work.now l }
 {
-    let first = lanes::sums_at(p, i) + l;
+    let first = p.sums_at(i) + l;
     for v in 0..sums.len() {
         sums[v] = sum_in(work, p, i, l, first, v);
     }

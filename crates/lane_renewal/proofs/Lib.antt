@@ -1,2 +1,3 @@
-pub mod Totals
+pub mod Reaching
+pub mod Tripling
 pub mod Walking

@@ -17,6 +17,7 @@ use Rattle.lanes.specs.declared.Plan.{Plan}
 use Rattle.lanes.specs.Lanes.{in_lane, values_at, Fits, lane_rows, lane_values, low_part, high_part}
 use Rattle.lanes.proofs.Places.{place_below}
 use Rattle.lane_triples.specs.Walk.{Due, new_rows, Walked, SameBeside}
+use Rattle.lane_renewal.specs.declared.Totals.{Totals}
 use Rattle.lane_renewal.specs.Counting.{settled_in, rows_change, Comparable, AtMost, Grown, NoneWithin, lane_changes, Counted}
 
 -- ---- one lane: how large its rows and totals are
@@ -68,9 +69,9 @@ module _ (p : Plan) (ts : List ℕ) (w : List ℤ) (l : ℕ) where
 
 -- ---- the lanes from..to
 module _ (p : Plan) (ts counts : List ℕ) (i from to : ℕ) (w : List ℤ) where
-  pub counted_none : (multipliers slacks : List ℕ) → Fits p w → ((l : ℕ) → from ≤ l → l < to → Due p i w l) → ((l : ℕ) → (get_or multipliers l 0 ≡ 0) × (get_or slacks l 0 ≡ 0))
-      → Counted p ts counts i from to w 0 w multipliers slacks
-  counted_none multipliers slacks fits due zero = record {
+  pub counted_none : (totals : Totals) → Fits p w → ((l : ℕ) → from ≤ l → l < to → Due p i w l) → ((l : ℕ) → (get_or totals.multipliers l 0 ≡ 0) × (get_or totals.slacks l 0 ≡ 0))
+      → Counted p ts counts i from to w 0 w totals
+  counted_none totals fits due zero = record {
     few = omega arith;
     fits = fits;
     walked = λ l f h. walked_none p ts w l (due l f h) counts;
@@ -80,18 +81,21 @@ module _ (p : Plan) (ts counts : List ℕ) (i from to : ℕ) (w : List ℤ) wher
   }
 
   -- how large their totals are
-  pub counted_small : {t : ℕ} {w' : List ℤ} {multipliers slacks : List ℕ} → Counted p ts counts i from to w t w' multipliers slacks → p.triples ≤ most_triples
-      → ((l : ℕ) → from ≤ l → l < to → Due p i w l) → AtMost from to (2 ^ 62) multipliers × AtMost from to (2 ^ 62) slacks
-  counted_small {t} c few due = (λ l f h. omega (arith, c.of_multipliers l f h, (small l f h).0), λ l f h. omega (arith, c.of_slacks l f h, (small l f h).1))
+  pub counted_small : {t : ℕ} {w' : List ℤ} {totals : Totals} → Counted p ts counts i from to w t w' totals → p.triples ≤ most_triples
+      → ((l : ℕ) → from ≤ l → l < to → Due p i w l) → AtMost from to (2 ^ 62) totals
+  counted_small {t} c few due = record {
+    multipliers = λ l f h. omega (arith, c.of_multipliers l f h, (small l f h).0);
+    slacks = λ l f h. omega (arith, c.of_slacks l f h, (small l f h).1);
+  }
     where
       small : (l : ℕ) → from ≤ l → l < to → (lane_changes (pos 1) p ts w l t ≤ 2 ^ 47) × (lane_changes (negsuc 0) p ts w l t ≤ 2 ^ 47)
       small l f h = totals_small p ts w l (due l f h) t few c.few
 
   -- whether a frame that runs settles
-  pub settled : (X t : ℕ) (running multipliers slacks : List ℕ) (w' : List ℤ) → Counted p ts counts i from to w t w' multipliers slacks
-      → (t < p.triples → NoneWithin X running multipliers slacks from to) → (l : ℕ) → from ≤ l → l < to → 0 < get_or running l 0
-      → settled_in X multipliers slacks l ≡ settled_by X p.triples (lane_rows p w l) (new_rows p ts w l)
-  settled X t running multipliers slacks w' c none l f h runs =
+  pub settled : (X t : ℕ) (running : List Bool) (totals : Totals) (w' : List ℤ) → Counted p ts counts i from to w t w' totals
+      → (t < p.triples → NoneWithin X running totals from to) → (l : ℕ) → from ≤ l → l < to → get_or running l false ≡ true
+      → settled_in X totals l ≡ settled_by X p.triples (lane_rows p w l) (new_rows p ts w l)
+  settled X t running totals w' c none l f h runs =
       let m = c.of_multipliers l f h in
       let s = c.of_slacks l f h in
       let M = whole_is p ts w l (pos 1) multiplier side_multiplier in
@@ -100,20 +104,20 @@ module _ (p : Plan) (ts counts : List ℕ) (i from to : ℕ) (w : List ℤ) wher
       (omega (arith, m, M, part_most p ts w l (pos 1) t c.few)) (omega (arith, s, S, part_most p ts w l (negsuc 0) t c.few))
       (λ a b. let e = all a b (dec_lt t p.triples) in (m ∙ ap (lane_changes (pos 1) p ts w l) e ∙ M, s ∙ ap (lane_changes (negsuc 0) p ts w l) e ∙ S))
     where
-      all : get_or multipliers l 0 ≤ X → get_or slacks l 0 ≤ X → Dec (t < p.triples) → t ≡ p.triples
+      all : get_or totals.multipliers l 0 ≤ X → get_or totals.slacks l 0 ≤ X → Dec (t < p.triples) → t ≡ p.triples
       all a b (yes k) = absurd (none k l f h runs a b)
       all a b (no k) = omega (arith, c.few)
 
 -- ---- n triples more: `before` keeps their rows, which stood in w₁, and w₂ has the renewed ones
-pub record Block (p : Plan) (ts counts : List ℕ) (i from to : ℕ) (w : List ℤ) (t : ℕ) (w₁ : List ℤ) (m s : List ℕ) (n : ℕ) (before w₂ : List ℤ) : Type 0 where
-  pub so_far : Counted p ts counts i from to w t w₁ m s
+pub record Block (p : Plan) (ts counts : List ℕ) (i from to : ℕ) (w : List ℤ) (t : ℕ) (w₁ : List ℤ) (totals : Totals) (n : ℕ) (before w₂ : List ℤ) : Type 0 where
+  pub so_far : Counted p ts counts i from to w t w₁ totals
   pub few : t + n ≤ p.triples
   pub room : to ≤ p.lanes
   pub kept : (k : ℕ) → k < p.lanes * (4 * n) → at before k ≡ at w₁ (p.lanes * (4 * t) + k)
   pub walked : (l : ℕ) → from ≤ l → l < to → Walked p ts counts i w l (t + n) w₂
 
-module _ {p : Plan} {ts counts : List ℕ} {i from to : ℕ} {w : List ℤ} {t : ℕ} {w₁ : List ℤ} {m s : List ℕ} {n : ℕ} {before w₂ : List ℤ}
-    (b : Block p ts counts i from to w t w₁ m s n before w₂) where
+module _ {p : Plan} {ts counts : List ℕ} {i from to : ℕ} {w : List ℤ} {t : ℕ} {w₁ : List ℤ} {totals : Totals} {n : ℕ} {before w₂ : List ℤ}
+    (b : Block p ts counts i from to w t w₁ totals n before w₂) where
   old_at : (r l : ℕ) → r < 4 * n → from ≤ l → l < to → at before (p.lanes * r + l) ≡ at (lane_rows p w l) (4 * t + r)
   old_at r l h f g =
       let e : p.lanes * (4 * t) + (p.lanes * r + l) ≡ p.lanes * (4 * t + r) + l = omega arith in
@@ -141,14 +145,13 @@ module _ {p : Plan} {ts counts : List ℕ} {i from to : ℕ} {w : List ℤ} {t :
       ∙ sym (sum_ℕ_split (4 * t) (4 * n) h)
       ∙ ap (λ (x : ℕ). sum_ℕ x h) e
 
-  pub counted_more : (m' s' : List ℕ) → Fits p w₂ → SameBeside p from to w₁ w₂
-      → Grown from to (rows_change (pos 1) before w₂ (p.lanes * (4 * t)) p.lanes (4 * n)) m m'
-      → Grown from to (rows_change (negsuc 0) before w₂ (p.lanes * (4 * t)) p.lanes (4 * n)) s s' → Counted p ts counts i from to w (t + n) w₂ m' s'
-  counted_more m' s' fits beside of_m of_s = record {
+  pub counted_more : (totals' : Totals) → Fits p w₂ → SameBeside p from to w₁ w₂
+      → Grown from to (λ side. rows_change side before w₂ (p.lanes * (4 * t)) p.lanes (4 * n)) totals totals' → Counted p ts counts i from to w (t + n) w₂ totals'
+  counted_more totals' fits beside grown = record {
     few = b.few;
     fits = fits;
     walked = b.walked;
     beside = λ l j h k. beside l j h k ∙ b.so_far.beside l j h k;
-    of_multipliers = λ l f g. of_m l f g ∙ omega (arith, b.so_far.of_multipliers l f g, total (pos 1) l f g);
-    of_slacks = λ l f g. of_s l f g ∙ omega (arith, b.so_far.of_slacks l f g, total (negsuc 0) l f g);
+    of_multipliers = λ l f g. grown.multipliers l f g ∙ omega (arith, b.so_far.of_multipliers l f g, total (pos 1) l f g);
+    of_slacks = λ l f g. grown.slacks l f g ∙ omega (arith, b.so_far.of_slacks l f g, total (negsuc 0) l f g);
   }

@@ -1,17 +1,36 @@
-// The renewal of all rows (document 01, 'One iteration') in lanes, with the totals of its changes.
+// The renewal of all rows in lanes, with the totals of its changes.
 #![tactic(auto)]
 
-ghost use Rattle.std.specs.Prelude.{◌≡◌, true, false, ◌⊎◌, ℕ, ◌+◌, ◌*◌, ◌^◌, ◌≤◌, ◌<◌, pos, negsuc, length, get_or};
+ghost use Rattle.std.specs.Prelude.{◌≡◌, true, false, ◌⊎◌, ℕ, ◌+◌, ◌*◌, ◌^◌, ◌≤◌, ◌<◌, length, get_or};
 ghost use Rattle.model.specs.Iteration.{at};
 ghost use Rattle.model.specs.Run.{settled_by};
 ghost use Rattle.lanes.specs.Lanes.{in_lane, Fits, lane_rows};
-ghost use Rattle.lane_triples.specs.Walk.{Tripled, Narrow, Halves, Due, new_rows, Walked};
+ghost use Rattle.lane_triples.specs.Walk.{Narrow, Halves, Due, new_rows, Walked};
+ghost use Rattle.lane_renewal.specs.Tripling.{IsTripled};
 ghost use Rattle.lane_renewal.specs.Counting.{settled_in, row_change, rows_change, Comparable, AtMost, Grown, NoneWithin, Counted};
 
 use lanes::Plan;
 
 // The rows of so many triples, of up to eight lanes, are kept to be compared.
 const BLOCK: usize = 8;
+
+// What a walk through the triples goes by: the triples, the counts of the variables, and whether it is known that all is narrow.
+#[derive(Clone, Copy)]
+pub struct Walk<'a> {
+    pub plan: Plan,
+    pub triples: &'a [u16],
+    pub counts: &'a [u16],
+    pub narrow: bool,
+    pub ghost tripled: { IsTripled plan triples.now counts.now },
+    pub ghost narrowed: { narrow ≡ true → Narrow plan triples.now counts.now },
+}
+
+// Of each lane, the sums of the squares by which its multipliers and its slacks have changed.
+#[derive(Clone, Copy)]
+pub struct Totals {
+    pub multipliers: [u64; 8],
+    pub slacks: [u64; 8],
+}
 
 // `count` entries of the work list, from `first` on, are kept.
 fn keep(work: &[i32], first: usize, count: usize, before: &mut [i32])
@@ -31,23 +50,18 @@ fn count_row(
     j: usize,
     from: usize,
     to: usize,
-    multipliers: &mut [u64],
-    slacks: &mut [u64],
+    totals: &mut Totals,
 )
-    requires to_bound { (to ≤ 8) × (length multipliers.old ≡ 8) × (length slacks.old ≡ 8) }
-    requires to_in_bounds { (i + to ≤ length before.now) × (j + to ≤ length work.now) }
-    requires by_index { (l : ℕ) → from ≤ l → l < to → Comparable (at before.now (i + l)) (at work.now (j + l)) }
-    requires at_most { AtMost from to (2 ^ 63) multipliers.old × AtMost from to (2 ^ 63) slacks.old }
-    ensures grown { Grown from to (row_change (pos 1) before.now i work.now j)
-        multipliers.old multipliers.new }
-    ensures grown_2 { Grown from to (row_change (negsuc 0) before.now i work.now j)
-        slacks.old slacks.new }
+    requires in_bounds { (to ≤ 8) × (i + to ≤ length before.now) × (j + to ≤ length work.now) }
+    requires comparable { (l : ℕ) → from ≤ l → l < to → Comparable (at before.now (i + l)) (at work.now (j + l)) }
+    requires at_most { AtMost from to (2 ^ 63) totals.old }
+    ensures { Grown from to (λ side. row_change side before.now i work.now j) totals.old totals.new }
 {
     for l in from..to {
         let old = before[i + l];
         let new = work[j + l];
-        multipliers[l] += rows::change(old, new, 1);
-        slacks[l] += rows::change(old, new, -1);
+        totals.multipliers[l] += rows::change(old, new, 1);
+        totals.slacks[l] += rows::change(old, new, -1);
     }
 }
 
@@ -60,80 +74,54 @@ fn count_rows(
     rows: usize,
     from: usize,
     to: usize,
-    multipliers: &mut [u64],
-    slacks: &mut [u64],
+    totals: &mut Totals,
 )
-    requires lanes_bound { (lanes ≤ 8) × (to ≤ lanes) × (rows ≤ 32) × (length multipliers.old ≡ 8) × (length slacks.old ≡ 8) }
-    requires rows_in_bounds { (lanes * rows ≤ length before.now) × (first + lanes * rows ≤ length work.now) }
-    requires by_index { (r l : ℕ) → r < rows → from ≤ l → l < to
+    requires few { (lanes ≤ 8) × (to ≤ lanes) × (rows ≤ 32) }
+    requires in_bounds { (lanes * rows ≤ length before.now) × (first + lanes * rows ≤ length work.now) }
+    requires comparable { (r l : ℕ) → r < rows → from ≤ l → l < to
         → Comparable (at before.now (lanes * r + l)) (at work.now (first + lanes * r + l)) }
-    requires at_most { AtMost from to (2 ^ 62) multipliers.old × AtMost from to (2 ^ 62) slacks.old }
-    ensures grown { Grown from to (rows_change (pos 1) before.now work.now first lanes rows)
-        multipliers.old multipliers.new }
-    ensures grown_2 { Grown from to (rows_change (negsuc 0) before.now work.now first lanes rows)
-        slacks.old slacks.new }
+    requires at_most { AtMost from to (2 ^ 62) totals.old }
+    ensures { Grown from to (λ side. rows_change side before.now work.now first lanes rows) totals.old totals.new }
 {
     for r in 0..rows {
-        count_row(
-            before,
-            lanes * r,
-            work,
-            first + lanes * r,
-            from,
-            to,
-            multipliers,
-            slacks,
-        );
+        count_row(before, lanes * r, work, first + lanes * r, from, to, totals);
     }
 }
 
-// Whether some frame runs of which no total exceeds the tolerance yet.
-fn some_within(
-    running: &[u32],
-    tolerance: u64,
-    multipliers: &[u64],
-    slacks: &[u64],
-    from: usize,
-    to: usize,
-) -> bool
-    requires { (to ≤ 8) × (length running.now ≡ 8) × (length multipliers.now ≡ 8) × (length slacks.now ≡ 8) }
-    ensures { result ≡ false → NoneWithin tolerance running.now multipliers.now slacks.now from to }
+// Whether some frame runs of which no total exceeds the tolerance yet. No branch, so that lanes are compared at once.
+fn some_within(running: &[bool; 8], tolerance: u64, totals: &Totals, from: usize, to: usize) -> bool
+    requires { to ≤ 8 }
+    ensures { result ≡ false → NoneWithin tolerance running.now totals.now from to }
 {
     let mut some = false;
     for l in from..to {
         some = some
-            | ((running[l] != 0) & (multipliers[l] <= tolerance) & (slacks[l] <= tolerance));
+            | (running[l] & (totals.multipliers[l] <= tolerance) & (totals.slacks[l] <= tolerance));
     }
     some
 }
 
 // Triples are renewed and counted, block by block, until a total of every running frame exceeds the tolerance. It answers how many.
 fn renew_counted(
-    triples: &[u16],
-    counts: &[u16],
-    known: bool,
-    p: Plan,
+    walk: &Walk,
     i: usize,
     from: usize,
     to: usize,
-    running: &[u32],
+    running: &[bool; 8],
     tolerance: u64,
     work: &mut [i32],
-    multipliers: &mut [u64],
-    slacks: &mut [u64],
+    totals: &mut Totals,
 ) -> usize
-    requires fits { Fits p work.old × (i ≤ 1) × Halves p from to }
-    requires tripled { Tripled p triples.now counts.now × (known ≡ true → Narrow p triples.now counts.now) }
-    requires by_index { (l : ℕ) → from ≤ l → l < to → Due p i work.old l }
-    requires running_len { (length running.now ≡ 8) × (length multipliers.old ≡ 8) × (length slacks.old ≡ 8) }
-    requires by_index_2 { (l : ℕ) → (get_or multipliers.old l 0 ≡ 0) × (get_or slacks.old l 0 ≡ 0) }
-    ensures counted { Counted p triples.now counts.now i from to work.old result work.new
-        multipliers.new slacks.new }
-    ensures none_within { result < p.triples → NoneWithin tolerance running.now multipliers.new slacks.new from to }
+    requires fits { Fits walk.now.plan work.old × (i ≤ 1) × Halves walk.now.plan from to }
+    requires due { (l : ℕ) → from ≤ l → l < to → Due walk.now.plan i work.old l }
+    requires cleared { (l : ℕ) → (get_or totals.old.multipliers l 0 ≡ 0) × (get_or totals.old.slacks l 0 ≡ 0) }
+    ensures counted { Counted walk.now.plan walk.now.triples.now walk.now.counts.now i from to work.old result work.new totals.new }
+    ensures none_within { result < walk.now.plan.triples → NoneWithin tolerance running.now totals.new from to }
 {
+    let p = walk.plan;
     let mut before = [0i32; 256];
     let mut t = 0;
-    while (t < p.triples) & some_within(running, tolerance, multipliers, slacks, from, to) {
+    while (t < p.triples) & some_within(running, tolerance, totals, from, to) {
         let n = if p.triples - t < BLOCK {
             p.triples - t
         } else {
@@ -141,70 +129,63 @@ fn renew_counted(
         };
         let first = p.lanes * (4 * t);
         keep(work, first, p.lanes * (4 * n), &mut before);
-        lane_triples::renew_range(triples, counts, known, p, i, from, to, t, t + n, work);
-        count_rows(
-            &before,
-            work,
-            first,
-            p.lanes,
-            4 * n,
+        lane_triples::renew_range(
+            walk.triples,
+            walk.counts,
+            walk.narrow,
+            p,
+            i,
             from,
             to,
-            multipliers,
-            slacks,
+            t,
+            t + n,
+            work,
         );
+        count_rows(&before, work, first, p.lanes, 4 * n, from, to, totals);
         t += n;
     }
     t
 }
 
-// "Then each row", of the frames in the lanes from..to, with the sums of the iteration to come in list i, which is cleared. The totals of a frame that runs
-// tell whether it settles. It may be known that all is narrow.
+// Each row of the frames in the lanes from..to is renewed, with the sums of the iteration to come in list i, which is cleared. The totals of a frame that runs
+// tell whether it settles.
 pub fn renew(
-    triples: &[u16],
-    counts: &[u16],
-    known: bool,
-    p: Plan,
+    walk: &Walk,
     i: usize,
     from: usize,
     to: usize,
-    running: &[u32],
+    running: &[bool; 8],
     tolerance: u64,
     work: &mut [i32],
-    multipliers: &mut [u64],
-    slacks: &mut [u64],
-)
-    requires fits { Fits p work.old × (i ≤ 1) × Halves p from to }
-    requires tripled { Tripled p triples.now counts.now × (known ≡ true → Narrow p triples.now counts.now) }
-    requires by_index { (l : ℕ) → from ≤ l → l < to → Due p i work.old l }
-    requires running_len { (length running.now ≡ 8) × (length multipliers.old ≡ 8) × (length slacks.old ≡ 8) }
-    ensures fits_2 { Fits p work.new }
-    ensures by_index_2 { (l : ℕ) → from ≤ l → l < to
-        → Walked p triples.now counts.now i work.old l p.triples work.new }
-    ensures by_index_3 { (l j : ℕ) → l < p.lanes → (l < from) ⊎ (to ≤ l)
-        → in_lane p.lanes work.new l j ≡ in_lane p.lanes work.old l j }
-    ensures by_index_4 { (l : ℕ) → from ≤ l → l < to → 0 < get_or running.now l 0
-        → settled_in tolerance multipliers.new slacks.new l
-        ≡ settled_by tolerance p.triples (lane_rows p work.old l) (new_rows p triples.now work.old l) }
-    ensures multipliers_len { (length multipliers.new ≡ 8) × (length slacks.new ≡ 8) }
+) -> Totals
+    requires fits { Fits walk.now.plan work.old × (i ≤ 1) × Halves walk.now.plan from to }
+    requires due { (l : ℕ) → from ≤ l → l < to → Due walk.now.plan i work.old l }
+    ensures fits { Fits walk.now.plan work.new }
+    ensures walked { (l : ℕ) → from ≤ l → l < to
+        → Walked walk.now.plan walk.now.triples.now walk.now.counts.now i work.old l walk.now.plan.triples work.new }
+    ensures beside { (l j : ℕ) → l < walk.now.plan.lanes → (l < from) ⊎ (to ≤ l)
+        → in_lane walk.now.plan.lanes work.new l j ≡ in_lane walk.now.plan.lanes work.old l j }
+    ensures settles { (l : ℕ) → from ≤ l → l < to → get_or running.now l false ≡ true
+        → settled_in tolerance result l
+        ≡ settled_by tolerance walk.now.plan.triples (lane_rows walk.now.plan work.old l)
+        (new_rows walk.now.plan walk.now.triples.now work.old l) }
 {
-    slices::clear_u64(multipliers);
-    slices::clear_u64(slacks);
-    let done = renew_counted(
-        triples,
-        counts,
-        known,
-        p,
+    let mut totals = Totals {
+        multipliers: [0; 8],
+        slacks: [0; 8],
+    };
+    let done = renew_counted(walk, i, from, to, running, tolerance, work, &mut totals);
+    lane_triples::renew_range(
+        walk.triples,
+        walk.counts,
+        walk.narrow,
+        walk.plan,
         i,
         from,
         to,
-        running,
-        tolerance,
+        done,
+        walk.plan.triples,
         work,
-        multipliers,
-        slacks,
     );
-    lane_triples::renew_range(
-        triples, counts, known, p, i, from, to, done, p.triples, work,
-    );
+    totals
 }

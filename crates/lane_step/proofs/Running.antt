@@ -1,20 +1,9 @@
 -- The fours of lanes in which a frame runs. Assumes nothing.
-use Rattle.integers.proofs.Prelude.{◌≡◌, refl, Bool, true, false, cond, ◌||◌, List, ℕ, zero, suc, ◌+◌, ◌-◌, ◌≤◌, ◌<◌, arith, dec_lt, ne_eqb, eqb-false, not-true, eqb, get_or}
+use Rattle.integers.proofs.Prelude.{◌≡◌, refl, Bool, true, false, cond, ◌||◌, List, ℕ, zero, suc, ◌+◌, ◌-◌, ◌≤◌, ◌<◌, arith, dec_lt}
 use mathlib.Core.Logic.{◌⊎◌, inl, inr}
 use Rattle.lanes.specs.declared.Plan.{Plan}
 use Rattle.lane_triples.specs.Walk.{Halves}
 use Rattle.lane_step.specs.Step.{runs, some_run}
-
--- ---- a mark
-pub marked : (m : List ℕ) (f : ℕ) → 0 < get_or m f 0 → runs m f ≡ true
-marked m f h = rw (ne_eqb (get_or m f 0) 0 (λ e. absurd (omega arith))) refl
-
-pub mark : (m : List ℕ) (f : ℕ) → runs m f ≡ true → 0 < get_or m f 0
-mark m f h = let e : (get_or m f 0 ≡ 0 → ⊥) = eqb-false (get_or m f 0) 0 (not-true (eqb (get_or m f 0) 0) h) in above (get_or m f 0) e
-  where
-    above : (n : ℕ) → (n ≡ 0 → ⊥) → 0 < n
-    above zero h = absurd (h refl)
-    above (suc n) h = omega arith
 
 -- ---- one of four
 or_right : (a b : Bool) → b ≡ true → (a || b) ≡ true
@@ -48,7 +37,7 @@ one_of f h = by (or_of (f 0) (f 1 || (f 2 || f 3)) h)
     by (inr e) = then (or_of (f 1) (f 2 || f 3) e)
 
 -- ---- from the first four in which a frame runs to the last
-module _ (p : Plan) (m : List ℕ) (lanes : (p.lanes ≡ 4) ⊎ (p.lanes ≡ 8)) (below : (f : ℕ) → 0 < get_or m f 0 → f < p.lanes) where
+module _ (p : Plan) (m : List Bool) (lanes : (p.lanes ≡ 4) ⊎ (p.lanes ≡ 8)) (below : (f : ℕ) → runs m f ≡ true → f < p.lanes) where
   abbrev from : ℕ
   from = cond (some_run m 0) 0 4
 
@@ -63,18 +52,18 @@ module _ (p : Plan) (m : List ℕ) (lanes : (p.lanes ≡ 4) ⊎ (p.lanes ≡ 8))
       by (inr e) = omega arith
 
   -- a frame that runs is between them
-  pub first_runs : (f : ℕ) → 0 < get_or m f 0 → from ≤ f
+  pub first_runs : (f : ℕ) → runs m f ≡ true → from ≤ f
   first_runs f r = by (dec_lt f 4)
     where
       by : Dec (f < 4) → from ≤ f
-      by (yes h) = rw (one (runs m) f h (marked m f r)) (omega arith)
+      by (yes h) = rw (one (runs m) f h r) (omega arith)
       by (no h) = up_to (some_run m 0)
         where
           up_to : (b : Bool) → cond b 0 4 ≤ f
           up_to true = omega arith
           up_to false = omega arith
 
-  pub last_runs : (f : ℕ) → 0 < get_or m f 0 → f < to
+  pub last_runs : (f : ℕ) → runs m f ≡ true → f < to
   last_runs f r = by (dec_lt f 4)
     where
       by : Dec (f < 4) → f < to
@@ -85,11 +74,11 @@ module _ (p : Plan) (m : List ℕ) (lanes : (p.lanes ≡ 4) ⊎ (p.lanes ≡ 8))
           up_to false = omega arith
       by (no h) =
           let e : 4 + (f - 4) ≡ f = omega arith in
-          let o = one (λ k. runs m (4 + k)) (f - 4) (omega (arith, below f r, most)) (rw e (marked m f r)) in
+          let o = one (λ k. runs m (4 + k)) (f - 4) (omega (arith, below f r, most)) (rw e r) in
           rw o (omega (arith, below f r, most))
 
   -- so they are halves, where one runs
-  pub halves : (f : ℕ) → 0 < get_or m f 0 → Halves p from to
+  pub halves : (f : ℕ) → runs m f ≡ true → Halves p from to
   halves f r = record {
     first = either (some_run m 0);
     last = other (some_run m 4);
@@ -114,5 +103,5 @@ module _ (p : Plan) (m : List ℕ) (lanes : (p.lanes ≡ 4) ⊎ (p.lanes ≡ 8))
       four (inr e) = omega arith
 
       room : (b : Bool) → some_run m 4 ≡ b → cond b 8 4 ≤ p.lanes
-      room true h = let k = one_of (λ k. runs m (4 + k)) h in eight lanes (omega (arith, below (4 + k.0) (mark m (4 + k.0) k.2)))
+      room true h = let k = one_of (λ k. runs m (4 + k)) h in eight lanes (omega (arith, below (4 + k.0) k.2))
       room false h = four lanes

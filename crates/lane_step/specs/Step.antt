@@ -1,20 +1,19 @@
 -- One iteration in lanes. Definitions only.
-use Rattle.std.specs.Prelude.{Bool, not, ◌||◌, List, ◌≡◌, ℕ, ◌+◌, ◌*◌, ◌≤◌, ◌<◌, eqb, ℤ, pos, nat_abs, ◌*ℤ◌, get_or, ◌≤ℤ◌}
+use Rattle.std.specs.Prelude.{Bool, false, ◌||◌, List, ◌≡◌, ℕ, ◌+◌, ◌*◌, ◌≤◌, ◌<◌, ℤ, pos, nat_abs, ◌*ℤ◌, get_or, ◌≤ℤ◌}
 use Rattle.lists.specs.Tabulated.{tab}
-use Rattle.quotient.specs.Quotient.{unit}
 use Rattle.model.specs.Code.{Code}
 use Rattle.model.specs.Splitting.{System}
 use Rattle.model.specs.Iteration.{at, sum_of}
 use Rattle.model.specs.Bounds.{RowsWithin}
 use Rattle.lanes.specs.declared.Plan.{Plan}
-use Rattle.lanes.specs.Lanes.{in_lane, values_at, lane_rows, lane_sums, lane_weighed, SumsKept}
+use Rattle.lanes.specs.Lanes.{lane_rows, lane_sums, lane_weighed, Raised, SumsKept}
 use Rattle.lane_values.specs.Valued.{WeighedWithin}
 
 -- a frame runs, by its mark, in one of the four lanes from l on
-abbrev pub runs : List ℕ → ℕ → Bool
-runs running f = not (eqb (get_or running f 0) 0)
+abbrev pub runs : List Bool → ℕ → Bool
+runs running f = get_or running f false
 
-abbrev pub some_run : List ℕ → ℕ → Bool
+abbrev pub some_run : List Bool → ℕ → Bool
 some_run running l = runs running l || (runs running (l + 1) || (runs running (l + 2) || runs running (l + 3)))
 
 -- the system of the code k that the plan's sizes and the triples ts make
@@ -34,5 +33,5 @@ pub record Small (p : Plan) (counts : List ℕ) (n : ℕ) (w : List ℤ) (l : �
   pub rows : RowsWithin n (lane_rows p w l)
   pub first : SumsKept p counts 0 w l
   pub second : SumsKept p counts 1 w l
-  pub values : (v : ℕ) → v < p.variables → let x = in_lane p.lanes w l (values_at p + v) in (pos 0 ≤ℤ x) × (nat_abs x ≤ 2 * unit)
+  pub values : Raised p w l
   pub weighed : WeighedWithin p w l

@@ -1,3 +1,4 @@
 pub mod Valued
 pub mod Stored
 pub mod Places
+pub mod Divisors

@@ -11,6 +11,7 @@ ghost use Rattle.values.specs.Divisors.{Tables};
 ghost use Rattle.lanes.specs.Lanes.{sums_at, Fits, SumsKept};
 ghost use Rattle.lane_values.specs.Stored.{Parts, Stored};
 ghost use Rattle.lane_values.specs.Valued.{NarrowTables, Same, Counted, WeighedWithin, LaneValued};
+ghost use Rattle.lane_values.specs.Divisors.{Ready};
 ghost use Rattle.lane_values.specs.Places.{whole, wide_value, narrow_value, auxiliary_value, wide_parts, bit_parts, auxiliary_parts, bit_value, Entries};
 
 use lanes::{MOST_NARROW, Plan};
@@ -18,8 +19,44 @@ use lanes::{MOST_NARROW, Plan};
 // So many counts are compared at once.
 const BLOCK: usize = 64;
 
+// The divisors of a ratio, made ready.
+#[derive(Drop)]
+pub struct Divisors {
+    pub ratio: u32,
+    // of 2 to 8 triples, by their number
+    pub bounds: [i32; 9],
+    pub factors: [u32; 9],
+    pub raises: [u64; 9],
+    // of 1 triple and more, in their order
+    pub limits: [i64; 31],
+    pub inverses: [i64; 31],
+}
+
+impl Divisors {
+    pub fn new(ratio: u32) -> Self
+        requires { ratio ≤ most_ratio }
+        ensures { (result.ratio ≡ ratio) × Ready result }
+    {
+        let mut bounds = [0; 9];
+        let mut factors = [0; 9];
+        let mut raises = [0; 9];
+        prepare(ratio, &mut bounds, &mut factors, &mut raises);
+        let mut limits = [0; 31];
+        let mut inverses = [0; 31];
+        values::prepare(ratio, &mut limits, &mut inverses);
+        Divisors {
+            ratio,
+            bounds,
+            factors,
+            raises,
+            limits,
+            inverses,
+        }
+    }
+}
+
 // The divisors of 2 to 8 triples, made ready.
-pub fn prepare(ratio: u32, limits: &mut [i32], inverses: &mut [u32], raises: &mut [u64])
+fn prepare(ratio: u32, limits: &mut [i32], inverses: &mut [u32], raises: &mut [u64])
     requires { (ratio ≤ most_ratio) × (length limits.old ≡ 9) × (length inverses.old ≡ 9) × (length raises.old ≡ 9) }
     ensures { NarrowTables ratio limits.new inverses.new raises.new }
 {
@@ -205,10 +242,10 @@ fn write_bits(
         work.old work.new }
 {
     let count = slices::index(counts[v]);
-    let weighed = lanes::weighed_at(p);
-    let sums = lanes::sums_at(p, i);
-    let values = lanes::values_at(p);
-    let next = lanes::sums_at(p, 1 - i);
+    let weighed = p.weighed_at();
+    let sums = p.sums_at(i);
+    let values = p.values_at();
+    let next = p.sums_at(1 - i);
     let from = p.lanes * v;
     let to = p.lanes * end;
     if (1 < count) & (count <= MOST_NARROW) {
@@ -296,9 +333,9 @@ fn write_all_auxiliaries(
         let count = slices::index(counts[first]);
         write_auxiliaries(
             work,
-            lanes::sums_at(p, i),
-            lanes::values_at(p),
-            lanes::sums_at(p, 1 - i),
+            p.sums_at(i),
+            p.values_at(),
+            p.sums_at(1 - i),
             p.lanes * first,
             p.lanes * p.variables,
             limits32[count],
@@ -309,28 +346,21 @@ fn write_all_auxiliaries(
 }
 
 // "First every c is renewed": from list i of the sums, in all lanes; the other list is cleared. The bits, then the auxiliaries.
-pub fn write_values(
-    counts: &[u16],
-    ratio: u32,
-    limits32: &[i32],
-    inverses32: &[u32],
-    raises: &[u64],
-    limits: &[i64],
-    inverses: &[i64],
-    p: Plan,
-    i: usize,
-    work: &mut [i32],
-)
-    requires fits { Fits p work.old × (i ≤ 1) × (ratio ≤ most_ratio) × Counted p counts.now }
-    requires limits32_len { (length limits32.now ≡ 9) × (length inverses32.now ≡ 9) × (length raises.now ≡ 9) }
-    requires narrow_tables { NarrowTables ratio limits32.now inverses32.now raises.now × Tables ratio limits.now inverses.now }
-    requires by_index { (l : ℕ) → l < p.lanes
+pub fn write_values(counts: &[u16], divisors: &Divisors, p: Plan, i: usize, work: &mut [i32])
+    requires fits { Fits p work.old × (i ≤ 1) × Counted p counts.now × Ready divisors.now }
+    requires within { (l : ℕ) → l < p.lanes
         → SumsKept p counts.now 0 work.old l × SumsKept p counts.now 1 work.old l × WeighedWithin p work.old l }
-    ensures fits_2 { Fits p work.new }
-    ensures by_index_2 { (l : ℕ) → l < p.lanes → LaneValued p counts.now ratio i work.old work.new l }
+    ensures fits { Fits p work.new }
+    ensures valued { (l : ℕ) → l < p.lanes → LaneValued p counts.now divisors.now.ratio i work.old work.new l }
 {
+    let ratio = divisors.ratio;
+    let bounds = &divisors.bounds;
+    let factors = &divisors.factors;
+    let raises = &divisors.raises;
+    let limits = &divisors.limits;
+    let inverses = &divisors.inverses;
     write_all_bits(
-        counts, ratio, limits32, inverses32, raises, limits, inverses, p, i, work,
+        counts, ratio, bounds, factors, raises, limits, inverses, p, i, work,
     );
-    write_all_auxiliaries(counts, limits32, inverses32, raises, p, i, work);
+    write_all_auxiliaries(counts, bounds, factors, raises, p, i, work);
 }

@@ -1,5 +1,5 @@
 -- Where the numbers of a group's frames stand in the work list: each frame has a lane, and the entries of all lanes stand side by side. Definitions only.
-use Rattle.std.specs.Prelude.{List, ◌⊎◌, ◌≡◌, ℕ, ◌+◌, ◌*◌, ◌^◌, ◌≤◌, ◌<◌, ltb, ℤ, pos, nat_abs, ◌+ℤ◌, ◌-ℤ◌, ◌*ℤ◌, length, get_or}
+use Rattle.std.specs.Prelude.{List, ◌⊎◌, ◌≡◌, ℕ, ◌+◌, ◌*◌, ◌^◌, ◌≤◌, ◌<◌, ltb, ℤ, pos, nat_abs, ◌+ℤ◌, ◌-ℤ◌, ◌*ℤ◌, length, get_or, ◌≤ℤ◌}
 use Rattle.lists.specs.Tabulated.{tab}
 use Rattle.quotient.specs.Quotient.{unit}
 use Rattle.model.specs.Limits.{most_triples, most_variables, most_row}
@@ -40,6 +40,10 @@ lane_rows p w l = tab (4 * p.triples) (in_lane p.lanes w l)
 -- c of every variable, which is raised by U
 abbrev pub lane_values : Plan → List ℤ → ℕ → List ℤ
 lane_values p w l = tab p.variables (λ v. in_lane p.lanes w l (values_at p + v) -ℤ pos unit)
+
+-- each of them, raised, is at least 0 and at most 2U
+abbrev pub Raised : Plan → List ℤ → ℕ → Type 0
+Raised p w l = (v : ℕ) → v < p.variables → let x = in_lane p.lanes w l (values_at p + v) in (pos 0 ≤ℤ x) × (nat_abs x ≤ 2 * unit)
 
 -- S of variable v, in list i of the two: in two parts where v is a bit
 abbrev pub low_part : Plan → ℕ → List ℤ → ℕ → ℕ → ℤ

@@ -17,34 +17,66 @@ pub struct Plan {
     pub bits: usize,
 }
 
-// ---- where the parts of all lanes begin
+// Where the parts of all lanes begin. The bounds on the sizes are no ghost fields: definitions name the plan of any code, whose sizes may be out of range
+// (group/specs/Ends.antt).
+impl Plan {
+    pub fn values_at(self) -> usize
+        requires { (self.lanes ≤ 8) × (self.triples ≤ most_triples) }
+        ensures { result ≡ self.lanes * values_at self }
+    {
+        self.lanes * (4 * self.triples)
+    }
+
+    // Of list i of the two lists of sums; the high parts begin behind `variables` of them.
+    pub fn sums_at(self, i: usize) -> usize
+        requires { (self.lanes ≤ 8) × (self.triples ≤ most_triples) × (self.variables ≤ most_variables) × (self.bits ≤ self.variables) × (i ≤ 2) }
+        ensures { result ≡ self.lanes * sums_at self i }
+    {
+        self.lanes * (4 * self.triples + self.variables + i * (self.variables + self.bits))
+    }
+
+    pub fn weighed_at(self) -> usize
+        requires { (self.lanes ≤ 8) × (self.triples ≤ most_triples) × (self.variables ≤ most_variables) × (self.bits ≤ self.variables) }
+        ensures { result ≡ self.lanes * weighed_at self }
+    {
+        self.sums_at(2)
+    }
+
+    // How many entries all lanes have.
+    pub fn size(self) -> usize
+        requires { (self.lanes ≤ 8) × (self.triples ≤ most_triples) × (self.variables ≤ most_variables) × (self.bits ≤ self.variables) }
+        ensures { result ≡ self.lanes * lane_size self }
+    {
+        self.lanes * (4 * self.triples + 3 * self.variables + 3 * self.bits)
+    }
+}
+
+// The same as functions, for lane_triples and group until they call the methods.
 
 pub fn values_at(p: Plan) -> usize
     requires { (p.lanes ≤ 8) × (p.triples ≤ most_triples) }
     ensures { result ≡ p.lanes * values_at p }
 {
-    p.lanes * (4 * p.triples)
+    p.values_at()
 }
 
-// Of list i of the two lists of sums; the high parts begin behind `variables` of them.
 pub fn sums_at(p: Plan, i: usize) -> usize
     requires { (p.lanes ≤ 8) × (p.triples ≤ most_triples) × (p.variables ≤ most_variables) × (p.bits ≤ p.variables) × (i ≤ 2) }
     ensures { result ≡ p.lanes * sums_at p i }
 {
-    p.lanes * (4 * p.triples + p.variables + i * (p.variables + p.bits))
+    p.sums_at(i)
 }
 
 pub fn weighed_at(p: Plan) -> usize
     requires { (p.lanes ≤ 8) × (p.triples ≤ most_triples) × (p.variables ≤ most_variables) × (p.bits ≤ p.variables) }
     ensures { result ≡ p.lanes * weighed_at p }
 {
-    sums_at(p, 2)
+    p.weighed_at()
 }
 
-// How many entries all lanes have.
 pub fn size(p: Plan) -> usize
     requires { (p.lanes ≤ 8) × (p.triples ≤ most_triples) × (p.variables ≤ most_variables) × (p.bits ≤ p.variables) }
     ensures { result ≡ p.lanes * lane_size p }
 {
-    p.lanes * (4 * p.triples + 3 * p.variables + 3 * p.bits)
+    p.size()
 }

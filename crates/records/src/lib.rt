@@ -6,9 +6,11 @@ ghost use Rattle.model.specs.declared.Cause.TheVariants.{Cut};
 ghost use Rattle.model.specs.Causes.{number_of};
 ghost use Rattle.model.specs.Code.{turns, triple_count};
 ghost use Rattle.model.specs.Records.{two_bytes, bit_count, check_count, degree, indices, after_check, judge_header, judge_indices, judge_check};
-ghost use Rattle.model.specs.Records.{two, bytes_of, header_of, record_of, record_size};
 ghost use Rattle.records.specs.Whole.{Whole};
-ghost use Rattle.text.specs.Appended.{Appended};
+
+pub mod writer;
+
+pub use writer::{write_check, write_header, write_two_bytes};
 
 use model::{Cause, LEAST_DEGREE, MOST_BITS, MOST_CHECKS, MOST_DEGREE};
 
@@ -158,47 +160,4 @@ pub fn judge_check(s: &[u8], bits: usize) -> Result<(), Cause>
         return Err(Cause::Degree);
     }
     judge_indices(rest, usize::from(*degree), bits)
-}
-
-// ---- the writer
-
-// A two-byte number, from `at` on; where the next byte goes.
-pub fn write_two_bytes(x: usize, out: &mut [u8], at: usize) -> usize
-    requires { (x ≤ 65535) × (at + 2 ≤ length out.old) }
-    ensures { Appended at (two x) out.old out.new result }
-{
-    let low = text::put((x / 256) as u8, out, at);
-    text::put((x % 256) as u8, out, low)
-}
-
-// The header of a code; where its first check goes.
-pub fn write_header(bits: usize, checks: usize, out: &mut [u8]) -> usize
-    requires { (bits ≤ 65535) × (checks ≤ 65535) × (6 ≤ length out.old) }
-    ensures { Appended 0 (header_of bits checks) out.old out.new result }
-{
-    let n = write_two_bytes(0x4c48, out, 0);
-    let m = write_two_bytes(bits, out, n);
-    write_two_bytes(checks, out, m)
-}
-
-// Indices, two bytes each, from `at` on; where the next byte goes.
-fn write_indices(indices: &[u16], out: &mut [u8], at: usize) -> usize
-    requires { at + 2 * length indices.now ≤ length out.old }
-    ensures { Appended at (bytes_of indices.now) out.old out.new result }
-{
-    let mut next = at;
-    for i in 0..indices.len() {
-        next = write_two_bytes(usize::from(indices[i]), out, next);
-    }
-    next
-}
-
-// The record of a check with these indices, from `at` on; where the next byte goes.
-pub fn write_check(indices: &[u16], out: &mut [u8], at: usize) -> usize
-    requires { (length indices.now ≤ 255) × (at + record_size indices.now ≤ length out.old) }
-    ensures { Appended at (record_of indices.now) out.old out.new result }
-{
-    let degree = write_two_bytes(0x4c43, out, at);
-    let first = text::put(indices.len() as u8, out, degree);
-    write_indices(indices, out, first)
 }

@@ -256,14 +256,11 @@ fn renew_rest(
     }
 }
 
-pub fn settles(multipliers: u64, slacks: u64, tolerance: u64) -> u32
-    ensures { result ≡ 1 if (leb multipliers tolerance && leb slacks tolerance) }
+// Whether neither total exceeds the tolerance.
+pub fn settles(multipliers: u64, slacks: u64, tolerance: u64) -> bool
+    ensures { result ≡ (leb multipliers tolerance && leb slacks tolerance) }
 {
-    if (multipliers <= tolerance) & (slacks <= tolerance) {
-        1
-    } else {
-        0
-    }
+    (multipliers <= tolerance) & (slacks <= tolerance)
 }
 
 // "Then each row"; and whether "neither total exceeds X". It may be known that no triple has the blank.
@@ -274,14 +271,14 @@ pub fn renew_rows(
     rows: &mut [i32],
     count: usize,
     tolerance: u64,
-) -> u32
+) -> bool
     requires sized { Sized count triples.now rows.old }
     requires valued { Valued triples.now values.now }
     requires rows_within { RowsWithin most_done rows.old }
     requires known { Known known triples.now }
     ensures rows_after { (straight count rows.new ≡ renewed_all count triples.now rows.old values.now)
         × (length rows.new ≡ 4 * count) }
-    ensures value { result
+    ensures value { (1 if result)
         ≡ settled_by tolerance count (straight count rows.old) (renewed_all count triples.now rows.old values.now) }
 {
     let counted = renew_counted(triples, values, known, rows, count, tolerance);

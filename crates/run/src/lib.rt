@@ -10,11 +10,11 @@ ghost use Rattle.model.specs.Iteration as Iteration;
 ghost use Rattle.model.specs.Run as Run;
 ghost use Rattle.model.specs.Bounds.{RowsWithin, system_in, Lent};
 ghost use Rattle.layout.specs.Transposed.{straight};
-ghost use Rattle.values.specs.Divisors.{Tables};
 ghost use Rattle.renewal.specs.InPlace.{Known};
 ghost use Rattle.run.specs.States.{state_in};
 
 use model::{Ending, Settings};
+use values::Divisors;
 
 // One iteration: S and c of each variable, then the four rows of each triple. It answers how it stops the run. It may be known that no triple has the blank.
 fn iterate(
@@ -23,15 +23,14 @@ fn iterate(
     counts: &[u16],
     costs: &[i16],
     count: usize,
-    limits: &[i64],
-    inverses: &[i64],
+    divisors: &Divisors,
     known: bool,
     sums: &mut [i64],
     values: &mut [i16],
     rows: &mut [i32],
 ) -> u32
     requires lent { Lent settings triples.now counts.now costs.now count sums.old values.old rows.old }
-    requires rows_within { (RowsWithin most_done (straight count rows.old)) × (Tables settings.ratio limits.now inverses.now) × (Known known triples.now) }
+    requires rows_within { (RowsWithin most_done (straight count rows.old)) × (divisors.now ≡ settings.ratio) × (Known known triples.now) }
     ensures fact { (k : Code) → let g = system_in k triples.now count values.old in
         let a = state_in count sums.old values.old rows.old in
         let b = state_in count sums.new values.new rows.new in
@@ -39,16 +38,7 @@ fn iterate(
     ensures rows_len { length rows.new ≡ 4 * count }
 {
     sums::gather(triples, rows, count, sums);
-    values::write_values(
-        sums,
-        counts,
-        costs,
-        settings.weight,
-        settings.ratio,
-        limits,
-        inverses,
-        values,
-    );
+    values::write_values(sums, counts, costs, settings.weight, divisors, values);
     renewal::renew_rows(
         triples,
         values,
@@ -66,8 +56,7 @@ fn iterations(
     counts: &[u16],
     costs: &[i16],
     count: usize,
-    limits: &[i64],
-    inverses: &[i64],
+    divisors: &Divisors,
     known: bool,
     done: u32,
     sums: &mut [i64],
@@ -75,7 +64,7 @@ fn iterations(
     rows: &mut [i32],
 ) -> Ending
     requires lent { Lent settings triples.now counts.now costs.now count sums.old values.old rows.old }
-    requires rows_within { (RowsWithin done (straight count rows.old)) × (Tables settings.ratio limits.now inverses.now) × (Known known triples.now) }
+    requires rows_within { (RowsWithin done (straight count rows.old)) × (divisors.now ≡ settings.ratio) × (Known known triples.now) }
     requires done_le_limit { (done ≤ settings.limit) × (settings.limit ≤ most_iterations) }
     ensures last_after { (k : Code) → let g = system_in k triples.now count values.old in
         let first = state_in count sums.old values.old rows.old in
@@ -87,7 +76,7 @@ fn iterations(
     let mut settled: u32 = 0;
     while (k < settings.limit) & (settled == 0) {
         settled = iterate(
-            settings, triples, counts, costs, count, limits, inverses, known, sums, values, rows,
+            settings, triples, counts, costs, count, divisors, known, sums, values, rows,
         );
         k += 1;
     }
@@ -115,13 +104,10 @@ fn run_from(
         let last : State = record { sums = sums.new; values = values.new; rows = rows.new } in
         record { k = result.k; settled = result.settled; last = last } ≡ Run.run_from quotient g settings costs.now (settings.limit - done) done first) }
 {
-    let mut limits = [0i64; 31];
-    let mut inverses = [0i64; 31];
-    values::prepare(settings.ratio, &mut limits, &mut inverses);
+    let divisors = Divisors::new(settings.ratio);
     let known = renewal::without_blank(triples, count);
     let ending = iterations(
-        settings, triples, counts, costs, count, &limits, &inverses, known, done, sums, values,
-        rows,
+        settings, triples, counts, costs, count, &divisors, known, done, sums, values, rows,
     );
     layout::straighten(rows, count);
     ending
@@ -144,7 +130,7 @@ pub fn run(
         let last : State = record { sums = sums.new; values = values.new; rows = rows.new } in
         record { k = result.k; settled = result.settled; last = last } ≡ Run.run quotient g settings costs.now) }
 {
-    slices::clear_i32(rows);
+    rows.fill(0);
     run_from(
         settings, triples, counts, costs, count, 0, sums, values, rows,
     )

@@ -27,7 +27,7 @@ module _ (c : After-slice_known-5-1) where
 pub write_in-requires : goal.write_in-requires
 write_in-requires c =
     let room = again_room _ _ _ _ (s (goal.at.write_in-requires c).After-slice_known-5-1).requires (d (goal.at.write_in-requires c).After-slice_known-5-1) (e (goal.at.write_in-requires c).After-slice_known-5-1) (bits (goal.at.write_in-requires c).After-slice_known-5-1) (places (goal.at.write_in-requires c).After-slice_known-5-1) _ (m (goal.at.write_in-requires c).After-slice_known-5-1).measure_in-bytes.ensures (s (goal.at.write_in-requires c).After-slice_known-5-1).args.text.now c.if-bytes-text.true in
-    record { lists = again _ _ _ _ (s (goal.at.write_in-requires c).After-slice_known-5-1).requires _ _ (bits (goal.at.write_in-requires c).After-slice_known-5-1) (places (goal.at.write_in-requires c).After-slice_known-5-1); s_in_bounds = room }
+    record { lists = again _ _ _ _ (s (goal.at.write_in-requires c).After-slice_known-5-1).requires _ _ (bits (goal.at.write_in-requires c).After-slice_known-5-1) (places (goal.at.write_in-requires c).After-slice_known-5-1); room = room }
 
 pub returns-then-bytes-text : goal.returns-then-bytes-text
 returns-then-bytes-text c =

@@ -4,7 +4,7 @@ use Rattle.lane_renewal.specs.Counting.{Counted}
 use Rattle.lane_renewal.proofs.renew_counted.Given as goal
 
 abbrev pub invariant-loop-t : goal.invariant-loop-t
-invariant-loop-t l = (length l.multipliers ≡ 8) × (length l.slacks ≡ 8) × (length l.before ≡ 256) × Counted l.p l.triples l.counts l.i l.from l.to l.initial.work l.t l.work l.multipliers l.slacks
+invariant-loop-t l = (length l.before ≡ 256) × Counted l.walk.plan l.walk.triples.now l.walk.counts.now l.i l.from l.to l.initial.work l.t l.work l.totals
 
 abbrev pub decreases-loop-t : goal.decreases-loop-t
-decreases-loop-t l = l.p.triples - l.t
+decreases-loop-t l = l.walk.plan.triples - l.t

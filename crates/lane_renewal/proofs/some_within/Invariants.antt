@@ -4,7 +4,7 @@ use Rattle.lane_renewal.specs.Counting.{NoneWithin}
 use Rattle.lane_renewal.proofs.some_within.Given as goal
 
 abbrev pub invariant-loop-l : goal.invariant-loop-l
-invariant-loop-l l = (l.from ≤ l.l) × (l.some ≡ false → NoneWithin l.tolerance l.running l.multipliers l.slacks l.from l.l)
+invariant-loop-l l = (l.from ≤ l.l) × (l.some ≡ false → NoneWithin l.tolerance l.running l.totals l.from l.l)
 
 abbrev pub decreases-loop-l : goal.decreases-loop-l
 decreases-loop-l l = l.to - l.l

@@ -1,43 +1,25 @@
 -- `lane_values::write_values` meets its contract. Assumes nothing.
 use Rattle.integers.proofs.Prelude.{◌∙◌, ◌-◌, ◌^◌}
-use Rattle.lanes.specs.Lanes.{Fits}
 use Rattle.lane_values.proofs.Bits.{still_fits}
 use Rattle.lane_values.proofs.Lanes.{bit_entries, auxiliary_within}
 use Rattle.lane_values.proofs.Valued.{lane_valued, sums_left}
 use Rattle.lane_values.proofs.write_values.Goals as goal
-use Rattle.lane_values.proofs.write_values.Goals.{Start, After-write_all_bits, After-write_all_auxiliaries-arg-1}
 
-sized : (s : Start) → Fits s.args.p s.args.work.now
-sized s = s.requires.fits.0
-
-pub write_all_bits-requires : goal.write_all_bits-requires
-write_all_bits-requires c =
-    record { fits = c.requires.fits; limits32_len = c.requires.limits32_len; narrow_tables = c.requires.narrow_tables; entries = bit_entries c.args.i (sized (goal.at.write_all_bits-requires c).Start) c.requires.fits.1 c.requires.fits.3 c.requires.by_index }
+pub write_all_bits-requires-clause-entries : goal.write_all_bits-requires-clause-entries
+write_all_bits-requires-clause-entries c = bit_entries c.args.i c.requires.fits.0 c.requires.fits.1 c.requires.fits.2 c.requires.within
 
 -- ---- the auxiliaries, behind the bits
-module _ (c : After-write_all_auxiliaries-arg-1) where
-  abbrev done : After-write_all_bits
-  done = (goal.at.After-write_all_auxiliaries-arg-1 c).After-write_all_bits
+pub write_all_auxiliaries-requires-clause-fits : goal.write_all_auxiliaries-requires-clause-fits
+write_all_auxiliaries-requires-clause-fits c = (still_fits c.requires.fits.0 c.write_all_bits.ensures.long, c.requires.fits.1, c.requires.fits.2)
 
-  abbrev start : Start
-  start = (goal.at.After-write_all_bits done).Start
-
-pub write_all_auxiliaries-requires : goal.write_all_auxiliaries-requires
-write_all_auxiliaries-requires c =
-    let s = start c in
-    let a = s.args in
-    let bits = (done c).write_all_bits.ensures in record {
-      fits = (still_fits (sized s) bits.long, s.requires.fits.1, s.requires.fits.3);
-      limits32_len = s.requires.limits32_len;
-      by_index = (a.ratio, s.requires.narrow_tables.0);
-      by_index_2 = λ k l m.
-          sums_left a.counts.now a.ratio (sized s) s.requires.fits.1 bits (2 ^ 31 - 2 ^ 24) k m
-          (auxiliary_within a.i (sized s) s.requires.fits.1 s.requires.fits.3 s.requires.by_index k l m);
-    }
+pub write_all_auxiliaries-requires-clause-by_index_2 : goal.write_all_auxiliaries-requires-clause-by_index_2
+write_all_auxiliaries-requires-clause-by_index_2 c k l m =
+    sums_left c.args.counts.now c.args.divisors.now.ratio c.requires.fits.0 c.requires.fits.1 c.write_all_bits.ensures (2 ^ 31 - 2 ^ 24) k m
+    (auxiliary_within c.args.i c.requires.fits.0 c.requires.fits.1 c.requires.fits.2 c.requires.within k l m)
 
 pub returns : goal.returns
 returns c =
-    let s = start (goal.at.returns c).After-write_all_auxiliaries-arg-1 in
-    let bits = (done (goal.at.returns c).After-write_all_auxiliaries-arg-1).write_all_bits.ensures in
-    let others = c.write_all_auxiliaries.ensures s.args.ratio s.requires.narrow_tables.0 in
-    record { fits_2 = still_fits (sized s) (others.long ∙ bits.long); by_index_2 = λ l h. lane_valued s.args.ratio (sized s) s.requires.fits.1 s.requires.fits.3 bits others l h }
+    let a = c.args.divisors.now.ratio in
+    let bits = c.write_all_bits.ensures in
+    let others = c.write_all_auxiliaries.ensures a c.requires.fits.3.narrow in
+    record { fits = still_fits c.requires.fits.0 (others.long ∙ bits.long); valued = λ l h. lane_valued a c.requires.fits.0 c.requires.fits.1 c.requires.fits.2 bits others l h }
