@@ -35,29 +35,29 @@ module _ (l : At-loop-t) where
   there i h = omega (arith, long, item_below _ _ s.requires.sound.0 s.requires.sound.1 i l.loop-t.t h (omega arith))
 
 pub bounds-point-first : goal.bounds-point-first
-bounds-point-first c = omega (arith, c.item-first.ensures, there (goal.at.bounds-point-first c).At-loop-t (2 * c.loop-t.t) (omega arith))
+bounds-point-first c = omega (arith, c.item.ensures, there (goal.at.bounds-point-first c).At-loop-t (2 * c.loop-t.t) (omega arith))
 
 pub bounds-point-second : goal.bounds-point-second
 bounds-point-second c =
-    omega (arith, c.item-second.ensures, there (goal.at.bounds-point-second c).At-loop-t (2 * c.loop-t.t + 1) (omega arith))
+    omega (arith, c.item-in-loop-t.ensures, there (goal.at.bounds-point-second c).At-loop-t (2 * c.loop-t.t + 1) (omega arith))
 
 pub bounds-point-next : goal.bounds-point-next
 bounds-point-next c = omega (arith, long (goal.at.bounds-point-next c).At-loop-t)
 
 pub loop-t-preserved : goal.loop-t-preserved
 loop-t-preserved c =
-    (omega arith, made_set _ _ (s (goal.at.loop-t-preserved c).At-loop-t).requires.sound.0 (s (goal.at.loop-t-preserved c).At-loop-t).requires.sound.1 _ (begun (s (goal.at.loop-t-preserved c).At-loop-t)) _ _ _ _ _ _ (s (goal.at.loop-t-preserved c).At-loop-t).requires.room (omega arith) c.loop-t.invariant.1 c.item-first.ensures c.item-second.ensures c.parity.ensures)
+    (omega arith, made_set _ _ (s (goal.at.loop-t-preserved c).At-loop-t).requires.sound.0 (s (goal.at.loop-t-preserved c).At-loop-t).requires.sound.1 _ (begun (s (goal.at.loop-t-preserved c).At-loop-t)) _ _ _ _ _ _ (s (goal.at.loop-t-preserved c).At-loop-t).requires.room (omega arith) c.loop-t.invariant.1 (omega (arith, c.item.ensures, c.from-first.ensures)) (omega (arith, c.item-in-loop-t.ensures, c.from-second.ensures)) c.parity.ensures)
 
 pub returns : goal.returns
 returns c =
     let e : c.loop-t.t ≡ turns (s (goal.at.returns c).At-loop-t).args.check.now = omega arith in
     c.loop-t.invariant.1 ∙ ap (λ (q : List ℕ). written q (s (goal.at.returns c).At-loop-t).args.point.now) (ap (made (s (goal.at.returns c).At-loop-t).args.check.now (s (goal.at.returns c).At-loop-t).args.next (take (s (goal.at.returns c).At-loop-t).args.next (s (goal.at.returns c).At-loop-t).args.point.now)) e ∙ made_all _ _ (s (goal.at.returns c).At-loop-t).requires.sound.0 (s (goal.at.returns c).At-loop-t).requires.sound.1 _ (begun (s (goal.at.returns c).At-loop-t)))
 
-pub item-first-requires : goal.item-first-requires
-item-first-requires c = omega (arith, waits (s (goal.at.item-first-requires c).At-loop-t))
+pub item-requires : goal.item-requires
+item-requires c = omega (arith, waits (s (goal.at.item-requires c).At-loop-t))
 
-pub item-second-requires : goal.item-second-requires
-item-second-requires c = omega (arith, waits (s (goal.at.item-second-requires c).At-loop-t))
+pub item-requires-in-loop-t : goal.item-requires-in-loop-t
+item-requires-in-loop-t c = omega (arith, waits (s (goal.at.item-requires-in-loop-t c).At-loop-t))
 
 pub shape_of-point : goal.shape_of-point
 shape_of-point c = long (goal.at.shape_of-point c).At-loop-t
