@@ -4,7 +4,6 @@ use native.Mathlib.Omega.{by_contra}
 use native.Mathlib.Nat.{mul-le-mul, mul-le-mul_left}
 use lib.IntN.{+ℤ_idr}
 use lib.Signed.{shr_z}
-use mir.Val.{SFits}
 use Rattle.integers.specs.Parts.{up, dn}
 use Rattle.integers.proofs.Linear.{to_ℕ, read_ℤ, make_≡, about, about_neg, about_sum, abs_difference}
 use Rattle.integers.proofs.Machine.{Worth, param}
@@ -96,10 +95,6 @@ module _ (w : ℤ) where
 
     pub shifted : Worth (shr_z (to_z w32 (of_z w32 w)) 256) h (2 ^ 23)
     shifted = record { is = ap (λ (z : ℤ). shr_z z 256) w_is.is; within = omega (arith, floor_is w, about w, about h) }
-
-    -- the least number of the width among them
-    pub floor_fits : SFits w32 (pos 256 *ℤ h)
-    floor_fits = record { sfits = omega (arith, floor_is w, about w, about (pos 256 *ℤ h), times_256 h) }
 
 -- the divisor, a sum and a cost
 module _ (d : ℕ) (s w : ℤ) where

@@ -1,10 +1,10 @@
--- Document 01, 'One iteration': "rounded to nearest, halves away from zero, then limited to −U..U".
+-- The quotient: "rounded to nearest, halves away from zero, then limited to −U..U".
 -- `quotient` is shut to the crates above: the gate refuses one that unfolds it. What they have of it are the laws in `proofs/Laws`.
 use Rattle.std.specs.Prelude.{cond, ℕ, suc, ◌+◌, ◌*◌, ◌≤◌, ◌<◌, min, ℤ, pos, negsuc, neg_ℤ, nat_abs}
 use Rattle.std.specs.Int.Signed.{lt_z}
 use Rattle.integers.specs.Nearest.{nearest}
 
--- 01: "Let U = 16,384."
+-- U
 abbrev pub unit : ℕ
 unit = 16384
 
@@ -38,7 +38,7 @@ pub record Rounded (n d q : ℕ) : Type 0 where
   pub above : 2 * (d * q) ≤ 2 * n + d
   pub below : q < unit → 2 * n < 2 * (d * q) + d
 
--- 02, L4: "a numerator below that size", which is U times the divisor: what divides asks it, since from there on the limit is known
+-- n has a size below U times the divisor: what divides asks it, since from there on the limit is known
 abbrev pub BelowLimit : ℤ → ℤ → Type 0
 BelowLimit n d = nat_abs n < unit * nat_abs d
 
