@@ -1,143 +1,107 @@
--- The form of a text, read step by step: what each test of `read_form` says of the numbers. Assumes nothing.
-use Rattle.integers.proofs.Prelude.{◌≡◌, sym, ap, subst, ◌∙◌, Bool, true, false, List, ℕ, ◌*◌, ◌≤◌, ◌<◌, arith, dec_lt, eqb-true, eq-eqb, eqb, T}
-use Rattle.integers.proofs.Prelude.{get_or, take, drop}
+-- The form of a text, read step by step: what each test of `read_form` says of the numbers.
+use Rattle.integers.proofs.Prelude.{◌≡◌, refl, sym, subst, ◌∙◌, Bool, true, false, List, [], ℕ, ◌*◌, T, get_or, take, drop}
+use Rattle.std.specs.Prelude.{Option, Some, None}
 use Rattle.lists.proofs.Tests.{same_test}
-use Rattle.model.specs.Limits.{most_number}
-use Rattle.model.specs.Alist.{numbers_of, largest, column_degrees, row_degrees, column_lists, row_lists, well_formed}
-use Rattle.numbers.specs.Walked.{from, none, Next, Small, Scanned}
-use Rattle.numbers.proofs.Walk.{small_at}
+use Rattle.std.specs.Bool.{then_some, IsTrue}
+use Rattle.model.specs.Alist.{largest, column_degrees, row_degrees, well_formed}
+use Rattle.numbers.specs.Walked.{Small}
 use Rattle.numbers.specs.declared.Side.{Side}
-use Rattle.alist.specs.declared.Form.{Form}
 use Rattle.alist.specs.declared.Sizes.{Sizes}
-use Rattle.alist.specs.Form.{filled_lists, WalksSide, Stands, Formed, Sized}
+use Rattle.alist.specs.Form.{filled_lists, columns_of, rows_of, form_of, Sized}
 use Rattle.alist.proofs.Parts.{Parts, parts_of, well_formed_lem, not_formed}
 
--- ---- an unsound form
-pub refused : (s : List ℕ) (f : Form) → f.sound ≡ false → (Parts (numbers_of 0 s) → ⊥) → Formed s f
-refused s f e h = record { sound = e ∙ sym (not_formed (numbers_of 0 s) h); columns = λ t. never t; rows = λ t. never t }
-  where
-    never : {A : Type 0} → f.sound ≡ true → A
-    never t = absurd (subst T (sym t ∙ e) tt)
+-- ---- a value where a test holds
+pub some_then : {A : Type 0} (t : Bool) (x y : A) → Some y ≡ then_some t x → (t ≡ true) × (y ≡ x)
+some_then true x y e = (refl, cc)
+some_then false x y e = absurd (cc)
 
--- ---- the degrees ds of a side, so many, of which the largest should be `most`
-abbrev Passed : List ℕ → ℕ → ℕ → ℕ → List ℕ → Type 0
-Passed s end count most ds = Small count ds × (most ≡ largest (take count ds)) × (from s end ≡ drop count ds)
+pub none_then : {A : Type 0} (t : Bool) (x : A) → None ≡ then_some t x → t ≡ false
+none_then true x e = absurd (cc)
+none_then false x e = refl
 
--- a scan told x
-module _ {s : List ℕ} {at k x end : ℕ} (ds : List ℕ) (count most : ℕ) (stand : from s at ≡ ds) (many : k ≡ count) (scan : Scanned s at k x end) where
-  degrees_pass : most ≤ most_number → x ≡ most → Passed s end count most ds
-  degrees_pass h e = rw (← stand, ← many, ← e) (scan.sound (omega arith))
+-- no form
+pub refused : {l k : List ℕ} → l ≡ k → (Parts l → ⊥) → None ≡ form_of k
+refused {l} e h = rw (← e, not_formed l h)
 
-  degrees_fail : (x ≡ most → ⊥) → Small count ds → most ≡ largest (take count ds) → ⊥
-  degrees_fail h p q = by (dec_lt most_number x)
-    where
-      by : Dec (most_number < x) → ⊥
-      by (yes a) = scan.unsound a (rw (stand, many) p)
-      by (no a) = h ((scan.sound (omega arith)).1 ∙ rw (stand, many) (sym q))
+-- the next `count` of the numbers d are small, the largest is x, and others follow
+abbrev Scanned : ℕ → List ℕ → ℕ → List ℕ → Type 0
+Scanned count d x after = Small count d × (x ≡ largest (take count d)) × (after ≡ drop count d)
 
--- ---- the lists of a side: a walk told fine or not
-module _ {s ds ls : List ℕ} {side : Side} {count most end : ℕ} {fine : Bool} (stands : Stands s side count most ds ls) (walk : WalksSide s side fine end) where
-  lists_pass : fine ≡ true → (filled_lists count most ds ls ≡ true) × (from s end ≡ drop (count * most) ls)
-  lists_pass h =
-      rw (← stands.degrees_at, ← stands.lists_at, ← stands.count_is, ← stands.most_is) (sym walk.told ∙ h, walk.rest h)
+-- what follows the lists of a side, where they are as its degrees ask
+abbrev walked : Side → Option (List ℕ)
+walked side = then_some (filled_lists side.count side.most side.degrees side.lists) (drop (side.count * side.most) side.lists)
 
-  lists_fail : fine ≡ false → filled_lists count most ds ls ≡ true → ⊥
-  lists_fail h e =
-      let told : fine ≡ filled_lists count most ds ls
-      = rw (← stands.degrees_at, ← stands.lists_at, ← stands.count_is, ← stands.most_is) walk.told in
-      subst T (sym e ∙ sym told ∙ h) tt
+abbrev Walked : Side → List ℕ → Type 0
+Walked side after = (filled_lists side.count side.most side.degrees side.lists ≡ true) × (after ≡ drop (side.count * side.most) side.lists)
 
--- ---- step by step, over what the calls told; a, b: the scans' results, f, g: the walks', p to v: where each ended
-module _ {s : List ℕ} {z : Sizes} (sized : Sized s z) where
-  abbrev l : List ℕ
-  l = numbers_of 0 s
+lists_follow : (side : Side) (after : List ℕ) → Some after ≡ walked side → Walked side after
+lists_follow side after e = some_then _ _ after e
 
-  pub sizes_fail : z.fine ≡ false → Parts l → ⊥
-  sizes_fail h p = sized.untold h p.sizes
+-- ---- step by step: d and e are the degrees, f and g the lists, h what follows
+module _ {l : List ℕ} {z : Sizes} {d : List ℕ} (sized : Sized l z d) where
+  module _ {n : ℕ} (many : n ≡ z.columns) where
+    pub columns_missing : (Small n d → ⊥) → Parts l → ⊥
+    columns_missing fails p = fails (rw (many, sized.columns, sized.rest) p.degrees_of_columns)
 
-  module _ (fine : z.fine ≡ true) {a p : ℕ} (column_scan : Scanned s z.end z.columns a p) where
-    pub columns_fail : (a ≡ z.column_most → ⊥) → Parts l → ⊥
-    columns_fail h parts =
-        degrees_fail (column_degrees l) (get_or l 0 0) (get_or l 2 0) (sized.rest fine) (sized.columns fine) column_scan
-        (λ e. h (e ∙ sym (sized.column_most fine))) parts.degrees_of_columns parts.column_most
+    module _ {a : ℕ} {e : List ℕ} (column_scan : Scanned n d a e) where
+      columns_passed : Scanned (get_or l 0 0) (column_degrees l) a e
+      columns_passed = rw (← sized.columns, ← many, ← sized.rest) column_scan
 
-    module _ (column_most : a ≡ z.column_most) {b q : ℕ} (row_scan : Scanned s p z.rows b q) where
-      columns_passed : Passed s p (get_or l 0 0) (get_or l 2 0) (column_degrees l)
-      columns_passed =
-          degrees_pass (column_degrees l) (get_or l 0 0) (get_or l 2 0) (sized.rest fine) (sized.columns fine) column_scan
-          (small_at 4 l 2 0 (sized.told fine) (omega arith)) (column_most ∙ sized.column_most fine)
+      pub columns_differ : (a ≡ z.column_most → ⊥) → Parts l → ⊥
+      columns_differ fails p = fails (columns_passed.1 ∙ sym p.column_most ∙ sym sized.column_most)
 
-      pub rows_fail : (b ≡ z.row_most → ⊥) → Parts l → ⊥
-      rows_fail h parts =
-          degrees_fail (row_degrees l) (get_or l 1 0) (get_or l 3 0) columns_passed.2 (sized.rows fine) row_scan
-          (λ e. h (e ∙ sym (sized.row_most fine))) parts.degrees_of_rows parts.row_most
+      module _ (column_most : a ≡ z.column_most) {m : ℕ} (rows_many : m ≡ z.rows) where
+        pub rows_missing : (Small m e → ⊥) → Parts l → ⊥
+        rows_missing fails p = fails (rw (rows_many, sized.rows, columns_passed.2) p.degrees_of_rows)
 
-      module _ (row_most : b ≡ z.row_most) where
-        rows_passed : Passed s q (get_or l 1 0) (get_or l 3 0) (row_degrees l)
-        rows_passed =
-            degrees_pass (row_degrees l) (get_or l 1 0) (get_or l 3 0) columns_passed.2 (sized.rows fine) row_scan
-            (small_at 4 l 3 0 (sized.told fine) (omega arith)) (row_most ∙ sized.row_most fine)
+        module _ {b : ℕ} {f : List ℕ} (row_scan : Scanned m e b f) where
+          rows_passed : Scanned (get_or l 1 0) (row_degrees l) b f
+          rows_passed = rw (← sized.rows, ← rows_many, ← columns_passed.2) row_scan
 
-        abbrev columns : Side
-        columns = record { count = z.columns; most = z.column_most; degrees = z.end; lists = q }
+          pub rows_differ : (b ≡ z.row_most → ⊥) → Parts l → ⊥
+          rows_differ fails p = fails (rows_passed.1 ∙ sym p.row_most ∙ sym sized.row_most)
 
-        columns_stand : Stands s columns (get_or l 0 0) (get_or l 2 0) (column_degrees l) (column_lists l)
-        columns_stand = record {
-          count_is = sized.columns fine;
-          most_is = sized.column_most fine;
-          degrees_at = sized.rest fine;
-          lists_at = rows_passed.2;
-          degrees_within = sized.within;
-          lists_within = row_scan.within;
-        }
+          module _ (row_most : b ≡ z.row_most) {d' e' : List ℕ} (again_d : d' ≡ d) (again_e : e' ≡ e) where
+            abbrev columns : Side
+            columns = record { count = z.columns; most = z.column_most; degrees = d'; lists = f }
 
-        module _ {f : Bool} {t : ℕ} (column_walk : WalksSide s columns f t) where
-          pub column_lists_fail : f ≡ false → Parts l → ⊥
-          column_lists_fail h parts = lists_fail columns_stand column_walk h parts.lists_of_columns
+            columns_is : columns ≡ columns_of l
+            columns_is = rw (again_d, sized.columns, sized.column_most, sized.rest, rows_passed.2)
 
-          module _ (column_fine : f ≡ true) where
-            lists_of_columns : (filled_lists (get_or l 0 0) (get_or l 2 0) (column_degrees l) (column_lists l) ≡ true) × (from s t ≡ row_lists l)
-            lists_of_columns = lists_pass columns_stand column_walk column_fine
+            pub column_lists_missing : None ≡ walked columns → Parts l → ⊥
+            column_lists_missing h p = let told = none_then _ _ (subst (λ (s : Side). None ≡ walked s) columns_is h) in subst T (sym p.lists_of_columns ∙ told) tt
 
-            abbrev rows : Side
-            rows = record { count = z.rows; most = z.row_most; degrees = p; lists = t }
+            module _ {g : List ℕ} (column_walk : Some g ≡ walked columns) where
+              columns_walked : Walked (columns_of l) g
+              columns_walked = subst (λ (s : Side). Walked s g) columns_is (lists_follow columns g column_walk)
 
-            rows_stand : Stands s rows (get_or l 1 0) (get_or l 3 0) (row_degrees l) (row_lists l)
-            rows_stand = record {
-              count_is = sized.rows fine;
-              most_is = sized.row_most fine;
-              degrees_at = columns_passed.2;
-              lists_at = lists_of_columns.1;
-              degrees_within = column_scan.within;
-              lists_within = column_walk.within;
-            }
+              abbrev rows : Side
+              rows = record { count = z.rows; most = z.row_most; degrees = e'; lists = g }
 
-            module _ {g : Bool} {u : ℕ} (row_walk : WalksSide s rows g u) where
-              pub row_lists_fail : g ≡ false → Parts l → ⊥
-              row_lists_fail h parts = lists_fail rows_stand row_walk h parts.lists_of_rows
+              rows_is : rows ≡ rows_of l
+              rows_is = rw (again_e, sized.rows, sized.row_most, columns_passed.2, columns_walked.1)
 
-              module _ (row_fine : g ≡ true) {x v : ℕ} (after : Next s u x v) where
-                lists_of_rows : (filled_lists (get_or l 1 0) (get_or l 3 0) (row_degrees l) (row_lists l) ≡ true)
-                    × (from s u ≡ drop (get_or l 1 0 * get_or l 3 0) (row_lists l))
-                lists_of_rows = lists_pass rows_stand row_walk row_fine
+              pub row_lists_missing : None ≡ walked rows → Parts l → ⊥
+              row_lists_missing h p = let told = none_then _ _ (subst (λ (s : Side). None ≡ walked s) rows_is h) in subst T (sym p.lists_of_rows ∙ told) tt
 
-                parts : x ≡ none → Parts l
-                parts h = record {
-                  sizes = sized.told fine;
+              module _ {h : List ℕ} (row_walk : Some h ≡ walked rows) where
+                rows_walked : Walked (rows_of l) h
+                rows_walked = subst (λ (s : Side). Walked s h) rows_is (lists_follow rows h row_walk)
+
+                parts : h ≡ [] → Parts l
+                parts none = record {
+                  sizes = sized.four;
                   degrees_of_columns = columns_passed.0;
-                  column_most = columns_passed.1;
+                  column_most = sym sized.column_most ∙ sym column_most ∙ columns_passed.1;
                   degrees_of_rows = rows_passed.0;
-                  row_most = rows_passed.1;
-                  lists_of_columns = lists_of_columns.0;
-                  lists_of_rows = lists_of_rows.0;
-                  none_left = sym lists_of_rows.1 ∙ after.none_left h;
+                  row_most = sym sized.row_most ∙ sym row_most ∙ rows_passed.1;
+                  lists_of_columns = columns_walked.0;
+                  lists_of_rows = rows_walked.0;
+                  none_left = sym rows_walked.1 ∙ none;
                 }
 
-                ends : Parts l → x ≡ none
-                ends parts = after.first ∙ ap (λ (k : List ℕ). get_or k 0 none) (lists_of_rows.1 ∙ parts.none_left)
-
-                told : eqb x none ≡ well_formed l
-                told = same_test (eqb x none) (well_formed l) (λ h. well_formed_lem l (parts (eqb-true x none h))) (λ h. eq-eqb x none (ends (parts_of l h)))
-
-                pub read : Formed s (record { sound = eqb x none; columns = columns; rows = rows })
-                read = record { sound = told; columns = λ h. columns_stand; rows = λ h. rows_stand }
+                pub read : {k : List ℕ} → l ≡ k → (t : Bool) → (IsTrue t → h ≡ []) × (h ≡ [] → IsTrue t)
+                    → then_some t (record { columns = columns; rows = rows }) ≡ form_of k
+                read e t told =
+                    let same = same_test t (well_formed l) (λ e. well_formed_lem l (parts (told.0 e))) (λ e. told.1 (rows_walked.1 ∙ (parts_of l e).none_left)) in
+                    rw (← e, columns_is, rows_is, same)

@@ -1,176 +1,98 @@
-// The form of an alist text (document 02, L1): whether it is one (18), its sizes, and where its parts stand.
+// The form of an alist text: whether it is one (cause 18 where it is not), its sizes, and where its parts stand.
 #![tactic(auto)]
 
-ghost use Rattle.std.specs.Prelude.{◌≡◌, false, [], ◌∷◌, ◌≤◌, leb, length};
-ghost use Rattle.lists.specs.Entries.{every};
-ghost use Rattle.model.specs.Limits.{most_number};
-ghost use Rattle.numbers.specs.Walked.{from};
-ghost use Rattle.alist.specs.Form.{filled_list, Walks, WalksSide, Formed, Sized};
+ghost use Rattle.std.specs.Prelude.{◌≡◌, ◌*◌, drop, IfSome, IfNone};
+ghost use Rattle.std.specs.Bool.{then_some};
+ghost use Rattle.model.specs.Alist.{numbers_of};
+ghost use Rattle.numbers.specs.Walked.{Small};
+ghost use Rattle.alist.specs.Form.{filled_list, filled_lists, Sized, form_of};
 
-use model::MOST_NUMBER;
-use numbers::Side;
+use numbers::{Numbers, Side};
 
-// Whether a text has the form of an alist file, and its two sides.
+// The two sides of a text that has the form of an alist file.
 #[derive(Drop)]
-pub struct Form {
-    pub sound: bool,
-    pub columns: Side,
-    pub rows: Side,
+pub struct Form<'a> {
+    pub columns: Side<'a>,
+    pub rows: Side<'a>,
 }
 
-// Whether what was walked over is sound, and where it ends.
-#[derive(Drop)]
-struct Walk {
-    fine: bool,
-    end: usize,
-}
-
-// The numbers n and m and the largest degrees, whether each of them is one, and where they end.
+// The numbers n and m and the largest degrees.
 #[derive(Drop)]
 struct Sizes {
-    fine: bool,
-    columns: usize,
-    rows: usize,
-    column_most: usize,
-    row_most: usize,
-    end: usize,
+    columns: u16,
+    rows: u16,
+    column_most: u16,
+    row_most: u16,
 }
 
-// Whether `most` numbers from `at` on are `degree` indices and then zeros.
-fn walk_list(text: &[u8], at: usize, degree: usize, most: usize) -> Walk
-    requires { at ≤ length text.now }
-    ensures { Walks text.now at most (filled_list degree most (from text.now at)) result.fine result.end }
+// The numbers behind a list of `most` numbers, where those are `degree` indices and then zeros.
+fn walk_list<'a>(mut numbers: Numbers<'a>, degree: u16, most: u16) -> Option<Numbers<'a>>
+    ensures { result ≡ then_some (filled_list degree most numbers.entry) (drop most numbers.entry) }
 {
-    let mut end = at;
     for i in 0..most {
-        let x = numbers::next(text, end);
-        let value = x.value;
-        end = x.end;
-        if MOST_NUMBER < value {
-            return Walk { fine: false, end };
-        }
+        let value = numbers.number()?;
         if (i < degree) != (0 < value) {
-            return Walk { fine: false, end };
+            return None;
         }
     }
-    Walk {
-        fine: degree <= most,
-        end,
-    }
+    (degree <= most).then_some(numbers)
 }
 
-// Whether the lists of a side are so, each for its degree.
-fn walk_lists(text: &[u8], side: Side) -> Walk
-    requires { (side.degrees ≤ length text.now) × (side.lists ≤ length text.now) }
-    ensures { WalksSide text.now side result.fine result.end }
+// The numbers behind the lists of a side, where they are so, each for its degree.
+fn walk_lists<'a>(side: &Side<'a>) -> Option<Numbers<'a>>
+    ensures { result
+        ≡ then_some (filled_lists side.now.count side.now.most side.now.degrees side.now.lists) (drop (side.now.count * side.now.most) side.now.lists) }
 {
-    let count = side.count;
     let most = side.most;
-    let mut degrees = side.degrees;
-    let mut end = side.lists;
-    for i in 0..count {
-        let degree = numbers::next(text, degrees);
-        degrees = degree.end;
-        let list = walk_list(text, end, degree.value, most);
-        end = list.end;
-        if !list.fine {
-            return Walk { fine: false, end };
-        }
+    let mut degrees = side.degrees.again();
+    let mut lists = side.lists.again();
+    for _ in 0..side.count {
+        let degree = degrees.number()?;
+        lists = walk_list(lists, degree, most)?;
     }
-    Walk { fine: true, end }
+    Some(lists)
 }
 
-// Whether four numbers are at most MOST_NUMBER.
-fn all_small(a: usize, b: usize, c: usize, d: usize) -> bool
-    ensures { result ≡ every (λ x. leb x most_number) (a ∷ b ∷ c ∷ d ∷ []) }
+// The next four numbers.
+fn read_sizes(numbers: &mut Numbers) -> Option<Sizes>
+    ensures found { IfSome result (λ sizes. Sized numbers.old sizes numbers.new) }
+    ensures missing { IfNone result (Small 4 numbers.old → ⊥) }
 {
-    if MOST_NUMBER < a {
-        return false;
-    }
-    if MOST_NUMBER < b {
-        return false;
-    }
-    if MOST_NUMBER < c {
-        return false;
-    }
-    d <= MOST_NUMBER
+    Some(Sizes {
+        columns: numbers.number()?,
+        rows: numbers.number()?,
+        column_most: numbers.number()?,
+        row_most: numbers.number()?,
+    })
 }
 
-// The first four numbers.
-fn read_sizes(text: &[u8]) -> Sizes
-    ensures { Sized text.now result }
+// The two sides of a text, where it has the form of an alist file.
+pub fn read_form(text: &[u8]) -> Option<Form<'_>>
+    ensures { result ≡ form_of (numbers_of 0 text.now) }
 {
-    let n = numbers::next(text, 0);
-    let m = numbers::next(text, n.end);
-    let c = numbers::next(text, m.end);
-    let r = numbers::next(text, c.end);
-    Sizes {
-        fine: all_small(n.value, m.value, c.value, r.value),
-        columns: n.value,
-        rows: m.value,
-        column_most: c.value,
-        row_most: r.value,
-        end: r.end,
+    let mut numbers = Numbers::new(text);
+    let sizes = read_sizes(&mut numbers)?;
+    let column_degrees = numbers.again();
+    if numbers.largest(usize::from(sizes.columns))? != sizes.column_most {
+        return None;
     }
-}
-
-// The answer for a text that is no alist file.
-fn unsound() -> Form
-    ensures { result.sound ≡ false }
-{
-    let none = Side {
-        count: 0,
-        most: 0,
-        degrees: 0,
-        lists: 0,
-    };
-    Form {
-        sound: false,
-        columns: none,
-        rows: none,
-    }
-}
-
-// Whether a text has the form of an alist file, and where its parts stand.
-pub fn read_form(text: &[u8]) -> Form
-    ensures { Formed text.now result }
-{
-    let sizes = read_sizes(text);
-    if !sizes.fine {
-        return unsound();
-    }
-    let column_degrees = numbers::largest(text, sizes.end, sizes.columns);
-    if column_degrees.largest != sizes.column_most {
-        return unsound();
-    }
-    let row_degrees = numbers::largest(text, column_degrees.end, sizes.rows);
-    if row_degrees.largest != sizes.row_most {
-        return unsound();
+    let row_degrees = numbers.again();
+    if numbers.largest(usize::from(sizes.rows))? != sizes.row_most {
+        return None;
     }
     let columns = Side {
         count: sizes.columns,
         most: sizes.column_most,
-        degrees: sizes.end,
-        lists: row_degrees.end,
+        degrees: column_degrees,
+        lists: numbers,
     };
-    let column_lists = walk_lists(text, columns);
-    if !column_lists.fine {
-        return unsound();
-    }
+    let row_lists = walk_lists(&columns)?;
     let rows = Side {
         count: sizes.rows,
         most: sizes.row_most,
-        degrees: column_degrees.end,
-        lists: column_lists.end,
+        degrees: row_degrees,
+        lists: row_lists,
     };
-    let row_lists = walk_lists(text, rows);
-    if !row_lists.fine {
-        return unsound();
-    }
-    let after = numbers::next(text, row_lists.end);
-    Form {
-        sound: after.value == numbers::NONE,
-        columns,
-        rows,
-    }
+    let rest = walk_lists(&rows)?;
+    rest.is_empty().then_some(Form { columns, rows })
 }

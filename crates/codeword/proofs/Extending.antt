@@ -3,25 +3,20 @@ use Rattle.integers.proofs.Prelude.{◌≡◌, refl, sym, ap, ◌∙◌, List, [
 use Rattle.integers.proofs.Prelude.{lt-ltb, length, get_or, take, drop, set, length-append, take-append-drop, length-take-le, take_all}
 use Rattle.integers.proofs.Prelude.{take-add, drop-cons}
 use Rattle.lists.specs.Tabulated.{written}
-use Rattle.lists.specs.Entries.{total}
 use Rattle.lists.proofs.Tabulated.{length_written, written_in, take_written}
 use Rattle.lists.proofs.Parts.{written_next, written_over}
 use Rattle.model.specs.Limits.{most_variables}
-use Rattle.model.specs.Code.{turns, triple_count, variables}
-use Rattle.model.specs.Records.{bit_count, check_count, indices, after_check, checks_in, code_of, judge}
-use Rattle.model.specs.Sound.{SoundCheck}
+use Rattle.model.specs.Code.{Code, turns, triple_count, variables}
+use Rattle.model.specs.Sound.{Sound, SoundCheck}
 use Rattle.model.specs.Splitting.{blank, triples_of, triples_from, system_of, member}
 use Rattle.model.specs.TripleRule.{items, TripleRule}
 use Rattle.model.specs.Words.{bit_at}
 use Rattle.model.specs.Points.{extend, point_of}
-use Rattle.model.proofs.Accepted.{accepted}
-use Rattle.model.proofs.Points.{extend_made, extend_kept, extend_long}
+use Rattle.model.proofs.Points.{extend_made, extend_kept}
 use Rattle.model.proofs.Sound.{rising_below}
-use Rattle.model.proofs.TripleRule.{triple_rule, few_variables}
-use Rattle.records.proofs.Walk.{total_within}
-use Rattle.triples.proofs.Auxiliaries.{body, Numbered, numbered_next, checks_so_far}
+use Rattle.model.proofs.TripleRule.{triples_of_long, triple_rule}
+use Rattle.triples.proofs.Left.{Left, all_left, check_sound, next_most, one_less}
 use Rattle.triples.proofs.Items.{length_waiting, item_bit, item_auxiliary}
-use Rattle.triples.proofs.Writing.{members_to, members_next, length_members}
 
 extend_append : (n : ℕ) (ts rest p : List ℕ) → length ts ≡ 3 * n → extend (ts ++ rest) p ≡ extend rest (extend ts p)
 unfolding extend
@@ -113,51 +108,42 @@ module _ (c : List ℕ) (a : ℕ) (sound : SoundCheck a c) (low : a ≤ most_var
         let kept = extend_kept _ _ (member (triples_of c a) n 2) [] (made c a p n) (λ e. last_kept (e ∙ made_long n (omega arith))) in
         sym (ap (λ (l : List ℕ). extend l p) (sym (take_all (3 * (n + 1)) (triples_of c a) (omega (arith, rule.long)))) ∙ made_triple p n (omega arith) ∙ kept)
 
--- ---- all checks: check j is next, at `rest`, and `next` is its first auxiliary
-abbrev pub point_to : List ℕ → List ℕ → ℕ → List ℕ
-point_to b w j = extend (members_to b j) w
+-- ---- check after check: the first `next` entries of the point stand in the list that was old, and the triples of the checks that are left make the others
+pub record Extended (k : Code) (w old : List ℕ) (left : List (List ℕ)) (next : ℕ) (now : List ℕ) : Type 0 where
+  pub left_to_do : Left k left next
+  pub entries : List ℕ
+  pub long : length entries ≡ next
+  pub whole : extend (triples_from left next) entries ≡ point_of k w
+  pub filled : now ≡ written entries old
 
-module _ (b w : List ℕ) (judged : judge b ≡ 0) (word_long : length w ≡ (code_of b).bits) where
-  module _ (j : ℕ) (rest : List ℕ) (next : ℕ) (n : Numbered b j rest next) where
-    pub point_long : length (point_to b w j) ≡ next
-    unfolding code_of
-    point_long =
-        let s = accepted b judged in
-        extend_long (bit_count b) (omega (arith, s.bits_least)) (checks_in j (body b)) (bit_count b) (omega arith)
-        (omega (arith, total_within turns j (check_count b) (body b) n.few, few_variables (code_of b) s)) (checks_so_far b j judged n.few) w word_long
-        ∙ sym n.auxiliary
+module _ (k : Code) (s : Sound k) (w old : List ℕ) (fits : variables k ≤ length old) where
+  pub word_copied : length w ≡ k.bits → (now : List ℕ) → now ≡ written w old → Extended k w old k.checks (length w) now
+  unfolding system_of
+  word_copied long now e = record { left_to_do = rw long (all_left k s); entries = w; long = refl; whole = rw long refl; filled = e }
 
-    pub point_next : point_to b w (j + 1) ≡ extend (triples_of (indices rest) next) (point_to b w j)
-    point_next =
-        rw (members_next b j rest next n) (extend_append (total triple_count (checks_in j (body b))) (members_to b j) _ w (length_members b judged j n.few))
+  pub all_made : (next : ℕ) (now : List ℕ) → Extended k w old [] next now → now ≡ written (point_of k w) old
+  unfolding triples_from extend
+  all_made next now x = x.filled ∙ ap (λ (p : List ℕ). written p old) x.whole
 
-  -- `old` is the lent list with the word copied to it
-  module _ (old lent : List ℕ) (fits : variables (code_of b) ≤ length lent) (copied : old ≡ written w lent) where
-    pub filled_start : old ≡ written (point_to b w 0) old
-    unfolding checks_in triples_from extend
-    filled_start = rw copied (sym (written_over w w lent (omega arith)))
+  module _ (left : List (List ℕ)) (next : ℕ) (now : List ℕ) (x : Extended k w old left next now) where
+    pub length_now : length now ≡ length old
+    length_now = ap length x.filled ∙ length_written x.entries old (omega (arith, x.long, x.left_to_do.last, fits))
 
-    module _ (j : ℕ) (rest : List ℕ) (next : ℕ) (n : Numbered b j rest next) (point : List ℕ) (filled : point ≡ written (point_to b w j) old) where
-      below : next ≤ variables (code_of b)
-      unfolding code_of
-      below = omega (arith, n.auxiliary, total_within turns j (check_count b) (body b) n.few)
-
-      pub length_now : length point ≡ length lent
-      length_now =
-          let e : length old ≡ length lent = ap length copied ∙ length_written w lent (omega arith) in
-          ap length filled ∙ length_written (point_to b w j) old (omega (arith, point_long j rest next n, below)) ∙ e
-
-      pub filled_next : (t q : List ℕ) (next' : ℕ) → j < check_count b → t ≡ after_check rest → next' ≡ next + turns (indices rest)
-          → q ≡ written (extend (triples_of (indices rest) next) (take next point)) point → Numbered b (j + 1) t next' × (q ≡ written (point_to b w (j + 1)) old)
-      filled_next t q next' h r e is =
-          let m = numbered_next b j rest next n h t next' r e in
-          let p = point_to b w j in
-          let begun : take next point ≡ p = ap (take next) filled ∙ take_written p old next (point_long j rest next n) in
-          let over = written_over (point_to b w (j + 1)) p old (omega (arith, point_long j rest next n, point_long (j + 1) t next' m)) in
-          (m, is ∙ rw (begun, ← point_next j rest next n) (ap (written (point_to b w (j + 1))) filled ∙ over))
-
-      pub filled_end : check_count b ≤ j → point ≡ written (point_of (code_of b) w) lent
-      unfolding system_of code_of
-      filled_end h =
-          let e : check_count b ≡ j = omega (arith, n.few) in
-          filled ∙ rw (← e) (ap (written (point_to b w (check_count b))) copied ∙ written_over (point_to b w (check_count b)) w lent (rw e (omega (arith, point_long j rest next n, n.auxiliary))))
+  pub check_made : (check : List ℕ) (left : List (List ℕ)) (next : ℕ) (now : List ℕ) → Extended k w old (check ∷ left) next now
+      → (q : List ℕ) → q ≡ written (extend (triples_of check next) (take next now)) now → Extended k w old left (next + turns check) q
+  unfolding triples_from
+  check_made check left next now x q e =
+      let sound = check_sound k s check left next x.left_to_do in
+      let low = next_most k s check left next x.left_to_do in
+      let p = extend (triples_of check next) x.entries in
+      let taken : take next now ≡ x.entries = ap (take next) x.filled ∙ take_written x.entries old next x.long in
+      let long : length p ≡ next + turns check
+      = ap length (sym (made_all check next sound low x.entries x.long)) ∙ made_long check next sound low x.entries x.long (turns check) (omega arith) in
+      let parted = extend_append (triple_count check) (triples_of check next) (triples_from left (next + turns check)) x.entries (triples_of_long check next sound.least) in
+      record {
+        left_to_do = one_less k s check left next x.left_to_do;
+        entries = p;
+        long = long;
+        whole = sym parted ∙ x.whole;
+        filled = e ∙ rw taken (ap (written p) x.filled ∙ written_over p x.entries old (omega (arith, long, x.long)));
+      }

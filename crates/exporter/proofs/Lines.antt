@@ -129,20 +129,6 @@ module _ {at : ℕ} {a b c : List ℕ} {next end : ℕ} where
   ended [] h p q = absurd (omega arith)
   ended (x ∷ l) h p q = rw (inner_line x l) (replaced (inner x l) 32 10 (rw (inner_spaced x l) at p) q)
 
--- ---- one piece after another: there is room for what is left
-pub record Room (at : ℕ) (left a : List ℕ) : Type 0 where
-  pub fits : at + length left ≤ length a
-
-pub room_start : (left a : List ℕ) → length left ≤ length a → Room 0 left a
-room_start left a h = record { fits = omega arith }
-
--- for the next piece, and for what is left after it
-pub room_here : {at : ℕ} {a : List ℕ} (t rest : List ℕ) → Room at (t ++ rest) a → at + length t ≤ length a
-room_here t rest r = omega (arith, r.fits, length-append t rest)
-
-pub room_next : {at next : ℕ} {t a b : List ℕ} (rest : List ℕ) → Room at (t ++ rest) a → Appended at t a b next → Room next rest b
-room_next {t = t} rest r p = record { fits = omega (arith, r.fits, length-append t rest, p.ends, long p) }
-
 -- a list that is filled to its own length
 pub fill_none : (l : List ℕ) → fill (length l) l ≡ l
 fill_none l = let z : length l - length l ≡ 0 = omega arith in rw z (append-nil l)

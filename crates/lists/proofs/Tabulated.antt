@@ -29,6 +29,10 @@ module _ {ℓ} {A : Type ℓ} where
   tab_replicate zero x = refl
   tab_replicate (suc n) x = ap (λ l. x ∷ l) (tab_replicate n x)
 
+  -- of numbers, what `fill(x)` leaves of a list, by what it ensures
+  pub tab_fill : (l : List A) (n : ℕ) (x : A) → (((y : A) → y ≡ x → y ≡ x) → l ≡ replicate n x) → l ≡ tab n (λ _. x)
+  tab_fill l n x after = after (λ y e. e) ∙ sym (tab_replicate n x)
+
   pub tab_get_or : (l : List A) (d : A) → tab (length l) (λ i. get_or l i d) ≡ l
   tab_get_or [] d = refl
   tab_get_or (x ∷ l) d = ap (◌∷◌ x) (tab_get_or l d)

@@ -8,7 +8,6 @@ use Rattle.lists.specs.Tabulated.{written, part}
 use Rattle.lists.specs.Entries.{some}
 use Rattle.lists.proofs.Tabulated.{take_written}
 use Rattle.lists.proofs.Parts.{length_part}
-use Rattle.model.specs.declared.Length.{Length}
 use Rattle.model.specs.Limits.{most_encoded_bits}
 use Rattle.model.specs.Causes.{◌if◌, first_of, short, accepted}
 use Rattle.model.specs.Code.{Code}
@@ -19,7 +18,7 @@ use Rattle.model.specs.Reflection.{reflect, sum_of_words}
 use Rattle.model.specs.Calls.{unequal, not_binary, Costs}
 use Rattle.model.specs.Order.{odd_causes, one_to_nine}
 use Rattle.model.specs.Told.{Refuses}
-use Rattle.model.specs.Encoding.{reduced, message_length, encoded, message_of, frames_in, encoded_frames, size_causes, message_size, Encoding, message_causes}
+use Rattle.model.specs.Encoding.{Length, reduced, message_length, encoded, message_of, frames_in, encoded_frames, size_causes, message_size, Encoding, message_causes}
 use Rattle.model.specs.Encoding.{encoder_causes, encoder, frames_causes, frames_encoder, MessageRead, message_reader_causes, message_reader, Encodes}
 use Rattle.model.specs.EncodingPromises.{Encodable, LengthCall, EncoderCall, FramesCall, MessageCall}
 use Rattle.model.proofs.Causes.{stays, clear, unless}

@@ -1,18 +1,21 @@
 -- Document 01, 'Causes and codes': for each call of the library, from its inputs and the lent lists as they were, its number and values
 -- and the lists as they are afterwards. The order of the causes is the order of the list `.._causes`; where code records are read, theirs come first.
 -- `.._told` gives the number and the values of every case of an answer. Definitions only.
-use Rattle.std.specs.Prelude.{Bool, false, not, ◌||◌, List, [], ◌∷◌, ◌++◌, map, ℕ, suc, ◌*◌, ◌≤◌, ltb, eqb, Float, ℤ, pos, negsuc, length}
+use Rattle.std.specs.Prelude.{Bool, false, not, ◌||◌, List, [], ◌∷◌, ◌++◌, map, ℕ, suc, ◌*◌, ◌≤◌, ltb, eqb, Float, ℤ, pos, negsuc, length, Result, Ok, Err}
 use Rattle.lists.specs.Tabulated.{written}
 use Rattle.lists.specs.Entries.{some}
 use Rattle.quotient.specs.Quotient.{quotient}
 use Rattle.model.specs.declared.Settings.{Settings}
 use Rattle.model.specs.declared.Channel as declared
-use Rattle.model.specs.declared.Reading.{Reading}
+use Rattle.model.specs.declared.Cause.{Cause}
+use Rattle.model.specs.declared.Sizes.{Sizes}
 use Rattle.model.specs.declared.Verdict.{Verdict}
+use Rattle.model.specs.declared.Conclusion.{Conclusion}
+use Rattle.model.specs.declared.Ending.{Ending}
 use Rattle.model.specs.declared.Decoding.{Decoding}
 use Rattle.model.specs.declared.DecodeAnswer.{DecodeAnswer}
 use Rattle.model.specs.Limits.{most_weight, most_ratio, most_iterations}
-use Rattle.model.specs.Causes.{◌if◌, first_of, short, outside, accepted}
+use Rattle.model.specs.Causes.{number, ◌if◌, first_of, short, outside, accepted}
 use Rattle.model.specs.Code.{Code, triples, variables}
 use Rattle.model.specs.Records.{code_of, judge}
 use Rattle.model.specs.Splitting.{system_of}
@@ -57,9 +60,9 @@ pub record ReaderAnswer : Type 0 where
   pub checks : ℕ
   pub triples : ℕ
 
-abbrev pub reading_told : Reading → ReaderAnswer
-reading_told (Reading.Code n m t) = record { number = 0; bits = n; checks = m; triples = t }
-reading_told (Reading.Refused c) = record { number = c; bits = 0; checks = 0; triples = 0 }
+abbrev pub reading_told : Result Sizes Cause → ReaderAnswer
+reading_told (Ok s) = record { number = 0; bits = s.bits; checks = s.checks; triples = s.triples }
+reading_told (Err c) = record { number = number c; bits = 0; checks = 0; triples = 0 }
 
 unfoldable pub reader : List ℕ → ReaderAnswer
 reader b = record {
@@ -89,10 +92,10 @@ splitter b ts cs =
     }
 
 -- ---- the codeword test, and the extension
-abbrev pub verdict_told : Verdict → Outcome
-verdict_told Verdict.Codeword = record { number = 0; place = 0 }
-verdict_told (Verdict.Odd j) = record { number = 17; place = j }
-verdict_told (Verdict.Refused c) = record { number = c; place = 0 }
+abbrev pub verdict_told : Result Verdict Cause → Outcome
+verdict_told (Ok Verdict.Codeword) = record { number = 0; place = 0 }
+verdict_told (Ok (Verdict.Odd j)) = record { number = 17; place = j }
+verdict_told (Err c) = record { number = number c; place = 0 }
 
 -- the test of a word, unless the cause c refuses it
 abbrev pub tested_unless : ℕ → Code → List ℕ → Outcome
@@ -142,11 +145,20 @@ pub record Answer : Type 0 where
 abbrev pub run_told : DecodeAnswer → Answer
 run_told a = record { number = a.number; place = a.place; k = a.k; settled = a.settled }
 
-abbrev pub decoding_told : Decoding → Answer
-decoding_told (Decoding.Word e) = record { number = 0; place = 0; k = e.k; settled = e.settled }
-decoding_told (Decoding.Undecided v e) = record { number = 16; place = v; k = e.k; settled = e.settled }
-decoding_told (Decoding.Odd j e) = record { number = 17; place = j; k = e.k; settled = e.settled }
-decoding_told (Decoding.Refused c) = record { number = c; place = 0; k = 0; settled = 0 }
+-- what the last values say
+abbrev pub conclusion_told : Conclusion → Outcome
+conclusion_told Conclusion.Word = record { number = 0; place = 0 }
+conclusion_told (Conclusion.Undecided v) = record { number = 16; place = v }
+conclusion_told (Conclusion.Odd j) = record { number = 17; place = j }
+
+-- 1 where a run settled, otherwise 0
+abbrev pub settled_told : Ending → ℕ
+settled_told e = 1 if e.settled
+
+abbrev pub decoding_told : Result Decoding Cause → Answer
+decoding_told (Ok d) = let out = conclusion_told d.conclusion in
+    record { number = out.number; place = out.place; k = d.ending.k; settled = settled_told d.ending }
+decoding_told (Err c) = record { number = number c; place = 0; k = 0; settled = 0 }
 
 pub record Decoded : Type 0 where
   pub answer : Answer

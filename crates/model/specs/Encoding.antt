@@ -3,7 +3,6 @@ use Rattle.std.specs.Prelude.{◌≡◌, Bool, true, false, not, ◌↔◌, List
 use Rattle.integers.specs.Sum.{sum_ℕ}
 use Rattle.lists.specs.Tabulated.{tab, written, part}
 use Rattle.lists.specs.Entries.{some, total}
-use Rattle.model.specs.declared.Length.{Length}
 use Rattle.model.specs.Limits.{most_encoded_bits}
 use Rattle.model.specs.Causes.{◌if◌, first_of, short, accepted}
 use Rattle.model.specs.Code.{Code}
@@ -93,6 +92,10 @@ abbrev pub size_causes : Code → List ℕ
 size_causes k = 20 if ltb most_encoded_bits k.bits ∷ []
 
 -- how long a message is
+pub record Length : Type 0 where
+  pub number : ℕ
+  pub length : ℕ
+
 unfoldable pub message_size : List ℕ → Length
 message_size b =
     let k = code_of b in

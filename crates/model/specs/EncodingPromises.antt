@@ -3,7 +3,6 @@
 use Rattle.std.specs.Prelude.{◌≡◌, false, ◌↔◌, List, [], ◌∷◌, ◌++◌, ℕ, suc, ◌*◌, ◌≤◌, ◌<◌, ℤ, length, take}
 use Rattle.lists.specs.Tabulated.{written, part}
 use Rattle.model.specs.declared.Settings.{Settings}
-use Rattle.model.specs.declared.Length.{Length}
 use Rattle.model.specs.Limits.{most_encoded_bits}
 use Rattle.model.specs.Records.{code_of, judge, whole_causes, record_causes}
 use Rattle.model.specs.Words.{tested}
@@ -13,7 +12,7 @@ use Rattle.model.specs.Calls.{codeword_test, Lists, Decoded, lacks_room, decoder
 use Rattle.model.specs.Order.{odd_causes, Follows, Ordered, one_to_nine}
 use Rattle.model.specs.WordClaims.{Tested}
 use Rattle.model.specs.DecoderClaims.{Small, ReflectedCalls}
-use Rattle.model.specs.Encoding.{message_length, encoded, message_of, encoded_frames, size_causes, message_size, Encoding}
+use Rattle.model.specs.Encoding.{Length, message_length, encoded, message_of, encoded_frames, size_causes, message_size, Encoding}
 use Rattle.model.specs.Encoding.{encoder_causes, encoder, frames_causes, frames_encoder, MessageRead, message_reader_causes, message_reader, Encodes}
 
 -- the code that the records b have is accepted, and not too long to be encoded

@@ -13,6 +13,7 @@ pub mod Points
 pub mod Reflection
 pub mod Channel
 pub mod Calls
+pub mod Lent
 pub mod Group
 pub mod Text
 -- statements about them

@@ -1,6 +1,9 @@
-// What callers hand over and what they are told, and the limits of documents 01 and 02. The meaning of each, and every definition that a contract cites, stands
-// in specs/. No functions.
+// What callers hand over and what they are told, and the limits of both. The meaning of each, and every definition that a contract cites, stands in specs/.
 #![tactic(auto)]
+
+ghost use Rattle.std.specs.Prelude.{◌≡◌};
+ghost use Rattle.model.specs.Causes.{number};
+ghost use Rattle.model.specs.Calls.{run_told, decoding_told};
 
 // ---- the limits, which specs/Limits.antt has under the same names
 
@@ -33,7 +36,7 @@ pub const MOST_FRAMES: usize = 8;
 
 // ---- what is handed over and told
 
-// The settings of a run: cost weight W, ratio A, iterations K and tolerance X of document 01.
+// The settings of a run: cost weight W, ratio A, iterations K and tolerance X.
 #[derive(Clone, Copy)]
 pub struct Settings {
     pub weight: u32,
@@ -42,14 +45,14 @@ pub struct Settings {
     pub tolerance: u32,
 }
 
-// "erasing with a floor and a weight that belong together"
+// What erases a sample, and what the others weigh.
 #[derive(Clone, Copy)]
 pub struct Erasure {
     pub floor: f32,
     pub weight: f32,
 }
 
-// "A channel setting is one of three kinds."
+// A channel setting is one of three kinds.
 #[derive(Clone, Copy)]
 pub enum Channel {
     Gaussian(f32),
@@ -57,53 +60,112 @@ pub enum Channel {
     Erasing(Erasure),
 }
 
-// The reader's answer.
-#[derive(Drop)]
-pub enum Reading {
-    Code {
-        bits: usize,
-        checks: usize,
-        triples: usize,
-    },
-    Refused(u32),
+// Why a call is refused, by the number that a caller from C is told. 0 is success, and 16 and 17 are outcomes of a run or of a test.
+#[derive(Clone, Copy, Debug, PartialEq, Eq)]
+pub enum Cause {
+    // the bytes end inside a record
+    Cut = 1,
+    // another mark than the due one
+    Mark = 2,
+    // the number of bits or of checks is outside its range
+    Size = 3,
+    // a degree is outside 2..32
+    Degree = 4,
+    // an index is as large as the number of bits, or larger
+    Index = 5,
+    // an index is not above the one before
+    Order = 6,
+    // the checks have more than 8,192 triples
+    Triples = 7,
+    // some bit lies in no check
+    Uncovered = 8,
+    // bytes after the last check
+    Trailing = 9,
+    // a lent list is too short
+    Room = 10,
+    // a setting is outside its range
+    Setting = 11,
+    // lengths of lists that must agree do not
+    Lengths = 12,
+    // a cost is -32,768
+    Cost = 13,
+    // a sample is not finite
+    Sample = 14,
+    // an entry of a word is neither 0 nor 1
+    Entry = 15,
+    // a text is not in the strict form of an alist file
+    Text = 18,
+    // columns and rows of an alist text do not name the same places
+    Places = 19,
+    // a code has more than 256 bits, which is too long for the encoder
+    Long = 20,
+    // the number of frames is outside 1..8
+    Frames = 21,
 }
 
-// The answer of the codeword test, of the extension and of what reads a message; Odd has the first check with an odd sum.
-#[derive(Drop)]
+impl Cause {
+    pub fn number(self) -> u32
+        ensures { result ≡ number self }
+    {
+        self as u32
+    }
+}
+
+impl From<Cause> for u32 {
+    ghost from_gives = { λ cause told. told ≡ number cause };
+
+    fn from(cause: Cause) -> u32 {
+        cause.number()
+    }
+}
+
+// The sizes of a code.
+#[derive(Clone, Copy, PartialEq, Eq)]
+pub struct Sizes {
+    pub bits: usize,
+    pub checks: usize,
+    pub triples: usize,
+}
+
+// Whether a word is a codeword; Odd has the first check with an odd sum.
+#[derive(Clone, Copy, PartialEq, Eq)]
 pub enum Verdict {
     Codeword,
     Odd(usize),
-    Refused(u32),
 }
 
 // How a run ended: after k iterations, settled or not.
-#[derive(Drop)]
+#[derive(Clone, Copy, PartialEq, Eq)]
 pub struct Ending {
     pub k: u32,
-    pub settled: u32,
+    pub settled: bool,
 }
 
-// The decoder's answer; Undecided has the lowest bit with the value 0, Odd the first check with an odd sum.
-#[derive(Drop)]
-pub enum Decoding {
-    Word(Ending),
-    Undecided(usize, Ending),
-    Odd(usize, Ending),
-    Refused(u32),
+// What the last values say; Undecided has the lowest bit with the value 0, Odd the first check with an odd sum.
+#[derive(Clone, Copy, PartialEq, Eq)]
+pub enum Conclusion {
+    Word,
+    Undecided(usize),
+    Odd(usize),
 }
 
-// The answer of import and export: how many bytes were written, 0 when refused.
-#[derive(Drop)]
-pub struct Written {
-    pub number: u32,
-    pub bytes: usize,
+// What a run gives.
+#[derive(Clone, Copy, PartialEq, Eq)]
+pub struct Decoding {
+    pub conclusion: Conclusion,
+    pub ending: Ending,
 }
 
-// How long a message is, 0 when refused.
+// The lists that a caller lends to the decoder. For T triples, V variables and n bits of a code it wants 3T, V, V, V, 4T and n entries; for a group of frames as many of
+// the last four for each frame. Entries past those stay.
 #[derive(Drop)]
-pub struct Length {
-    pub number: u32,
-    pub length: usize,
+pub struct Lists<'a> {
+    pub triples: &'a mut [u16],
+    pub counts: &'a mut [u16],
+    pub sums: &'a mut [i64],
+    pub values: &'a mut [i16],
+    pub rows: &'a mut [i32],
+    pub word: &'a mut [u8],
 }
 
 // What is told of a run: a number, a bit or a check, the iterations, and whether the frame settled.
@@ -114,6 +176,35 @@ pub struct DecodeAnswer {
     pub place: usize,
     pub k: u32,
     pub settled: u32,
+}
+
+// What is told of a run to a caller from C; of a refused one only the cause's number.
+impl From<Result<Decoding, Cause>> for DecodeAnswer {
+    ghost from_gives = { λ decoded told. run_told told ≡ decoding_told decoded };
+
+    fn from(decoded: Result<Decoding, Cause>) -> DecodeAnswer {
+        match decoded {
+            Ok(Decoding { conclusion, ending }) => {
+                let (number, place) = match conclusion {
+                    Conclusion::Word => (0, 0),
+                    Conclusion::Undecided(v) => (16, v),
+                    Conclusion::Odd(j) => (17, j),
+                };
+                DecodeAnswer {
+                    number,
+                    place,
+                    k: ending.k,
+                    settled: u32::from(ending.settled),
+                }
+            }
+            Err(cause) => DecodeAnswer {
+                number: cause.number(),
+                place: 0,
+                k: 0,
+                settled: 0,
+            },
+        }
+    }
 }
 
 // A group's answer: its number, and what is told of each frame. Past the group's frames, and of a refused group, all numbers are 0.

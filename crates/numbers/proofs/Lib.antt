@@ -1,9 +1,8 @@
--- What crates above cite of a walk over the numbers of a text (`numbers::next`, `numbers::largest`; `numbers::read`'s laws are in Fill):
+-- What crates above cite of the numbers that are read (Filling has the laws of `numbers::fill`):
 --
---   the number at a place that stands after j numbers, and the place after it: next_at; whether it is there: there, same_at  Walk
+--   the number after j others, where it is one and where it is none: next_at, none_at; whether it is there: there, same_at    Walk
 --   what stands behind j entries: first_behind, next_behind                                                                Walk
 --   so many numbers of at most 65,535: small_none, small_next, small_cons, small_at; with what is behind them: small_join, small_front,
 --   small_behind, small_part, small_all                                                                                  Walk
---   the largest of so many small numbers, and where they end: scanned_small                                              Walk
 pub mod Walk
-pub mod Fill
+pub mod Filling

@@ -1,5 +1,5 @@
 -- The numbers of a text from a place on, and numbers of at most 65,535. Assumes nothing.
-use Rattle.integers.proofs.Prelude.{◌≡◌, refl, sym, ap, ◌∙◌, true, false, ◌&&◌, List, [], ◌∷◌, ℕ, zero, suc, ◌+◌, ◌≤◌, ◌<◌, max, arith, dec_lt}
+use Rattle.integers.proofs.Prelude.{◌≡◌, refl, sym, ap, ◌∙◌, true, false, ◌&&◌, List, [], ◌∷◌, ℕ, zero, suc, ◌+◌, ◌-◌, ◌≤◌, ◌<◌, max, arith, dec_lt}
 use Rattle.integers.proofs.Prelude.{leb-true, le-leb, length, get_or, take, drop, get_or-eq_default, length-take-le, drop-drop}
 use Rattle.integers.proofs.Prelude.{get_or-take, get_or-drop, length-drop, take-append-drop, take-add, take-suc}
 use native.Mathlib.Nat.{add-zero}
@@ -7,10 +7,14 @@ use Rattle.lists.specs.Entries.{every}
 use Rattle.lists.proofs.Entries.{every_at, every_in, every_append}
 use Rattle.lists.proofs.Tests.{and_left, and_right}
 use Rattle.model.specs.Limits.{most_number}
-use Rattle.model.specs.Alist.{separator, numbers_of, largest}
-use Rattle.model.proofs.Spelling.{walk_apart, walk_in}
+use Rattle.model.specs.Alist.{separator, further, numbers_of, largest}
+use Rattle.model.proofs.Spelling.{numbers_end, by_byte, walk_apart, walk_in, walk_end}
 use Rattle.model.proofs.AlistLines.{small}
-use Rattle.numbers.specs.Walked.{from, none, Next, Small, Scanned}
+use Rattle.numbers.specs.Walked.{none, Small, Skipped}
+
+-- the numbers of the text s from the place i on
+abbrev pub from : List ℕ → ℕ → List ℕ
+from s i = numbers_of 0 (drop i s)
 
 -- ---- at the place i of the text s
 module _ (s : List ℕ) (i : ℕ) where
@@ -22,6 +26,28 @@ module _ (s : List ℕ) (i : ℕ) where
   pub walk_out : (x : ℕ) → i < length s → separator (get_or s i 0) ≡ true → numbers_of (suc x) (drop i s) ≡ x ∷ from s i
   walk_out x h e = walk_apart (suc x) s i h e ∙ ap (◌∷◌ x) (sym (walk_apart 0 s i h e))
 
+  -- the last number ends with the text
+  pub walk_out_end : (x : ℕ) → length s ≤ i → numbers_of (suc x) (drop i s) ≡ x ∷ numbers_of 0 []
+  walk_out_end x h = walk_end (suc x) s i h ∙ ap (◌∷◌ x) (sym (numbers_end 0))
+
+-- a number that is begun is there
+begun_some : (x : ℕ) (t : List ℕ) → 1 ≤ length (numbers_of (suc x) t)
+begun_some x [] = rw (numbers_end (suc x)) (omega arith)
+begun_some x (b ∷ t) = by_byte (λ l. 1 ≤ length l) (suc x) b t (λ _. omega arith) (λ _. begun_some (further (suc x - 1) b) t)
+
+-- ---- behind separators
+module _ {s r : List ℕ} (k : Skipped s r) where
+  -- nothing is left exactly where no number is
+  pub none_left : length r ≡ 0 → numbers_of 0 s ≡ []
+  none_left e = sym k.rest ∙ walk_end 0 r 0 (omega arith)
+
+  pub left_none : numbers_of 0 s ≡ [] → length r ≡ 0
+  left_none e = by (dec_lt 0 (length r))
+    where
+      by : Dec (0 < length r) → length r ≡ 0
+      by (yes h) = absurd (omega (arith, begun_some (further 0 (get_or r 0 0)) (drop 1 r), ap length (sym (walk_in 0 r 0 h (k.starts h)) ∙ k.rest ∙ e)))
+      by (no h) = omega arith
+
 -- ---- after j of the numbers l
 pub first_behind : (l : List ℕ) (j : ℕ) → get_or (drop j l) 0 none ≡ get_or l j none
 first_behind l j = get_or-drop j l 0 none ∙ ap (λ (i : ℕ). get_or l i none) (add-zero j)
@@ -29,9 +55,14 @@ first_behind l j = get_or-drop j l 0 none ∙ ap (λ (i : ℕ). get_or l i none)
 pub next_behind : (l : List ℕ) (j : ℕ) → drop 1 (drop j l) ≡ drop (suc j) l
 next_behind l j = let e : j + 1 ≡ suc j = omega arith in drop-drop 1 j l ∙ ap (λ (i : ℕ). drop i l) e
 
-pub next_at : (l : List ℕ) (j : ℕ) {s : List ℕ} {at value end : ℕ} → from s at ≡ drop j l → Next s at value end
-    → (value ≡ get_or l j none) × (from s end ≡ drop (suc j) l)
-next_at l j h n = (n.first ∙ ap (λ (k : List ℕ). get_or k 0 none) h ∙ first_behind l j, n.rest ∙ ap (drop 1) h ∙ next_behind l j)
+-- the next number, where it is one, and where it is none
+pub next_at : (l : List ℕ) (j : ℕ) {old new : List ℕ} {x : ℕ} → old ≡ drop j l → old ≡ x ∷ new → (x ≡ get_or l j none) × (new ≡ drop (suc j) l)
+next_at l j h n =
+    let d = sym n ∙ h in
+    (ap (λ (k : List ℕ). get_or k 0 none) d ∙ first_behind l j, ap (drop 1) d ∙ next_behind l j)
+
+pub none_at : (l : List ℕ) (j : ℕ) {old : List ℕ} → old ≡ drop j l → most_number < get_or old 0 none → most_number < get_or l j none
+none_at l j h n = omega (arith, n, ap (λ (k : List ℕ). get_or k 0 none) h, first_behind l j)
 
 -- a number that is not above all is there
 pub there : (l : List ℕ) (j : ℕ) → get_or l j none < none → j < length l
@@ -107,12 +138,3 @@ pub largest_next : (l : List ℕ) (i d : ℕ) → i < length l → largest (take
 largest_next [] i d h = absurd (omega arith)
 largest_next (x ∷ l) zero d h = omega arith
 largest_next (x ∷ l) (suc i) d h = omega (arith, largest_next l i d (omega arith))
-
--- so many small numbers, of which the largest and the end were found
-pub scanned_small : {s : List ℕ} {at count most end : ℕ} → Scanned s at count most end → Small count (from s at)
-    → (most ≤ most_number) × (most ≡ largest (take count (from s at))) × (from s end ≡ drop count (from s at))
-scanned_small {s} {at} {count} {most} {end} r h = by (dec_lt most_number most)
-  where
-    by : Dec (most_number < most) → (most ≤ most_number) × (most ≡ largest (take count (from s at))) × (from s end ≡ drop count (from s at))
-    by (yes k) = absurd (r.unsound k h)
-    by (no k) = let low : most ≤ most_number = omega arith in let f = r.sound low in (low, f.1, f.2)

@@ -1,37 +1,36 @@
-// The numbers of an alist text (document 02, L1): the next one from a place on, and the largest of several.
+// The numbers of an alist text, read one after the other.
 #![tactic(auto)]
 
-ghost use Rattle.std.specs.Prelude.{◌≡◌, suc, ◌≤◌, ◌<◌, length};
+ghost use Rattle.std.specs.Prelude.{◌≡◌, ◌↔◌, [], ◌∷◌, false, suc, ◌+◌, ◌*◌, ◌≤◌, ◌<◌, length, get_or, take, drop, IsTrue, IfSome, IfNone};
 ghost use Rattle.model.specs.Limits.{most_number};
-ghost use Rattle.model.specs.Alist.{separator, further};
-ghost use Rattle.numbers.specs.Walked.{from, Next, Small, Scanned, Skipped, Ended, Filled};
+ghost use Rattle.model.specs.Alist.{separator, further, numbers_of, largest};
+ghost use Rattle.numbers.specs.Walked.{none, Small, Skipped, Ended, Filled};
 
 use model::MOST_NUMBER;
+use std::marker::Model;
 
-// Told where a text has no further number: above all that it can have.
-pub const NONE: usize = 65537;
-
-// A number, and where it ends.
+// The numbers that are left of a text. Callers see their list, in which 65,536 stands for what is no number of a text.
 #[derive(Drop)]
-pub struct Number {
-    pub value: usize,
-    pub end: usize,
+pub struct Numbers<'a> {
+    text: &'a [u8],
 }
 
-// The columns or the rows of a text: how many there are, the largest degree, and where their degrees and their lists begin.
-#[derive(Clone, Copy)]
-pub struct Side {
-    pub count: usize,
-    pub most: usize,
-    pub degrees: usize,
-    pub lists: usize,
+impl<'a> Model for Numbers<'a> {
+    ghost use Rattle.std.specs.Prelude.{List, ℕ};
+    ghost use Rattle.model.specs.Alist.{numbers_of};
+
+    ghost Value = { List ℕ };
+
+    ghost view = { λ a. numbers_of 0 a.text.now };
 }
 
-// The largest of several numbers, and where the last of them ends.
+// The columns or the rows of a text: how many there are, the largest degree, and the numbers from their degrees and from their lists on.
 #[derive(Drop)]
-pub struct Scan {
-    pub largest: usize,
-    pub end: usize,
+pub struct Side<'a> {
+    pub count: u16,
+    pub most: u16,
+    pub degrees: Numbers<'a>,
+    pub lists: Numbers<'a>,
 }
 
 fn separates(b: u8) -> bool
@@ -43,9 +42,10 @@ fn separates(b: u8) -> bool
 // A number that is x so far, with one byte more.
 fn with_byte(x: usize, b: u8) -> usize
     requires { x ≤ suc most_number }
-    ensures { (result ≡ further x b) × (result ≤ suc most_number) }
+    ensures value { result ≡ further x b }
+    ensures bound { result ≤ suc most_number }
 {
-    let digit = slices::byte(b);
+    let digit = usize::from(b);
     if digit < 48 || 57 < digit {
         return MOST_NUMBER + 1;
     }
@@ -57,90 +57,45 @@ fn with_byte(x: usize, b: u8) -> usize
     }
 }
 
-// The first place from `at` on without a separator.
-fn skip(text: &[u8], at: usize) -> usize
-    requires { at ≤ length text.now }
-    ensures { Skipped text.now at result }
+// What follows the separators that a text begins with.
+fn skip(text: &[u8]) -> &[u8]
+    ensures { Skipped text.now result.now }
 {
-    let mut i = at;
-    while i < text.len() {
-        if !separates(text[i]) {
-            return i;
+    for (i, b) in text.iter().enumerate() {
+        if !separates(*b) {
+            return &text[i..];
         }
-        i += 1;
     }
-    i
+    &[]
 }
 
-// The number that begins at `at`.
-fn finish(text: &[u8], at: usize) -> Number
-    requires { at ≤ length text.now }
-    ensures { Ended text.now at result.value result.end }
+// The number that a text begins with, and what follows it.
+fn finish(text: &[u8]) -> (usize, &[u8])
+    ensures { Ended text.now result.0 result.1.now }
 {
     let mut value = 0usize;
-    let mut i = at;
-    while i < text.len() {
-        let b = text[i];
-        if separates(b) {
-            return Number { value, end: i };
+    for (i, b) in text.iter().enumerate() {
+        if separates(*b) {
+            return (value, &text[i..]);
         }
-        value = with_byte(value, b);
-        i += 1;
+        value = with_byte(value, *b);
     }
-    Number { value, end: i }
+    (value, &[])
 }
 
-// The first number from `at` on, or NONE.
-pub fn next(text: &[u8], at: usize) -> Number
-    requires { at ≤ length text.now }
-    ensures { Next text.now at result.value result.end }
-{
-    let first = skip(text, at);
-    if first < text.len() {
-        return finish(text, first);
-    }
-    Number {
-        value: NONE,
-        end: first,
-    }
-}
-
-// The largest of `count` numbers from `at` on; above MOST_NUMBER where one of them is none of a text, or missing.
-pub fn largest(text: &[u8], at: usize, count: usize) -> Scan
-    requires { at ≤ length text.now }
-    ensures { Scanned text.now at count result.largest result.end }
-{
-    let mut largest = 0usize;
-    let mut end = at;
-    for i in 0..count {
-        let x = next(text, end);
-        let value = x.value;
-        end = x.end;
-        if MOST_NUMBER < value {
-            return Scan {
-                largest: value,
-                end,
-            };
-        }
-        if largest < value {
-            largest = value;
-        }
-    }
-    Scan { largest, end }
-}
-
-// Reads as many numbers as the list has entries, from `at` on; where they end. A byte is a separator or a digit, whose fifth bit tells which; each takes the
-// same steps, so that the time does not depend on the text.
-pub fn read(text: &[u8], at: usize, values: &mut [u16]) -> usize
-    requires { (at ≤ length text.now) × Small (length values.old) (from text.now at) }
-    ensures { Filled text.now at values.new result × (length values.new ≡ length values.old) }
+// Reads as many numbers as the list has entries; where they end. A byte is a separator or a digit, whose fifth bit tells which.
+// By index: each byte takes the same steps, without a branch, so that the time does not depend on the text.
+fn fill(text: &[u8], values: &mut [u16]) -> usize
+    requires { Small (length values.old) (numbers_of 0 text.now) }
+    ensures filled { Filled text.now values.new result }
+    ensures same_length { length values.new ≡ length values.old }
 {
     let mut value = 0usize;
     let mut inside = 0usize;
     let mut k = 0usize;
-    let mut i = at;
+    let mut i = 0usize;
     while k < values.len() && i < text.len() {
-        let b = slices::byte(text[i]);
+        let b = usize::from(text[i]);
         values[k] = value as u16;
         let digit = b / 16 % 2;
         if digit < inside {
@@ -155,4 +110,89 @@ pub fn read(text: &[u8], at: usize, values: &mut [u16]) -> usize
         values[k] = value as u16;
     }
     i
+}
+
+impl Side<'_> {
+    // How many numbers its lists have.
+    pub fn size(&self) -> usize
+        ensures { result ≡ self.now.count * self.now.most }
+    {
+        usize::from(self.count) * usize::from(self.most)
+    }
+}
+
+impl<'a> Numbers<'a> {
+    // The numbers of a text.
+    pub fn new(text: &'a [u8]) -> Numbers<'a>
+        ensures { result ≡ numbers_of 0 text.now }
+    {
+        Numbers { text }
+    }
+
+    // The same numbers, to be read once more.
+    pub fn again(&self) -> Numbers<'a>
+        ensures { result ≡ self.now }
+    {
+        Numbers { text: self.text }
+    }
+
+    // How many bytes of the text are left: two numbers want a separator between them.
+    pub fn bytes(&self) -> usize
+        ensures { 2 * length self.now ≤ 1 + result }
+    {
+        self.text.len()
+    }
+
+    // Whether no number is left.
+    pub fn is_empty(&self) -> bool
+        ensures { IsTrue result ↔ (self.now ≡ []) }
+    {
+        skip(self.text).is_empty()
+    }
+
+    // The next number. None where none is left, or where what comes next is no number of a text, which is then passed.
+    pub fn number(&mut self) -> Option<u16>
+        ensures found { IfSome result (λ x. self.old ≡ x ∷ self.new) }
+        ensures missing { IfNone result (most_number < get_or self.old 0 none) }
+        ensures rest { self.new ≡ drop 1 self.old }
+    {
+        let text = skip(self.text);
+        if text.is_empty() {
+            return None;
+        }
+        let (value, rest) = finish(text);
+        self.text = rest;
+        u16::try_from(value).ok()
+    }
+
+    // The largest of the next `count` numbers, 0 where `count` is; none where one of them is missing or no number of a text, and what is left is then not told.
+    pub fn largest(&mut self, count: usize) -> Option<u16>
+        ensures found { IfSome result (λ most. Small count self.old × (most ≡ largest (take count self.old)) × (self.new ≡ drop count self.old)) }
+        ensures missing { IfNone result (Small count self.old → ⊥) }
+    {
+        let mut largest = 0u16;
+        for _ in 0..count {
+            largest = largest.max(self.number()?);
+        }
+        Some(largest)
+    }
+
+    // Passes the next `count` numbers.
+    pub fn pass(&mut self, count: usize)
+        ensures { self.new ≡ drop count self.old }
+    {
+        for _ in 0..count {
+            let _ = self.number();
+        }
+    }
+
+    // Reads as many numbers as the list has entries.
+    pub fn read(&mut self, values: &mut [u16])
+        requires { Small (length values.old) self.old }
+        ensures list { values.new ≡ take (length values.old) self.old }
+        ensures rest { self.new ≡ drop (length values.old) self.old }
+    {
+        let end = fill(self.text, values);
+        self.text = &self.text[end..];
+    }
 }

@@ -9,9 +9,10 @@ use Rattle.integers.specs.Parts.{up, dn}
 use Rattle.integers.proofs.Linear.{to_ℕ, read_ℤ, make_≡, about, about_neg, about_sum, abs_difference}
 use Rattle.integers.proofs.Machine.{Worth, param}
 use Rattle.quotient.specs.Quotient.{unit, quotient}
-use Rattle.quotient.specs.Narrowed.{gap_of, rest_of, dividend_of, Narrowed, narrow_by, narrow_of}
-use Rattle.quotient.proofs.Magnitudes.{divisor_is, limit_above, limit_below}
-use Rattle.quotient.proofs.Products.{inverse_of, whole, quotients}
+use Rattle.quotient.specs.Prepared.{inverse_of}
+use Rattle.quotient.specs.Narrowed.{gap_of, rest_of, dividend_of, raise_of, narrow_divisor_of, Narrowed}
+use Rattle.quotient.proofs.Magnitudes.{limit_above, limit_below}
+use Rattle.quotient.proofs.Products.{whole, quotients}
 
 -- a number raised by U at the scale
 raised : (t : ℕ) (z : ℤ) → pos t ≡ z +ℤ pos (2 ^ 42 * unit) → pos (t / 2 ^ 42) ≡ shr_z z (2 ^ 42) +ℤ pos unit
@@ -20,12 +21,9 @@ raised t (negsuc m) e =
     let f : t + suc m ≡ 2 ^ 42 * unit = omega (arith, read_ℤ, about_sum (negsuc m) (pos (2 ^ 42 * unit))) in
     omega (arith, read_ℤ, about_sum (negsuc (m / 2 ^ 42)) (pos unit))
 
--- the most that is divided, and what is added to a product: U and a half at the scale, less the product of the most
+-- the most that is divided
 abbrev top : ℕ → ℕ
 top d = unit * d + 255
-
-unfoldable pub raise_of : ℕ → ℕ
-raise_of d = 2 ^ 42 * unit + 2 ^ 41 - (256 * (64 * d) + 255) * inverse_of (2 ^ 42) d
 
 module _ (d : ℕ) (least : 1025 ≤ d) (most : d ≤ 8192) where
   abbrev inverse : ℕ
@@ -51,7 +49,7 @@ module _ (d : ℕ) (least : 1025 ≤ d) (most : d ≤ 8192) where
     sum_is : pos (n * inverse + raise_of d) ≡ (pos (2 ^ 41) -ℤ x *ℤ pos inverse) +ℤ pos (2 ^ 42 * unit)
     sum_is = let r = raise_is.0 in simp to_ℕ (omega arith)
 
-    narrow_quotients : pos ((n * inverse + raise_of d) / 2 ^ 42) ≡ quotient (pos n -ℤ pos (top d)) (pos d) +ℤ pos unit
+    pub narrow_quotients : pos ((n * inverse + raise_of d) / 2 ^ 42) ≡ quotient (pos n -ℤ pos (top d)) (pos d) +ℤ pos unit
     narrow_quotients =
         let b : nat_abs x ≤ top d = abs_difference (top d) n (top d) (omega arith) (omega arith) in
         let m : nat_abs x * d ≤ top d * 8192 = mul-le-mul b most in
@@ -60,15 +58,10 @@ module _ (d : ℕ) (least : 1025 ≤ d) (most : d ≤ 8192) where
         ∙ ap (λ (q : ℤ). q +ℤ pos unit) (quotients (2 ^ 41) d (omega arith) x (omega arith) (omega arith) ∙ ap (λ (z : ℤ). quotient z (pos d)) e)
 
   -- numbers that are these are made ready
-  pub narrowed_at : (den limit : ℤ) → den ≡ pos d → limit ≡ pos (64 * d) → Narrowed den limit inverse (raise_of d)
-  narrowed_at den limit e f =
-      rw (e, f)
-      (record {
-        least = omega (arith, read_ℤ);
-        most = omega (arith, read_ℤ);
-        limit_is = refl;
-        stands = narrow_by (record { small = raise_is.1; quotients = narrow_quotients });
-      })
+  pub narrowed_at : (limit : ℤ) → limit ≡ pos (64 * d) → (narrow_divisor_of limit ≡ d) × Narrowed limit inverse (raise_of d)
+  narrowed_at limit e =
+      let n : narrow_divisor_of limit ≡ d = rw e (omega arith) in
+      (n, record { least = rw n least; most = rw n most; limit_is = rw n e; inverse_is = rw n refl; raise_is = rw n refl })
 
 -- ---- the dividend, limited first
 times_256 : (z : ℤ) → (up (pos 256 *ℤ z) ≡ 256 * up z) × (dn (pos 256 *ℤ z) ≡ 256 * dn z)
@@ -151,23 +144,25 @@ module _ (d : ℕ) (s w : ℤ) where
 
 -- ---- both
 -- the limit, whatever it is made ready for
-pub limit_most : {den limit : ℤ} {inverse raise : ℕ} → Narrowed den limit inverse raise → nat_abs limit ≤ 64 * 8192
-limit_most {den} p = omega (arith, read_ℤ, ap nat_abs p.limit_is, p.most, about den)
+module _ {limit : ℤ} {inverse raise : ℕ} (p : Narrowed limit inverse raise) where
+  pub limit_above_0 : limit ≡ pos (nat_abs limit)
+  limit_above_0 = p.limit_is ∙ ap pos (sym (ap nat_abs p.limit_is))
 
-pub limit_above_0 : {den limit : ℤ} {inverse raise : ℕ} → Narrowed den limit inverse raise → limit ≡ pos (nat_abs limit)
-limit_above_0 p = p.limit_is ∙ ap pos (sym (ap nat_abs p.limit_is))
+  pub limit_most : nat_abs limit ≤ 64 * 8192
+  limit_most = omega (arith, ap nat_abs p.limit_is, p.most)
 
-pub divides : {den limit : ℤ} {inverse raise : ℕ} → Narrowed den limit inverse raise → (s w : ℤ)
-    → pos ((dividend_of (nat_abs limit) (s +ℤ shr_z w 256) w * inverse + raise) / 2 ^ 42) ≡ quotient (neg_ℤ (pos 256 *ℤ s +ℤ w)) den +ℤ pos unit
-divides {den} {limit} {inverse} {raise} p s w =
-    let d = nat_abs den in
-    let b = divisor_is den 8192 (omega (arith, read_ℤ, p.least)) p.most in
-    let k : 1025 ≤ d = omega (arith, read_ℤ, p.least, about den) in
-    rw p.limit_is
-    ((narrow_of p.stands).quotients (n d s w) (n_most d s w)
-    ∙ ap (λ (q : ℤ). q +ℤ pos unit) (ap (quotient (opposite d s w)) b.2 ∙ limited d s w k ∙ ap (quotient (neg_ℤ (total d s w))) (sym b.2)))
+  pub raise_small : raise ≤ 2 ^ 41
+  raise_small = rw p.raise_is ((raise_is (narrow_divisor_of limit) p.least p.most).1)
 
--- where there is no w
-pub divides_alone : {den limit : ℤ} {inverse raise : ℕ} → Narrowed den limit inverse raise → (s : ℤ)
-    → pos (((256 * gap_of (nat_abs limit) s + 255) * inverse + raise) / 2 ^ 42) ≡ quotient (neg_ℤ (pos 256 *ℤ s)) den +ℤ pos unit
-divides_alone {den} p s = rw (+ℤ_idr s, +ℤ_idr (pos 256 *ℤ s)) at (divides p s (pos 0))
+  pub divides : (s w : ℤ)
+      → pos ((dividend_of (nat_abs limit) (s +ℤ shr_z w 256) w * inverse + raise) / 2 ^ 42) ≡ quotient (neg_ℤ (pos 256 *ℤ s +ℤ w)) (pos (narrow_divisor_of limit)) +ℤ pos unit
+  divides s w =
+      let d = narrow_divisor_of limit in
+      ap (λ (m : ℕ). pos ((dividend_of m (s +ℤ shr_z w 256) w * inverse + raise) / 2 ^ 42)) (ap nat_abs p.limit_is)
+      ∙ ap (λ (i : ℕ). pos ((n d s w * i + raise) / 2 ^ 42)) p.inverse_is ∙ ap (λ (r : ℕ). pos ((n d s w * inverse_of (2 ^ 42) d + r) / 2 ^ 42)) p.raise_is
+      ∙ narrow_quotients d p.least p.most (n d s w) (n_most d s w)
+      ∙ ap (λ (q : ℤ). q +ℤ pos unit) (limited d s w p.least)
+
+  -- where there is no w
+  pub divides_alone : (s : ℤ) → pos (((256 * gap_of (nat_abs limit) s + 255) * inverse + raise) / 2 ^ 42) ≡ quotient (neg_ℤ (pos 256 *ℤ s)) (pos (narrow_divisor_of limit)) +ℤ pos unit
+  divides_alone s = rw (+ℤ_idr s, +ℤ_idr (pos 256 *ℤ s)) at (divides s (pos 0))

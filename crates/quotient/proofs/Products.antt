@@ -1,20 +1,16 @@
 -- One product with the inverse of a divisor in place of a division, at any scale. Assumes nothing.
-use Rattle.integers.proofs.Prelude.{◌≡◌, refl, sym, ap, ◌∙◌, ℕ, zero, suc, ◌+◌, ◌-◌, ◌*◌, ◌/◌, ◌%◌, ◌^◌, ◌≤◌, ◌<◌, arith, ℤ, pos, negsuc, nat_abs, neg_ℤ, ◌+ℤ◌, ◌-ℤ◌, ◌*ℤ◌}
+use Rattle.integers.proofs.Prelude.{◌≡◌, sym, ap, ◌∙◌, ℕ, zero, suc, ◌+◌, ◌-◌, ◌*◌, ◌%◌, ◌^◌, ◌≤◌, ◌<◌, arith, ℤ, pos, negsuc, nat_abs, neg_ℤ, ◌+ℤ◌, ◌-ℤ◌, ◌*ℤ◌}
 use native.Mathlib.Omega.{by_contra}
-use native.Mathlib.Nat.{div-add-mod', mod-lt, div-eq_of_lt-le, mul-le-mul, mul-le-mul_left, mul-le-mul_right}
+use native.Mathlib.Nat.{div-le_self, div-add-mod', mod-lt, div-eq_of_lt-le, mul-le-mul, mul-le-mul_left, mul-le-mul_right}
 use lib.IntN.{neg_ℤ-neg_ℤ}
 use lib.Signed.{shr_z}
 use Rattle.integers.specs.Nearest.{nearest, Nearest}
 use Rattle.integers.proofs.Nearest.{nearest_is}
-use Rattle.integers.proofs.Linear.{to_ℕ, read_ℤ, abs_mul}
+use Rattle.integers.proofs.Linear.{to_ℕ, abs_mul}
 use Rattle.quotient.specs.Quotient.{unit, quotient}
-use Rattle.quotient.specs.Prepared.{Prepared, inverse_by}
+use Rattle.quotient.specs.Prepared.{inverse_of, factor_of, divisor_of, Prepared}
 use Rattle.quotient.proofs.Laws.{quotient_odd}
 use Rattle.quotient.proofs.Magnitudes.{quotient_below}
-
--- the next whole number above scale / d: a product with it, divided by the scale, takes the place of a division by d
-unfoldable pub inverse_of : ℕ → ℕ → ℕ
-inverse_of scale d = scale / d + 1
 
 -- the scale is twice `half`
 module _ (half : ℕ) where
@@ -84,20 +80,25 @@ module _ (half : ℕ) where
         ap (λ (z : ℤ). shr_z (pos half +ℤ z) (2 * half)) (neg_ℤ-neg_ℤ (pos (suc m * inverse)))
         ∙ shift_up (suc m * inverse) (nearest (suc m) d) (near (suc m) h) ∙ sym (quotient_below (suc m) d least k)
 
--- ---- the scale of 2 ^ 47
+pub factor_most : (d : ℕ) → nat_abs (factor_of d) ≤ 2 ^ 47 + 1
+unfolding inverse_of
+factor_most d = omega (arith, div-le_self (2 ^ 47) d)
+
+-- ---- the scale of 2 ^ 47: below the limit the product fits; taken from a half and divided, it is the quotient of −x
 module _ (d : ℕ) (least : 0 < d) (most : d ≤ 64512) where
-  prepared_fits : (x : ℤ) → nat_abs x < unit * d → nat_abs (x *ℤ pos (inverse_of (2 ^ 47) d)) ≤ 2 ^ 61 + 2 ^ 30
+  pub prepared_fits : (x : ℤ) → nat_abs x < unit * d → nat_abs (x *ℤ factor_of d) ≤ 2 ^ 61 + 2 ^ 30
   prepared_fits x h =
       let t : nat_abs x * inverse_of (2 ^ 47) d ≤ unit * d * inverse_of (2 ^ 47) d = mul-le-mul_right (inverse_of (2 ^ 47) d) (omega arith) in
-      rw (abs_mul x (pos (inverse_of (2 ^ 47) d))) (omega (arith, whole (2 ^ 46) d least))
+      rw (abs_mul x (factor_of d)) (omega (arith, whole (2 ^ 46) d least))
 
-  prepared_quotients : (x : ℤ) → nat_abs x < unit * d → shr_z (pos (2 ^ 46) -ℤ x *ℤ pos (inverse_of (2 ^ 47) d)) (2 ^ 47) ≡ quotient (neg_ℤ x) (pos d)
+  pub prepared_quotients : (x : ℤ) → nat_abs x < unit * d → shr_z (pos (2 ^ 46) -ℤ x *ℤ factor_of d) (2 ^ 47) ≡ quotient (neg_ℤ x) (pos d)
   prepared_quotients x h =
       let a : nat_abs x * d ≤ unit * d * d = mul-le-mul_right d (omega arith) in
       let b : d * d ≤ 64512 * 64512 = mul-le-mul most most in
       quotients (2 ^ 46) d least x (omega arith) (omega arith)
 
   -- numbers that are these are made ready
-  pub prepared_at : (den limit inverse : ℤ) → den ≡ pos d → limit ≡ pos (unit * d) → inverse ≡ pos (inverse_of (2 ^ 47) d) → Prepared den limit inverse
-  prepared_at den limit inverse e f g =
-      rw (e, f, g) (record { above = omega (arith, read_ℤ); limit_is = refl; stands = inverse_by (record { fits = prepared_fits; quotients = prepared_quotients }) })
+  pub prepared_at : (limit inverse : ℤ) → limit ≡ pos (unit * d) → inverse ≡ factor_of d → (divisor_of limit ≡ d) × Prepared limit inverse
+  prepared_at limit inverse e f =
+      let n : divisor_of limit ≡ d = rw e (omega arith) in
+      (n, record { above = rw n least; most = rw n most; limit_is = rw n e; inverse_is = rw n f })

@@ -1,9 +1,9 @@
--- The three numbers that are made ready for a divisor of lanes: a 256th of the limit of what is divided by it, an inverse of 32 bits, and what is added to a product.
--- `NarrowInverse` is shut, as `Inverse` is; the two laws are for the proofs of this crate.
-use Rattle.std.specs.Prelude.{◌≡◌, ℕ, ◌+◌, ◌-◌, ◌*◌, ◌/◌, ◌^◌, ◌≤◌, ℤ, pos, nat_abs, ◌+ℤ◌, ◌-ℤ◌, ◌*ℤ◌, ◌≤ℤ◌}
+-- What is made ready for a divisor of lanes: a 256th of the limit of what is divided by it, what is multiplied in its place, and what is added to a product.
+use Rattle.std.specs.Prelude.{◌≡◌, ℕ, ◌+◌, ◌-◌, ◌*◌, ◌/◌, ◌^◌, ◌≤◌, ℤ, pos, nat_abs, ◌+ℤ◌, ◌-ℤ◌, ◌*ℤ◌}
 use Rattle.std.specs.Int.Signed.{shr_z}
 use Rattle.integers.specs.Parts.{up}
-use Rattle.quotient.specs.Quotient.{unit, least_narrow, most_narrow, quotient}
+use Rattle.quotient.specs.Quotient.{unit, least_narrow, most_narrow}
+use Rattle.quotient.specs.Prepared.{inverse_of}
 
 -- how far x lies below m, where x is limited to −m..m
 abbrev pub gap_of : ℕ → ℤ → ℕ
@@ -17,27 +17,25 @@ rest_of w = up (w -ℤ pos 256 *ℤ shr_z w 256)
 abbrev pub dividend_of : ℕ → ℤ → ℤ → ℕ
 dividend_of m x w = 256 * gap_of m x + (255 - rest_of w)
 
--- what is added fits; a product and it, divided at the scale of 2 ^ 42, are the quotient, raised by U, of n less the most
-pub record NarrowProduct (den : ℤ) (inverse raise : ℕ) : Type 0 where
-  pub small : raise ≤ 2 ^ 41
-  pub quotients : (n : ℕ) → n ≤ 2 * (unit * nat_abs den) + 255
-      → pos ((n * inverse + raise) / 2 ^ 42) ≡ quotient (pos n -ℤ pos (unit * nat_abs den + 255)) den +ℤ pos unit
+-- a 256th of the limit of a divisor, and its inverse at the scale of 2 ^ 42
+abbrev pub narrow_limit_of : ℕ → ℤ
+narrow_limit_of d = pos (64 * d)
 
--- inverse and raise stand for den
-pub NarrowInverse : ℤ → ℕ → ℕ → Type 0
-NarrowInverse den inverse raise = NarrowProduct den inverse raise
+abbrev pub narrow_inverse_of : ℕ → ℕ
+narrow_inverse_of d = inverse_of (2 ^ 42) d
 
-pub narrow_by : {den : ℤ} {inverse raise : ℕ} → NarrowProduct den inverse raise → NarrowInverse den inverse raise
-unfolding NarrowInverse
-narrow_by p = p
+-- what is added: U and a half at that scale, less the product of the most that is divided
+unfoldable pub raise_of : ℕ → ℕ
+raise_of d = 2 ^ 42 * unit + 2 ^ 41 - (256 * (64 * d) + 255) * narrow_inverse_of d
 
-pub narrow_of : {den : ℤ} {inverse raise : ℕ} → NarrowInverse den inverse raise → NarrowProduct den inverse raise
-unfolding NarrowInverse
-narrow_of p = p
+-- the divisor that has this limit
+abbrev pub narrow_divisor_of : ℤ → ℕ
+narrow_divisor_of limit = nat_abs limit / 64
 
--- the three are made ready for den
-pub record Narrowed (den limit : ℤ) (inverse raise : ℕ) : Type 0 where
-  pub least : pos least_narrow ≤ℤ den
-  pub most : den ≤ℤ pos most_narrow
-  pub limit_is : limit ≡ pos (64 * nat_abs den)
-  pub stands : NarrowInverse den inverse raise
+-- limit, inverse and raise are those of one divisor
+pub record Narrowed (limit : ℤ) (inverse raise : ℕ) : Type 0 where
+  pub least : least_narrow ≤ narrow_divisor_of limit
+  pub most : narrow_divisor_of limit ≤ most_narrow
+  pub limit_is : limit ≡ narrow_limit_of (narrow_divisor_of limit)
+  pub inverse_is : inverse ≡ narrow_inverse_of (narrow_divisor_of limit)
+  pub raise_is : raise ≡ raise_of (narrow_divisor_of limit)

@@ -1,29 +1,25 @@
--- The two numbers that are made ready for a divisor: the limit of what is divided by it, and an inverse.
--- `Inverse` is shut: it is what a product with the inverse gives below the limit; how the inverse is made is known to `prepare` alone. The two laws are for the
--- proofs of this crate.
-use Rattle.std.specs.Prelude.{◌≡◌, ◌+◌, ◌*◌, ◌^◌, ◌≤◌, ℤ, pos, neg_ℤ, nat_abs, ◌-ℤ◌, ◌*ℤ◌, ◌<ℤ◌}
-use Rattle.std.specs.Int.Signed.{shr_z}
-use Rattle.quotient.specs.Quotient.{unit, quotient, BelowLimit}
+-- What is made ready for a divisor: the limit of what is divided by it, and what is multiplied in its place.
+use Rattle.std.specs.Prelude.{◌≡◌, ℕ, ◌+◌, ◌*◌, ◌/◌, ◌^◌, ◌≤◌, ◌<◌, ℤ, pos, nat_abs}
+use Rattle.quotient.specs.Quotient.{unit, most_prepared}
 
--- below the limit the product fits; taken from a half and divided, both at the scale of 2 ^ 47, it is the quotient of −x
-pub record Product (den inverse : ℤ) : Type 0 where
-  pub fits : (x : ℤ) → BelowLimit x den → nat_abs (x *ℤ inverse) ≤ 2 ^ 61 + 2 ^ 30
-  pub quotients : (x : ℤ) → BelowLimit x den → shr_z (pos (2 ^ 46) -ℤ x *ℤ inverse) (2 ^ 47) ≡ quotient (neg_ℤ x) den
+-- the next whole number above scale / d: a product with it, divided by the scale, takes the place of a division by d
+unfoldable pub inverse_of : ℕ → ℕ → ℕ
+inverse_of scale d = scale / d + 1
 
--- inverse stands for den
-pub Inverse : ℤ → ℤ → Type 0
-Inverse den inverse = Product den inverse
+-- the limit of a divisor, and its inverse at the scale of 2 ^ 47
+abbrev pub limit_of : ℕ → ℤ
+limit_of d = pos (unit * d)
 
-pub inverse_by : {den inverse : ℤ} → Product den inverse → Inverse den inverse
-unfolding Inverse
-inverse_by p = p
+abbrev pub factor_of : ℕ → ℤ
+factor_of d = pos (inverse_of (2 ^ 47) d)
 
-pub product_of : {den inverse : ℤ} → Inverse den inverse → Product den inverse
-unfolding Inverse
-product_of p = p
+-- the divisor that has this limit
+abbrev pub divisor_of : ℤ → ℕ
+divisor_of limit = nat_abs limit / unit
 
--- limit and inverse are made ready for den
-pub record Prepared (den limit inverse : ℤ) : Type 0 where
-  pub above : pos 0 <ℤ den
-  pub limit_is : limit ≡ pos (unit * nat_abs den)
-  pub stands : Inverse den inverse
+-- limit and inverse are those of one divisor
+pub record Prepared (limit inverse : ℤ) : Type 0 where
+  pub above : 0 < divisor_of limit
+  pub most : divisor_of limit ≤ most_prepared
+  pub limit_is : limit ≡ limit_of (divisor_of limit)
+  pub inverse_is : inverse ≡ factor_of (divisor_of limit)

@@ -1,11 +1,22 @@
--- What the judgement of m check records finds. Definitions only.
-use Rattle.std.specs.Prelude.{◌≡◌, List, ℕ, length}
-use Rattle.lists.specs.Entries.{total}
-use Rattle.model.specs.Code.{triple_count}
-use Rattle.model.specs.Records.{checks_in, after_checks, judge_checks}
+-- What is known of records that were judged. Definitions only.
+use Rattle.std.specs.Prelude.{◌≡◌, List, ℕ, ◌≤◌}
+use Rattle.model.specs.declared.Sizes.{Sizes}
+use Rattle.model.specs.Limits.{most_bits}
+use Rattle.model.specs.Records.{judge_check, judge_checks, code_of, judge}
+use Rattle.reader.specs.Sizes.{sizes_of}
 
--- the first cause and, where there is none, the number of triples and of the bytes that follow
-pub record Judged (n m : ℕ) (s : List ℕ) (cause triples after : ℕ) : Type 0 where
-  pub first : cause ≡ judge_checks n m s
-  pub counted : cause ≡ 0 → triples ≡ total triple_count (checks_in m s)
-  pub left : cause ≡ 0 → after ≡ length (after_checks m s)
+-- a check record, and several, of a code with some number of bits
+pub record JudgedCheck (s : List ℕ) : Type 0 where
+  pub bits : ℕ
+  pub bits_most : bits ≤ most_bits
+  pub judged : judge_check bits s ≡ 0
+
+pub record JudgedChecks (m : ℕ) (s : List ℕ) : Type 0 where
+  pub bits : ℕ
+  pub bits_most : bits ≤ most_bits
+  pub judged : judge_checks bits m s ≡ 0
+
+-- all records of a code, and its sizes
+pub record JudgedCode (s : List ℕ) (told : Sizes) : Type 0 where
+  pub judged : judge s ≡ 0
+  pub sizes : told ≡ sizes_of (code_of s)

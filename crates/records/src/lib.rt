@@ -1,29 +1,46 @@
-// Code records (document 01, 'Code records'): what a header and a check say, the judgement of each, and their writer.
+// Code records: what a header and a check say, the judgement of each, and their writer. Numbers of two bytes have the high byte first.
 #![tactic(auto)]
 
-ghost use Rattle.std.specs.Prelude.{◌≡◌, ◌+◌, ◌-◌, ◌*◌, ◌≤◌, ◌<◌, length, get_or, drop};
-ghost use Rattle.model.specs.Causes.{outside};
+ghost use Rattle.std.specs.Prelude.{◌≡◌, ◌+◌, ◌-◌, ◌*◌, ◌≤◌, ◌<◌, length, get_or, drop, MatchResult, IfOk};
+ghost use Rattle.model.specs.declared.Cause.TheVariants.{Cut};
+ghost use Rattle.model.specs.Causes.{number_of};
 ghost use Rattle.model.specs.Code.{turns, triple_count};
-ghost use Rattle.model.specs.Records.{two_bytes, degree, indices, after_check, judge_header, judge_indices, judge_check};
-ghost use Rattle.model.specs.Records.{two, bytes_of, header_of, record_of, record_size};
+ghost use Rattle.model.specs.Records.{two_bytes, bit_count, check_count, degree, indices, after_check, judge_header, judge_indices, judge_check};
 ghost use Rattle.records.specs.Whole.{Whole};
-ghost use Rattle.text.specs.Appended.{Appended};
 
-use model::{LEAST_DEGREE, MOST_BITS, MOST_CHECKS, MOST_DEGREE, MOST_TRIPLES, Reading};
+pub mod writer;
 
-// Whether x is outside low..high.
-pub fn outside(low: usize, high: usize, x: usize) -> bool
-    ensures { result ≡ outside low high x }
-{
-    x < low || high < x
-}
+pub use writer::{write_check, write_header, write_two_bytes};
+
+use model::{Cause, LEAST_DEGREE, MOST_BITS, MOST_CHECKS, MOST_DEGREE};
+
+// The marks that a header and a check begin with.
+const HEADER_MARK: usize = 0x4c48;
+
+const CHECK_MARK: usize = 0x4c43;
+
+// ---- what bytes say
 
 // The two-byte number at `at`.
+#[tactic(auto, unfolding(model::specs::Records::two_bytes))]
 pub fn two_bytes(s: &[u8], at: usize) -> usize
     requires { at + 2 ≤ length s.now }
     ensures { (result ≡ two_bytes (drop at s.now)) × (result ≤ 65535) }
 {
-    256 * slices::byte(s[at]) + slices::byte(s[at + 1])
+    256 * usize::from(s[at]) + usize::from(s[at + 1])
+}
+
+// The two-byte number that `s` begins with, and what follows it.
+#[tactic(auto, unfolding(model::specs::Records::two_bytes))]
+pub fn split_number(s: &[u8]) -> Result<(usize, &[u8]), Cause>
+    ensures { MatchResult result
+        (λ split. (2 ≤ length s.now) × (split.0 ≡ two_bytes s.now) × (split.0 ≤ 65535) × (split.1.now ≡ drop 2 s.now))
+        (λ cause. (length s.now < 2) × (cause ≡ Cut)) }
+{
+    match s {
+        [high, low, rest @ ..] => Ok((256 * usize::from(*high) + usize::from(*low), rest)),
+        _ => Err(Cause::Cut),
+    }
 }
 
 // The check records of a code, behind its header.
@@ -35,11 +52,12 @@ pub fn after_header(code: &[u8]) -> &[u8]
 }
 
 // The degree of the check record that `s` begins with.
+#[tactic(auto, using(model::proofs::Accepted::length_numbers))]
 pub fn degree(s: &[u8]) -> usize
     requires { 3 ≤ length s.now }
     ensures { (result ≡ degree s.now) × (result ≡ length (indices s.now)) × (result ≤ 255) }
 {
-    slices::byte(s[2])
+    usize::from(s[2])
 }
 
 // Index i of that check.
@@ -76,117 +94,70 @@ pub fn after_check(s: &[u8]) -> &[u8]
     &s[size..]
 }
 
-// The cause in the header that `s` begins with, 0 for none.
-pub fn judge_header(s: &[u8]) -> u32
-    ensures { result ≡ judge_header s.now }
-{
-    let len = s.len();
-    if len < 2 {
-        return 1;
-    }
-    if two_bytes(s, 0) != 0x4c48 {
-        return 2;
-    }
-    if len < 4 {
-        return 1;
-    }
-    if outside(3, MOST_BITS, two_bytes(s, 2)) {
-        return 3;
-    }
-    if len < 6 {
-        return 1;
-    }
-    if outside(1, MOST_CHECKS, two_bytes(s, 4)) {
-        return 3;
-    }
-    0
+// ---- the judgement
+
+// What a header says, and what follows it.
+#[derive(Drop)]
+pub struct Header<'a> {
+    pub bits: usize,
+    pub checks: usize,
+    pub rest: &'a [u8],
 }
 
-// The first cause among the indices that `s` begins with, 0 for none.
-fn judge_indices(s: &[u8], degree: usize, bits: usize) -> u32
-    ensures { result ≡ judge_indices bits degree 0 s.now }
+// The header that `s` begins with, or its first cause: 1 where it is cut, 2, 3.
+#[tactic(auto, unfolding(model::specs::Records::judge_header))]
+pub fn read_header(s: &[u8]) -> Result<Header<'_>, Cause>
+    ensures number { number_of result ≡ judge_header s.now }
+    ensures header { IfOk result (λ header. (header.bits ≡ bit_count s.now) × (header.checks ≡ check_count s.now) × (header.rest.now ≡ drop 6 s.now)) }
+{
+    let (mark, rest) = split_number(s)?;
+    if mark != HEADER_MARK {
+        return Err(Cause::Mark);
+    }
+    let (bits, rest) = split_number(rest)?;
+    if !(3..=MOST_BITS).contains(&bits) {
+        return Err(Cause::Size);
+    }
+    let (checks, rest) = split_number(rest)?;
+    if !(1..=MOST_CHECKS).contains(&checks) {
+        return Err(Cause::Size);
+    }
+    Ok(Header { bits, checks, rest })
+}
+
+// The first cause among the `degree` indices that `s` begins with: 1, 5, 6.
+#[tactic(auto, using(crate::proofs::Indices::one_index))]
+fn judge_indices(s: &[u8], degree: usize, bits: usize) -> Result<(), Cause>
+    ensures { number_of result ≡ judge_indices bits degree 0 s.now }
 {
     let mut rest = s;
-    let mut left = degree;
-    let mut low = 0usize;
-    while 0 < left {
-        if rest.len() < 2 {
-            return 1;
-        }
-        let index = two_bytes(rest, 0);
+    let mut low = 0;
+    for _ in 0..degree {
+        let (index, after) = split_number(rest)?;
         if bits <= index {
-            return 5;
+            return Err(Cause::Index);
         }
         if index < low {
-            return 6;
+            return Err(Cause::Order);
         }
         low = index + 1;
-        rest = &rest[2..];
-        left -= 1;
+        rest = after;
     }
-    0
+    Ok(())
 }
 
-// The first cause in the check record that `s` begins with, 0 for none.
-pub fn judge_check(s: &[u8], bits: usize) -> u32
-    ensures { result ≡ judge_check bits s.now }
+// The first cause in the check record that `s` begins with: 1, 2, 4, 5, 6.
+#[tactic(auto, unfolding(model::specs::Records::judge_check))]
+pub fn judge_check(s: &[u8], bits: usize) -> Result<(), Cause>
+    ensures { number_of result ≡ judge_check bits s.now }
 {
-    let len = s.len();
-    if len < 2 {
-        return 1;
+    let (mark, rest) = split_number(s)?;
+    if mark != CHECK_MARK {
+        return Err(Cause::Mark);
     }
-    if two_bytes(s, 0) != 0x4c43 {
-        return 2;
+    let (degree, rest) = rest.split_first().ok_or(Cause::Cut)?;
+    if !(LEAST_DEGREE..=MOST_DEGREE).contains(&usize::from(*degree)) {
+        return Err(Cause::Degree);
     }
-    if len < 3 {
-        return 1;
-    }
-    let d = degree(s);
-    if outside(LEAST_DEGREE, MOST_DEGREE, d) {
-        return 4;
-    }
-    judge_indices(&s[3..], d, bits)
-}
-
-// ---- the writer
-
-// A two-byte number, from `at` on; where the next byte goes.
-pub fn write_two_bytes(x: usize, out: &mut [u8], at: usize) -> usize
-    requires { (x ≤ 65535) × (at + 2 ≤ length out.old) }
-    ensures { Appended at (two x) out.old out.new result }
-{
-    let low = text::put((x / 256) as u8, out, at);
-    text::put((x % 256) as u8, out, low)
-}
-
-// The header of a code; where its first check goes.
-pub fn write_header(bits: usize, checks: usize, out: &mut [u8]) -> usize
-    requires { (bits ≤ 65535) × (checks ≤ 65535) × (6 ≤ length out.old) }
-    ensures { Appended 0 (header_of bits checks) out.old out.new result }
-{
-    let n = write_two_bytes(0x4c48, out, 0);
-    let m = write_two_bytes(bits, out, n);
-    write_two_bytes(checks, out, m)
-}
-
-// Indices, two bytes each, from `at` on; where the next byte goes.
-fn write_indices(indices: &[u16], out: &mut [u8], at: usize) -> usize
-    requires { at + 2 * length indices.now ≤ length out.old }
-    ensures { Appended at (bytes_of indices.now) out.old out.new result }
-{
-    let mut next = at;
-    for i in 0..indices.len() {
-        next = write_two_bytes(slices::index(indices[i]), out, next);
-    }
-    next
-}
-
-// The record of a check with these indices, from `at` on; where the next byte goes.
-pub fn write_check(indices: &[u16], out: &mut [u8], at: usize) -> usize
-    requires { (length indices.now ≤ 255) × (at + record_size indices.now ≤ length out.old) }
-    ensures { Appended at (record_of indices.now) out.old out.new result }
-{
-    let degree = write_two_bytes(0x4c43, out, at);
-    let first = text::put(indices.len() as u8, out, degree);
-    write_indices(indices, out, first)
+    judge_indices(rest, usize::from(*degree), bits)
 }

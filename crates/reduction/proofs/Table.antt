@@ -6,6 +6,7 @@ use lib.Seq.{ext_get_or, slice, length-slice, get_or-set_same, get_or-set_other}
 use Rattle.lists.specs.Entries.{some}
 use Rattle.lists.proofs.Tabulated.{length_tab, get_or_tab, tab_same, tab_replicate}
 use Rattle.lists.proofs.Entries.{some_last, total_next}
+use Rattle.model.specs.Limits.{most_encoded_bits}
 use Rattle.model.specs.Causes.{◌if◌}
 use Rattle.model.specs.Words.{bit_at}
 use Rattle.model.specs.Reflection.{sum_of_words}
@@ -35,6 +36,12 @@ row_taken n c r h each =
     ext_get_or 0 (take n r) (row_of n c) (long ∙ sym (length_tab n (element c))) (λ i l.
     let k : i < n = omega arith in
     get_or-take n r i 0 k ∙ each i k ∙ sym (get_or_tab n (element c) i 0 k))
+
+-- those of a longer row
+pub row_front : (n : ℕ) (c r : List ℕ) → n ≤ most_encoded_bits → r ≡ row_of most_encoded_bits c → take n r ≡ row_of n c
+row_front n c r h e =
+    row_taken n c r (omega (arith, h, ap length e, length_tab most_encoded_bits (element c)))
+    (λ b l. ap (λ (q : List ℕ). bit_at q b) e ∙ get_or_tab most_encoded_bits (element c) b 0 (omega (arith, h, l)))
 
 -- ---- the sum of two rows
 pub sum_slices : (f t : ℕ) (r q s : List ℕ) → t ≤ length r → length s ≡ length r → ((i : ℕ) → f ≤ i → i < t → bit_at s i ≡ (bit_at r i + bit_at q i) % 2)
@@ -97,6 +104,14 @@ others_next n rows j h =
     by : (t : Bool) (q : List ℕ) → 1 if is_other (cond t (pivot q) other) ≡ 1 if not t
     by true q = refl
     by false q = refl
+
+-- of n columns, which are all that callers see
+module _ (n m : ℕ) (rows : List (List ℕ)) (cs : List Column) (is : columns_in m rows ≡ cs) (width : n ≡ length cs) where
+  pub width_is : n ≡ m
+  width_is = width ∙ ap length (sym is) ∙ length_columns m rows
+
+  pub seen : columns_in n rows ≡ cs
+  seen = rw width_is is
 
 pub others_few : (cs : List Column) → others cs ≤ length cs
 others_few [] = omega arith

@@ -1,133 +1,120 @@
-// The columns and the rows of an alist file (document 02, L1) of a code, from its check records: the degrees, and the indices of all lists one behind
-// the other.
+// The columns and the rows of an alist file of a code, from its checks: the degrees, and the indices of all lists one behind the other.
 #![tactic(auto)]
 
 ghost use Rattle.std.specs.Prelude.{◌≡◌, map, suc, ◌+◌, ◌≤◌, length};
 ghost use Rattle.lists.specs.Entries.{total, sum};
 ghost use Rattle.lists.specs.Tabulated.{tab, over};
-ghost use Rattle.model.specs.Limits.{most_bits, most_checks};
-ghost use Rattle.model.specs.Records.{indices, checks_in, judge_check, judge_checks};
+ghost use Rattle.model.specs.Limits.{most_bits};
+ghost use Rattle.model.specs.Sound.{Rising};
 ghost use Rattle.model.specs.Alist.{column_from};
 ghost use Rattle.model.specs.AlistClaims.{joined};
 ghost use Rattle.sides.specs.Columns.{counted, Counted, start_of, placed, Room};
 ghost use Rattle.text.specs.Appended.{Appended};
 
 use model::MOST_BITS;
+use reader::{Check, Code};
 
-// The degrees of the check records that `s` begins with, one for each entry of the list; their sum.
-pub fn row_degrees(s: &[u8], bits: usize, degrees: &mut [u16]) -> usize
-    requires { (judge_checks bits (length degrees.old) s.now ≡ 0) × (length degrees.old ≤ most_checks) }
-    ensures degrees { degrees.new ≡ map length (checks_in (length degrees.old) s.now) }
-    ensures sum { result ≡ total length (checks_in (length degrees.old) s.now) }
+// The degrees of the checks, an entry for each; their sum.
+pub fn row_degrees(code: &Code, degrees: &mut [u16]) -> usize
+    requires { length degrees.old ≡ length code.now.checks }
+    ensures degrees { degrees.new ≡ map length code.now.checks }
+    ensures sum { result ≡ total length code.now.checks }
 {
-    let mut rest = s;
-    let mut sum = 0usize;
-    for j in 0..degrees.len() {
-        let d = records::degree(rest);
-        degrees[j] = d as u16;
-        sum += d;
-        let after = records::after_check(rest);
-        rest = after;
+    let mut sum = 0;
+    for (j, check) in code.checks().enumerate() {
+        let degree = check.degree();
+        degrees[j] = degree as u16;
+        sum += degree;
     }
     sum
 }
 
-// The bits of the check record that `s` begins with, from 1, from `at` on; where the next index goes.
-fn row(s: &[u8], bits: usize, entries: &mut [u16], at: usize) -> usize
-    requires { (judge_check bits s.now ≡ 0) × (bits ≤ most_bits) × (at + length (indices s.now) ≤ length entries.old) }
-    ensures { Appended at (map suc (indices s.now)) entries.old entries.new result }
+// The bits of a check, from 1, from `at` on; where the next index goes.
+fn row(check: &Check, entries: &mut [u16], at: usize) -> usize
+    requires { at + length check.now ≤ length entries.old }
+    ensures { Appended at (map suc check.now) entries.old entries.new result }
 {
-    let d = records::degree(s);
-    for i in 0..d {
-        entries[at + i] = (records::index(s, i) + 1) as u16;
+    let degree = check.degree();
+    for i in 0..degree {
+        entries[at + i] = (check.bit(i) + 1) as u16;
     }
-    at + d
+    at + degree
 }
 
-// The bits of so many checks, from 1.
-pub fn row_entries(s: &[u8], bits: usize, checks: usize, entries: &mut [u16])
-    requires { (judge_checks bits checks s.now ≡ 0) × (bits ≤ most_bits) × (length entries.old ≡ total length (checks_in checks s.now)) }
-    ensures { entries.new ≡ joined (map (map suc) (checks_in checks s.now)) }
+// The bits of all checks, from 1, row behind row.
+pub fn row_entries(code: &Code, entries: &mut [u16])
+    requires { length entries.old ≡ total length code.now.checks }
+    ensures { entries.new ≡ joined (map (map suc) code.now.checks) }
 {
-    let mut rest = s;
-    let mut at = 0usize;
-    for j in 0..checks {
-        at = row(rest, bits, entries, at);
-        let after = records::after_check(rest);
-        rest = after;
+    let mut at = 0;
+    for check in code.checks() {
+        at = row(&check, entries, at);
     }
 }
 
-// One more at each bit of the check record that `s` begins with.
-fn count(s: &[u8], bits: usize, degrees: &mut [u16])
-    requires s_value { (judge_check bits s.now ≡ 0) × (length degrees.old ≡ bits) × (bits ≤ most_bits) }
-    requires counted { Counted degrees.old 65534 }
-    ensures { degrees.new ≡ counted (indices s.now) degrees.old }
+// One more at each bit of the check.
+fn count(check: &Check, degrees: &mut [u16])
+    requires rising { Rising (length degrees.old) 0 check.now }
+    requires room { Counted degrees.old 65534 }
+    ensures { degrees.new ≡ counted check.now degrees.old }
 {
-    let d = records::degree(s);
-    for i in 0..d {
-        let b = records::index(s, i);
-        degrees[b] += 1;
+    for i in 0..check.degree() {
+        degrees[check.bit(i)] += 1;
     }
 }
 
-// How many checks each bit lies in, of so many check records.
-pub fn column_degrees(s: &[u8], checks: usize, degrees: &mut [u16])
-    requires { (judge_checks (length degrees.old) checks s.now ≡ 0) × (length degrees.old ≤ most_bits) × (checks ≤ most_checks) }
-    ensures { degrees.new ≡ tab (length degrees.old) (λ b. length (column_from 0 b (checks_in checks s.now))) }
+// How many checks each bit lies in, an entry for each.
+pub fn column_degrees(code: &Code, degrees: &mut [u16])
+    requires { length degrees.old ≡ code.now.bits }
+    ensures { degrees.new ≡ tab code.now.bits (λ b. length (column_from 0 b code.now.checks)) }
 {
-    slices::clear_u16(degrees);
-    let bits = degrees.len();
-    let mut rest = s;
-    for j in 0..checks {
-        count(rest, bits, degrees);
-        let after = records::after_check(rest);
-        rest = after;
+    degrees.fill(0);
+    for check in code.checks() {
+        count(&check, degrees);
     }
 }
 
 // Where each column begins, the columns standing one behind the other.
 fn starts(degrees: &[u16], next: &mut [u16; MOST_BITS])
-    requires { (length degrees.now ≤ most_bits) × (length next.old ≡ most_bits) × (sum degrees.now ≤ 65535) }
+    requires few { length degrees.now ≤ most_bits }
+    requires sum { sum degrees.now ≤ 65535 }
     ensures { next.new ≡ over (length degrees.now) (start_of degrees.now) next.old }
 {
-    let mut at = 0usize;
-    for b in 0..degrees.len() {
+    let mut at = 0;
+    for (b, degree) in degrees.iter().enumerate() {
         next[b] = at as u16;
-        at += slices::index(degrees[b]);
+        at += usize::from(*degree);
     }
 }
 
-// Number j at the next place of the column of each bit of the check record that `s` begins with.
-fn place(s: &[u8], bits: usize, j: usize, next: &mut [u16; MOST_BITS], entries: &mut [u16])
-    requires s_value { (judge_check bits s.now ≡ 0) × (bits ≤ most_bits) × (length next.old ≡ most_bits) }
-    requires j_bound { (j ≤ 65535) × (length entries.old ≤ 65535) × Room (indices s.now) next.old entries.old }
-    ensures next { next.new ≡ counted (indices s.now) next.old }
-    ensures entries { entries.new ≡ placed j next.old (indices s.now) entries.old }
+// Number j at the next place of the column of each bit of the check.
+fn place(check: &Check, j: usize, next: &mut [u16; MOST_BITS], entries: &mut [u16])
+    requires rising { Rising most_bits 0 check.now }
+    requires number { j ≤ 65535 }
+    requires places { length entries.old ≤ 65535 }
+    requires room { Room check.now next.old entries.old }
+    ensures next { next.new ≡ counted check.now next.old }
+    ensures entries { entries.new ≡ placed j next.old check.now entries.old }
 {
-    let d = records::degree(s);
-    for i in 0..d {
-        let b = records::index(s, i);
-        let at = slices::index(next[b]);
+    for i in 0..check.degree() {
+        let b = check.bit(i);
+        let at = usize::from(next[b]);
         entries[at] = j as u16;
         next[b] = (at + 1) as u16;
     }
 }
 
 // The checks of each bit, from 1, rising, column behind column.
-pub fn column_entries(s: &[u8], checks: usize, degrees: &[u16], entries: &mut [u16])
-    requires s_value { (judge_checks (length degrees.now) checks s.now ≡ 0) × (length degrees.now ≤ most_bits) × (checks ≤ most_checks) }
-    requires degrees_value { degrees.now ≡ tab (length degrees.now) (λ b. length (column_from 0 b (checks_in checks s.now))) }
-    requires entries_len { (length entries.old ≡ sum degrees.now) × (length entries.old ≤ 65535) }
-    ensures { entries.new ≡ joined (tab (length degrees.now) (λ b. column_from 0 b (checks_in checks s.now))) }
+pub fn column_entries(code: &Code, degrees: &[u16], entries: &mut [u16])
+    requires degrees { degrees.now ≡ tab code.now.bits (λ b. length (column_from 0 b code.now.checks)) }
+    requires sum { length entries.old ≡ sum degrees.now }
+    requires places { length entries.old ≤ 65535 }
+    ensures { entries.new ≡ joined (tab code.now.bits (λ b. column_from 0 b code.now.checks)) }
 {
-    let bits = degrees.len();
+    let checks = code.checks();
     let mut next = [0u16; MOST_BITS];
     starts(degrees, &mut next);
-    let mut rest = s;
-    for j in 0..checks {
-        place(rest, bits, j + 1, &mut next, entries);
-        let after = records::after_check(rest);
-        rest = after;
+    for (j, check) in checks.enumerate() {
+        place(&check, j + 1, &mut next, entries);
     }
 }

@@ -23,31 +23,23 @@ pub fn index(x: u16) -> usize
 pub fn clear_u16(l: &mut [u16])
     ensures { l.new ≡ tab (length l.old) (λ _. 0) }
 {
-    for i in 0..l.len() {
-        l[i] = 0u16;
-    }
+    l.fill(0u16);
 }
 
 pub fn clear_i32(l: &mut [i32])
     ensures { l.new ≡ tab (length l.old) (λ _. pos 0) }
 {
-    for i in 0..l.len() {
-        l[i] = 0i32;
-    }
+    l.fill(0i32);
 }
 
 pub fn clear_i64(l: &mut [i64])
     ensures { l.new ≡ tab (length l.old) (λ _. pos 0) }
 {
-    for i in 0..l.len() {
-        l[i] = 0i64;
-    }
+    l.fill(0i64);
 }
 
 pub fn clear_u64(l: &mut [u64])
     ensures { l.new ≡ tab (length l.old) (λ _. 0) }
 {
-    for i in 0..l.len() {
-        l[i] = 0u64;
-    }
+    l.fill(0u64);
 }

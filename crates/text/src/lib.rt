@@ -1,17 +1,15 @@
-// Text written piece by piece to a lent list of bytes: bytes and decimal numbers, in ASCII.
+// A writer of bytes and decimal numbers, in ASCII, to a list that is lent.
 #![tactic(auto)]
 
-ghost use Rattle.std.specs.Prelude.{◌≡◌, [], ◌∷◌, ◌++◌, ◌+◌, ◌%◌, ◌≤◌, ◌<◌, length};
+ghost use Rattle.std.specs.Prelude.{◌≡◌, [], ◌∷◌, ◌++◌, ◌+◌, ◌-◌, ◌%◌, ◌≤◌, ◌<◌, length};
 ghost use Rattle.model.specs.Text.{decimal};
-ghost use Rattle.text.specs.Appended.{Appended};
 
-// A byte, at `at`; where the next goes.
-pub fn put(byte: u8, out: &mut [u8], at: usize) -> usize
-    requires { at < length out.old }
-    ensures { Appended at (byte ∷ []) out.old out.new result }
-{
-    out[at] = byte;
-    at + 1
+// A lent list of bytes, of which the first `written` are written.
+#[derive(Drop)]
+pub struct Writer<'a> {
+    pub bytes: &'a mut [u8],
+    pub written: usize,
+    pub ghost inside: { written ≤ length bytes.now },
 }
 
 // The last decimal digit of `x`.
@@ -21,23 +19,54 @@ fn digit(x: usize) -> u8
     48 + (x % 10) as u8
 }
 
-// The decimal digits of `x`, from `at` on; where the next byte goes.
-pub fn put_number(x: usize, out: &mut [u8], at: usize) -> usize
-    requires { at + length (decimal x) ≤ length out.old }
-    ensures { Appended at (decimal x) out.old out.new result }
-{
-    let mut next = at;
-    if 10 <= x {
-        next = put_number(x / 10, out, at);
-    }
-    put(digit(x), out, next)
-}
+impl<'a> Writer<'a> {
+    ghost use Rattle.text.specs.Appended.{Appended};
+    ghost use Rattle.text.specs.Wrote.{Room, Wrote};
 
-// A number and the byte after it, from `at` on; where the next byte goes.
-pub fn put_field(x: usize, end: u8, out: &mut [u8], at: usize) -> usize
-    requires { at + 21 ≤ length out.old }
-    ensures { Appended at (decimal x ++ (end ∷ [])) out.old out.new result × (result ≤ at + 21) }
-{
-    let next = put_number(x, out, at);
-    put(end, out, next)
+    // A writer of which nothing is written yet.
+    pub fn new(bytes: &'a mut [u8]) -> Writer<'a>
+        ensures list { result.bytes ≡ bytes.entry }
+        ensures start { result.written ≡ 0 }
+    {
+        Writer { bytes, written: 0 }
+    }
+
+    // Writes a byte.
+    pub fn byte(&mut self, byte: u8)
+        requires { Room 1 self.old }
+        ensures { Wrote (byte ∷ []) self.old self.new }
+    {
+        self.bytes[self.written] = byte;
+        self.written += 1;
+    }
+
+    // Writes a byte in the place of the last that was written.
+    pub fn replace_last(&mut self, byte: u8)
+        requires { 1 ≤ self.old.written }
+        ensures bytes { Appended (self.old.written - 1) (byte ∷ []) self.old.bytes.now self.new.bytes.now self.new.written }
+        ensures same { self.new.bytes.ghost_name ≡ self.old.bytes.ghost_name }
+    {
+        self.bytes[self.written - 1] = byte;
+    }
+
+    // Writes the decimal digits of `x`.
+    pub fn number(&mut self, x: usize)
+        requires { Room (length (decimal x)) self.old }
+        ensures { Wrote (decimal x) self.old self.new }
+    {
+        if 10 <= x {
+            self.number(x / 10);
+        }
+        self.byte(digit(x));
+    }
+
+    // Writes a number and the byte after it, at most 21 bytes.
+    pub fn field(&mut self, x: usize, end: u8)
+        requires { Room (length (decimal x) + 1) self.old }
+        ensures text { Wrote (decimal x ++ (end ∷ [])) self.old self.new }
+        ensures short { self.new.written ≤ self.old.written + 21 }
+    {
+        self.number(x);
+        self.byte(end);
+    }
 }

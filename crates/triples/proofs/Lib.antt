@@ -1,5 +1,6 @@
 pub mod Items
-pub mod Auxiliaries
+pub mod Left
 pub mod Writing
 pub mod Counting
 pub mod Lent
+pub mod Splits

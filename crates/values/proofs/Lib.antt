@@ -1,3 +1,2 @@
-pub mod Divisors
 pub mod Limit
 pub mod Values

@@ -1,71 +1,44 @@
--- `alist::walk_list` meets its contract: what is left of the list decides. Assumes nothing.
-use Rattle.integers.proofs.Prelude.{◌≡◌, refl, sym, ap, subst, ◌∙◌, Bool, ◌&&◌, List, ℕ, suc, ◌-◌, arith, add-one, lt-leb, le-leb, not-false}
-use Rattle.integers.proofs.Prelude.{not-true, T, ltb, get_or, drop}
+-- What is left of the list decides.
+use Rattle.integers.proofs.Prelude.{◌≡◌, refl, ◌∙◌, ◌-◌, arith, add-one, not-false, not-true, ltb}
 use mathlib.Core.Bool.{beq}
-use Rattle.model.specs.Limits.{most_number}
-use Rattle.numbers.specs.Walked.{from, none}
-use Rattle.numbers.proofs.Walk.{next_at}
-use Rattle.alist.specs.Form.{filled_list}
-use Rattle.alist.proofs.Filled.{fits, list_next, list_end}
+use Rattle.numbers.proofs.Walk.{next_at, none_at}
+use Rattle.alist.proofs.Filled.{list_none, list_not, list_more, list_end}
 use Rattle.alist.proofs.walk_list.Goals as goal
-use Rattle.alist.proofs.walk_list.Goals.{After-next-x}
 
 pub loop-i-init : goal.loop-i-init
 loop-i-init c =
     let a = c.args in
     let d : a.degree - 0 ≡ a.degree = omega arith in
     let m : a.most - 0 ≡ a.most = omega arith in
-    (rw (d, m), refl, c.requires, omega arith)
+    (rw (d, m), refl)
 
--- the number at hand, and what it decides
-module _ (c : After-next-x) where
-  abbrev text : List ℕ
-  text = c.args.text.now
-
-  abbrev l : List ℕ
-  l = from text c.args.at
-
-  abbrev i : ℕ
-  i = c.loop-i.i
-
-  number : (c.next-x.result.value ≡ get_or l i none) × (from text c.next-x.result.end ≡ drop (suc i) l)
-  number = next_at l i c.loop-i.invariant.1 c.next-x.ensures
-
-  -- the code's second test
-  abbrev asked : Bool
-  asked = beq (ltb i c.args.degree) (ltb 0 c.next-x.result.value)
-
-  decides : let a = c.args in
-      filled_list a.degree a.most l ≡ (fits i a.degree c.next-x.result.value && filled_list (a.degree - suc i) (a.most - suc i) (drop (suc i) l))
-  decides =
-      let a = c.args in
-      c.loop-i.invariant.0 ∙ list_next a.degree a.most i l c.loop-i-test.true
-      ∙ ap (λ (x : ℕ). fits i a.degree x && filled_list (a.degree - suc i) (a.most - suc i) (drop (suc i) l)) (sym number.0)
-
-pub returns-then-value-gt-MOST_NUMBER : goal.returns-then-value-gt-MOST_NUMBER
-returns-then-value-gt-MOST_NUMBER c =
-    record { told = sym (decides (goal.at.returns-then-value-gt-MOST_NUMBER c).After-next-x ∙ rw (lt-leb _ most_number c.if-value-gt-MOST_NUMBER.true)); rest = λ h. absurd (subst T (sym h) tt); within = c.next-x.ensures.within }
+pub returns-in_err-value : goal.returns-in_err-value
+returns-in_err-value c =
+    let a = c.args in
+    let v = c.loop-i.invariant in
+    c.from_residual.ensures
+    ∙ rw (v.0, list_none a.degree a.most c.loop-i.i a.numbers c.loop-i-test.true (none_at a.numbers c.loop-i.i v.1 c.in_err-value.ensures.missing))
 
 pub returns-then-i-degree : goal.returns-then-i-degree
 returns-then-i-degree c =
-    record {
-      told = sym (decides (goal.at.returns-then-i-degree c).After-next-x ∙ rw (le-leb _ most_number c.if-value-gt-MOST_NUMBER.false, not-true (asked (goal.at.returns-then-i-degree c).After-next-x) c.if-i-degree.true));
-      rest = λ h. absurd (subst T (sym h) tt);
-      within = c.next-x.ensures.within;
-    }
+    let a = c.args in
+    let v = c.loop-i.invariant in
+    let x = next_at a.numbers c.loop-i.i v.1 c.in_ok-value.ensures.found in
+    rw (v.0, list_not a.degree a.most c.loop-i.i a.numbers c.loop-i-test.true x.0 (not-true (beq (ltb c.loop-i.i a.degree) (ltb 0 c.in_ok-value.value)) c.if-i-degree.true))
 
 pub loop-i-preserved : goal.loop-i-preserved
 loop-i-preserved c =
-    rw (add-one (i (goal.at.loop-i-preserved c).After-next-x))
-    (decides (goal.at.loop-i-preserved c).After-next-x ∙ rw (le-leb _ most_number c.if-value-gt-MOST_NUMBER.false, not-false (asked (goal.at.loop-i-preserved c).After-next-x) c.if-i-degree.false), (number (goal.at.loop-i-preserved c).After-next-x).1, c.next-x.ensures.within, omega arith)
+    let a = c.args in
+    let v = c.loop-i.invariant in
+    let i = c.loop-i.i in
+    let x = next_at a.numbers i v.1 c.in_ok-value.ensures.found in (
+      v.0 ∙ list_more a.degree a.most i a.numbers c.loop-i-test.true x.0 (omega arith) (not-false (beq (ltb i a.degree) (ltb 0 c.in_ok-value.value)) c.if-i-degree.false),
+      rw (add-one i) x.1,
+    )
 
 pub returns : goal.returns
 returns c =
     let l = c.loop-i in
     let a = c.args in
     let e : l.i ≡ a.most = omega arith in
-    record {
-      told = sym (l.invariant.0 ∙ rw e (list_end a.degree a.most _));
-      rest = λ h. rw (← e) l.invariant.1;
-      within = l.invariant.2;
-    }
+    rw (c.then_some.ensures, l.invariant.0, l.invariant.1, e, list_end a.degree a.most _)

@@ -1,13 +1,8 @@
--- `inputs::some_forbidden` meets its contract: what was found, or is still to be found, decides. Assumes nothing.
-use Rattle.integers.proofs.Prelude.{ℕ, ◌-◌, ◌^◌, ◌<◌, length}
-use lib.Signed.{mag}
+-- What was found among the costs before this one, or is still to be found, decides; where nothing was found, those are small.
 use Rattle.lists.proofs.Entries.{Found}
-use Rattle.model.specs.Iteration.{at}
 use Rattle.model.specs.Calls.{forbidden}
+use Rattle.inputs.proofs.Costs.{SmallBelow}
 use Rattle.inputs.proofs.some_forbidden.Given as goal
 
-abbrev pub invariant-loop-i : goal.invariant-loop-i
-invariant-loop-i l = Found forbidden l.costs l.found l.i × ((v : ℕ) → v < l.i → mag (at l.costs v) < 2 ^ 15)
-
-abbrev pub decreases-loop-i : goal.decreases-loop-i
-decreases-loop-i l = length l.costs - l.i
+abbrev pub invariant-loop-cost : goal.invariant-loop-cost
+invariant-loop-cost l = Found forbidden l.costs l.found l.cost-index × SmallBelow l.costs l.found l.cost-index

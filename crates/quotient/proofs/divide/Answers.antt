@@ -1,7 +1,6 @@
 -- `quotient::divide` meets its contract. Assumes nothing.
 use Rattle.integers.proofs.Prelude.{◌≡◌, sym, ap, ap₂, ◌∙◌, ℕ, ◌+◌, ◌*◌, ◌≤◌, ◌<◌, arith, ℤ, pos, nat_abs, ◌+ℤ◌, ◌*ℤ◌, w16, w64, to_z, of_z}
 use lib.Signed.{quot_z}
-use Rattle.integers.proofs.Linear.{read_ℤ}
 use Rattle.integers.proofs.Machine.{Worth, param, literal, local, also, plus, times, fits, stored}
 use Rattle.quotient.specs.Quotient.{unit, quotient, signed}
 use Rattle.quotient.proofs.Laws.{quotient_range}
@@ -49,18 +48,6 @@ module _ (c : After-with_sign) where
         is = ap₂ quot_z (stored dividend w64 tt).is (stored (divisor s) w64 tt).is ∙ cut_quotient (x s) (d s) (d_is s).0 s.requires.2 ∙ ap (quotient (x s)) (sym (d_is s).2);
         within = quotient_range (x s) s.args.den;
       }
-
-pub overflow_mul-result : goal.overflow_mul-result
-overflow_mul-result c = fits (doubled c) w64 tt
-
-pub with_sign-requires : goal.with_sign-requires
-with_sign-requires c = (omega (arith, read_ℤ, (den_is c).is), omega (arith, ap nat_abs (den_is c).is, (d_is c).1))
-
-pub overflow_add-result : goal.overflow_add-result
-overflow_add-result c = fits (dividend c) w64 tt
-
-pub overflow_mul-result-2 : goal.overflow_mul-result-2
-overflow_mul-result-2 c = fits (divisor (goal.at.overflow_mul-result-2 c).Start) w64 tt
 
 pub nonzero_div-result : goal.nonzero_div-result
 nonzero_div-result c = (omega (arith, ap (of_z w64) (divisor (goal.at.nonzero_div-result c).Start).is, (d_is (goal.at.nonzero_div-result c).Start).0), fits (result c) w64 tt)

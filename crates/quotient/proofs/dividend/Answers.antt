@@ -46,12 +46,6 @@ module _ (c : After-rest) where
   result : Worth (to_z w32 (of_z w32 (pos 256 *ℤ to_z w32 (of_z w32 t.gap.result))) +ℤ to_z w32 (of_z w32 (pos 255 -ℤ to_z w32 (of_z w32 c.rest.result)))) (pos (dividend_of (nat_abs t.before.args.limit) t.before.args.x w)) (256 * (128 * 8192) + (255 + 255))
   result = also (plus (stored (multiple t) w32 tt) (stored difference w32 tt)) (joined (256 * gap t.before) (rest_of w) (rest_most w))
 
-pub overflow_mul-result : goal.overflow_mul-result
-overflow_mul-result c = fits (multiple c) w32 tt
-
-pub overflow_sub-result : goal.overflow_sub-result
-overflow_sub-result c = fits (difference c) w32 tt
-
 pub overflow_add-result : goal.overflow_add-result
 overflow_add-result c = fits (result c) w32 tt
 

@@ -1,10 +1,7 @@
--- `records::judge_indices` meets its contract: what is left to read decides. Assumes nothing.
-use Rattle.integers.proofs.Prelude.{◌≡◌}
+-- What is left to judge decides. Assumes nothing.
+use Rattle.integers.proofs.Prelude.{◌≡◌, ◌-◌}
 use Rattle.model.specs.Records.{judge_indices}
 use Rattle.records.proofs.judge_indices.Given as goal
 
-abbrev pub invariant-loop-left : goal.invariant-loop-left
-invariant-loop-left l = judge_indices l.bits l.degree 0 l.s ≡ judge_indices l.bits l.left l.low l.rest
-
-abbrev pub decreases-loop-left : goal.decreases-loop-left
-decreases-loop-left l = l.left
+abbrev pub invariant-loop : goal.invariant-loop
+invariant-loop l = judge_indices l.bits (l.degree - l.counter) l.low l.rest ≡ judge_indices l.bits l.degree 0 l.s

@@ -14,8 +14,8 @@ loop-i-preserved c =
     let a = c.args in
     let r = c.loop-i.row in
     let i = c.loop-i.i in
-    let x = (c.byte.result + c.byte-in-loop-i.result) % 2 in
-    let sum = ap₂ (λ (y z : ℕ). (y + z) % 2) (c.byte.ensures.0 ∙ c.loop-i.invariant.4 i (omega arith)) c.byte-in-loop-i.ensures.0 in (
+    let x = (c.from.result + c.from-in-loop-i.result) % 2 in
+    let sum = ap₂ (λ (y z : ℕ). (y + z) % 2) (c.from.ensures ∙ c.loop-i.invariant.4 i (omega arith)) c.from-in-loop-i.ensures in (
       length-set r i x ∙ c.loop-i.invariant.0,
       omega arith,
       omega arith,
@@ -26,7 +26,5 @@ loop-i-preserved c =
 
 pub returns : goal.returns
 returns c =
-    let a = c.args in record {
-      sum = sum_slices a.start a.bits a.row.now a.other.now c.loop-i.row (omega arith) c.loop-i.invariant.0 (λ i h k. c.loop-i.invariant.3 i (omega arith) h);
-      long = omega (arith, c.loop-i.invariant.0);
-    }
+    let a = c.args in
+    sum_slices a.start a.bits a.row.now a.other.now c.loop-i.row (omega arith) c.loop-i.invariant.0 (λ i h k. c.loop-i.invariant.3 i (omega arith) h)

@@ -1,5 +1,5 @@
 -- `reduction::clear` meets its contract: the columns before j, and what the row makes of the others, are the whole. Assumes nothing.
-use Rattle.integers.proofs.Prelude.{◌≡◌, refl, sym, ap, ◌∙◌, ◌≤◌, arith, not-true, length, length-set}
+use Rattle.integers.proofs.Prelude.{◌≡◌, refl, sym, ap, ◌∙◌, ◌≤◌, arith, not-true, length}
 use lib.Seq.{slice}
 use Rattle.model.specs.Limits.{most_encoded_bits}
 use Rattle.reduction.proofs.Clearing.{cleared_zero, cleared_pivot, cleared_other, cleared_end}
@@ -8,14 +8,14 @@ use Rattle.reduction.proofs.clear.Goals.{At-loop-j, then-row-j-ne0+else-not-is_p
 
 -- the table's length
 room : (l : At-loop-j) → length l.loop-j.rows ≡ most_encoded_bits
-room l = ap length l.loop-j.invariant.0 ∙ l.requires.0
+room l = omega (arith, ap length l.loop-j.invariant.0)
 
 pub returns-then-not-is_pivot : goal.returns-then-not-is_pivot
 returns-then-not-is_pivot c =
     let a = c.args in
     let free = rw c.loop-j.invariant.0 at (sym c.is_pivot.ensures ∙ not-true _ c.if-not-is_pivot.true-raw) in
     rw c.loop-j.invariant.0
-    (cleared_other a.bits a.rows.now c.loop-j.row c.loop-j.j c.loop-j-test.true (omega (arith, c.loop-j.invariant.2)) c.if-row-j-ne0.true free (omega (arith, c.requires.0)) ∙ c.loop-j.invariant.3)
+    (cleared_other a.bits a.rows.now c.loop-j.row c.loop-j.j c.loop-j-test.true (omega (arith, c.loop-j.invariant.2)) c.if-row-j-ne0.true free (omega arith) ∙ c.loop-j.invariant.3)
 
 pub loop-j-preserved : goal.loop-j-preserved
 loop-j-preserved c =
@@ -26,10 +26,10 @@ loop-j-preserved c =
     let long : n ≤ length r = omega (arith, c.loop-j.invariant.2) in
     elim c.if-row-j-ne0.branch [
       | then-row-j-ne0+else-not-is_pivot w ↦ let p = rw c.loop-j.invariant.0 at (sym w.is_pivot.ensures ∙ w.if-not-is_pivot.false) in
-          let sum = rw c.loop-j.invariant.0 at w.add.ensures.sum in (
+          let sum = rw c.loop-j.invariant.0 at w.add.ensures in (
             c.loop-j.invariant.0,
             omega arith,
-            ap length w.row-is ∙ w.add.ensures.long,
+            ap length w.row-is ∙ omega arith,
             rw w.row-is (cleared_pivot n a.rows.now r j c.loop-j-test.true long w.if-row-j-ne0.true p _ sum ∙ c.loop-j.invariant.3),
           )
       | else-row-j-ne0 w ↦ (
@@ -48,22 +48,16 @@ returns c =
     rw c.loop-j.invariant.0 (sym end ∙ rw e at c.loop-j.invariant.3)
 
 pub loop-j-init : goal.loop-j-init
-loop-j-init c = (refl, omega arith, c.requires.1, refl)
+loop-j-init c = (refl, omega arith, omega arith, refl)
 
 pub is_pivot-requires : goal.is_pivot-requires
-is_pivot-requires c = (omega (arith, room (goal.at.is_pivot-requires c).At-loop-j), omega arith)
+is_pivot-requires c = omega arith
 
 pub bounds-rows-j : goal.bounds-rows-j
 bounds-rows-j c = omega (arith, room (goal.at.bounds-rows-j c).At-loop-j)
-
-pub shape_of-rows-then-not-is_pivot : goal.shape_of-rows-then-not-is_pivot
-shape_of-rows-then-not-is_pivot c = (length-set c.loop-j.rows c.loop-j.j c.loop-j.row ∙ ap length c.loop-j.invariant.0)
 
 pub bounds-rows-j-then-row-j-ne0 : goal.bounds-rows-j-then-row-j-ne0
 bounds-rows-j-then-row-j-ne0 c = omega (arith, room (goal.at.bounds-rows-j-then-row-j-ne0 c).At-loop-j)
 
 pub add-requires : goal.add-requires
-add-requires c = ((omega arith, c.requires.2, c.loop-j.invariant.2))
-
-pub shape_of-rows : goal.shape_of-rows
-shape_of-rows c = ap length c.loop-j.invariant.0
+add-requires c = (omega arith, omega arith)

@@ -6,18 +6,21 @@ use Rattle.model.specs.Encoding.{inner_product}
 use Rattle.model.proofs.Reduction.{product_none}
 use Rattle.reduction.proofs.Table.{product_from}
 use Rattle.reduction.proofs.parity.Goals as goal
-use Rattle.reduction.proofs.parity.Goals.{After-byte-in-loop-i}
+use Rattle.reduction.proofs.parity.Goals.{After-from-in-loop-i}
 
 -- a product of two bytes
-small : (c : After-byte-in-loop-i) → c.byte.result * c.byte-in-loop-i.result ≤ 65025
-small c = mul-le-mul c.byte.ensures.1 c.byte-in-loop-i.ensures.1
+small : (c : After-from-in-loop-i) → c.from.result * c.from-in-loop-i.result ≤ 65025
+small c =
+    let one : c.from.result ≤ 255 = omega (arith, c.from.ensures, c.fits-row c.loop-i.i) in
+    let other : c.from-in-loop-i.result ≤ 255 = omega (arith, c.from-in-loop-i.ensures, c.type_inv.word c.loop-i.i) in
+    mul-le-mul one other
 
 pub loop-i-preserved : goal.loop-i-preserved
 loop-i-preserved c =
     let a = c.args in
     let i = c.loop-i.i in
     let next = product_from (length a.word.now) a.row.now a.word.now i (omega arith) in
-    let here = ap₂ ◌*◌ c.byte.ensures.0 c.byte-in-loop-i.ensures.0 in
+    let here = ap₂ ◌*◌ c.from.ensures c.from-in-loop-i.ensures in
     (omega arith, omega (arith, small c, c.loop-i.invariant.1), rw (add-one i) (omega (arith, next, here, c.loop-i.invariant.2)))
 
 pub returns : goal.returns

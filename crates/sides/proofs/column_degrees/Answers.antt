@@ -1,60 +1,42 @@
 -- `sides::column_degrees` meets its contract: the degrees among the checks so far. Assumes nothing.
-use Rattle.integers.proofs.Prelude.{◌≡◌, sym, ap, ◌∙◌, ℕ, arith, length}
-use Rattle.lists.specs.Tabulated.{tab}
-use Rattle.lists.proofs.Tabulated.{length_tab}
-use Rattle.model.specs.Records.{checks_in, indices, judge_check}
-use Rattle.model.proofs.Accepted.{record_sound, length_checks}
-use Rattle.records.proofs.Walk.{walk_start, walk_next, walk_checks, walk_judged}
-use Rattle.sides.specs.Columns.{Counted}
-use Rattle.sides.proofs.Columns.{degrees_are, degrees_few, degrees_next}
+use Rattle.integers.proofs.Prelude.{◌≡◌, sym, ap, ◌∙◌, ◌∷◌, arith, length}
+use Rattle.lists.proofs.Tabulated.{length_tab, tab_replicate}
+use Rattle.model.specs.Sound.{SoundCheck}
+use Rattle.reader.proofs.Done.{Done, none_done, one_done, all_done, some_left, each_here}
+use Rattle.sides.specs.Columns.{counted, Counted}
+use Rattle.sides.proofs.Columns.{degrees_of, degrees_are, degrees_few, degrees_next}
 use Rattle.sides.proofs.column_degrees.Goals as goal
-use Rattle.sides.proofs.column_degrees.Goals.{After-clear_u16, At-loop-j, In-loop-j}
+use Rattle.sides.proofs.column_degrees.Goals.{In-Some}
 
--- the number of bits
-size : (c : After-clear_u16) → length c.clear_u16.new.l ≡ length c.args.degrees.now
-size c = ap length c.clear_u16.ensures ∙ length_tab _ _
+pub loop-check-init : goal.loop-check-init
+loop-check-init c =
+    rw (c.into_iter-check-iterator.ensures.into_iter_gives, c.checks-check-items.ensures.value)
+    (none_done _ (c.fill.ensures.after (λ y e. e) ∙ rw c.requires (sym (tab_replicate c.args.code.now.bits 0))))
 
-pub loop-j-init : goal.loop-j-init
-unfolding checks_in
-loop-j-init c =
-    (walk_start _, c.clear_u16.ensures ∙ ap (λ (n : ℕ). tab n (λ _. 0)) (sym (size (goal.at.loop-j-init c).After-clear_u16)), omega arith)
+-- the checks that are done, and the one at hand
+taken : (c : In-Some) → Done c.args.code.now.checks (c.in-Some.check ∷ c.next.new.self) (λ done. c.loop-check.degrees ≡ degrees_of c.args.code.now.bits done)
+taken c = rw c.in-Some.ensures.steps at c.loop-check.invariant
 
--- the check record at hand
-judged : (c : In-loop-j)
-    → judge_check (length c.clear_u16.new.l) c.loop-j.rest.now ≡ 0
-judged c =
-    walk_judged _ _ _ c.loop-j.invariant.0 _ _ c.loop-j-test.true (rw (size (goal.at.In-loop-j c).After-clear_u16) c.requires.0)
+long : (c : In-Some) → length c.loop-check.degrees ≡ c.args.code.now.bits
+long c = ap length (taken c).known ∙ length_tab _ _
 
-long : (c : At-loop-j) → length c.loop-j.degrees ≡ length c.clear_u16.new.l
-long c = ap length c.loop-j.invariant.1 ∙ length_tab _ _
-
-few : (c : In-loop-j) → Counted c.loop-j.degrees 65534
+few : (c : In-Some) → Counted c.loop-check.degrees 65534
 few c b h =
-    let n = length c.clear_u16.new.l in
-    let cs = checks_in c.loop-j.j c.args.s.now in
-    rw c.loop-j.invariant.1 (omega (arith, degrees_few n cs b (omega (arith, long (goal.at.In-loop-j c).At-loop-j)), length_checks c.loop-j.j c.args.s.now, c.requires.2))
+    let d = taken c in
+    rw d.known (omega (arith, degrees_few c.args.code.now.bits d.items b (omega (arith, long c)), some_left d, c.checks-check-items.ensures.sound.checks_most))
 
 pub count-requires : goal.count-requires
 count-requires c =
-    record { s_value = (judged (goal.at.count-requires c).In-loop-j, long (goal.at.count-requires c).At-loop-j, omega (arith, size (goal.at.count-requires c).After-clear_u16, c.requires.1)); counted = few (goal.at.count-requires c).In-loop-j }
+    let i = (goal.at.count-requires c).In-Some in
+    record {
+      rising = rw (long i) (each_here (taken i) (SoundCheck c.args.code.now.bits) c.checks-check-items.ensures.sound.checks).rising;
+      room = few i;
+    }
 
-pub loop-j-preserved : goal.loop-j-preserved
-loop-j-preserved c =
-    let w = c.loop-j.invariant.0 in
-    let more = degrees_next (length c.clear_u16.new.l) (checks_in c.loop-j.j c.args.s.now) (indices c.loop-j.rest.now) in
-    (walk_next _ _ _ w _ c.after_check-after.ensures, c.count.ensures ∙ rw (c.loop-j.invariant.1, walk_checks _ _ _ w) more, omega arith)
+pub loop-check-preserved : goal.loop-check-preserved
+loop-check-preserved c =
+    let d = taken (goal.at.loop-check-preserved c).In-Some in
+    one_done d _ (c.count.ensures ∙ ap (counted c.in-Some.check) d.known ∙ degrees_next c.args.code.now.bits d.items c.in-Some.check)
 
 pub returns : goal.returns
-returns c =
-    let a = c.args in
-    let e : c.loop-j.j ≡ a.checks = omega arith in
-    c.loop-j.invariant.1 ∙ rw (size (goal.at.returns c).After-clear_u16, e) (degrees_are (length a.degrees.now) (checks_in a.checks a.s.now))
-
-pub clear_u16-requires : goal.clear_u16-requires
-clear_u16-requires c = tt
-
-pub after_check-after-requires : goal.after_check-after-requires
-after_check-after-requires c = (record_sound _ _ (judged (goal.at.after_check-after-requires c).In-loop-j)).room
-
-pub shape_of-degrees : goal.shape_of-degrees
-shape_of-degrees c = long (goal.at.shape_of-degrees c).At-loop-j ∙ size (goal.at.shape_of-degrees c).After-clear_u16
+returns c = all_done (rw c.in-None.ensures.steps.0 at c.loop-check.invariant) ∙ degrees_are c.args.code.now.bits c.args.code.now.checks

@@ -1,11 +1,7 @@
 -- `sides::row` meets its contract: the bits of the check so far. Assumes nothing.
-use Rattle.integers.proofs.Prelude.{map, suc, ◌+◌, ◌-◌, ◌≤◌, take}
-use Rattle.model.specs.Records.{indices}
+use Rattle.integers.proofs.Prelude.{map, suc, ◌+◌, take}
 use Rattle.text.specs.Appended.{Appended}
 use Rattle.sides.proofs.row.Given as goal
 
 abbrev pub invariant-loop-i : goal.invariant-loop-i
-invariant-loop-i l = Appended l.at (map suc (take l.i (indices l.s))) l.initial.entries l.entries (l.at + l.i) × (l.i ≤ l.d)
-
-abbrev pub decreases-loop-i : goal.decreases-loop-i
-decreases-loop-i l = l.d - l.i
+invariant-loop-i l = Appended l.at (map suc (take l.i l.check)) l.initial.entries l.entries (l.at + l.i)

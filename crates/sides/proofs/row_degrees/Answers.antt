@@ -1,56 +1,55 @@
--- `sides::row_degrees` meets its contract: the degrees of the records so far, and their sum. Assumes nothing.
-use Rattle.integers.proofs.Prelude.{◌≡◌, refl, sym, ap, ◌∙◌, List, [], map, ℕ, arith, add-one, length}
-use Rattle.lists.specs.Tabulated.{tab}
-use Rattle.lists.proofs.Tabulated.{length_over, over_next, over_whole, tab_map}
-use Rattle.model.specs.Records.{checks_in}
-use Rattle.model.proofs.Accepted.{SoundRecord, record_sound, length_checks}
-use Rattle.records.proofs.Walk.{walk_start, walk_next, walk_check, walk_judged, walk_total}
-use Rattle.sides.proofs.row_degrees.Invariants.{degree_at}
+-- `sides::row_degrees` meets its contract: the degrees of the checks so far, and their sum. Assumes nothing.
+use Rattle.integers.proofs.Prelude.{◌≡◌, refl, sym, ◌∙◌, ◌<◌, List, [], ◌∷◌, ◌++◌, map, ℕ, arith, length, length-map, length-append, set, append-nil}
+use Rattle.integers.proofs.Prelude.{drop_of_length-le}
+use mathlib.Core.List.{map-append}
+use Rattle.lists.specs.Tabulated.{written}
+use Rattle.lists.proofs.Entries.{total_append}
+use Rattle.lists.proofs.Parts.{written_next}
+use Rattle.reader.proofs.Done.{Done, none_done, one_done, all_done, some_left}
+use Rattle.sides.proofs.row_degrees.Invariants.{Degrees}
 use Rattle.sides.proofs.row_degrees.Goals as goal
-use Rattle.sides.proofs.row_degrees.Goals.{At-loop-j, In-loop-j}
-
-all_degrees : (s : List ℕ) (m : ℕ) → tab m (degree_at s m) ≡ map length (checks_in m s)
-all_degrees s m = ap (λ (k : ℕ). tab k (degree_at s m)) (sym (length_checks m s)) ∙ tab_map length (checks_in m s) []
+use Rattle.sides.proofs.row_degrees.Goals.{After-degree-degree}
 
 pub loop-j-init : goal.loop-j-init
-unfolding checks_in
-loop-j-init c = (walk_start _, refl, refl, omega arith, omega arith)
+loop-j-init c =
+    rw (c.into_iter-j-iterator.ensures.into_iter_gives, c.enumerate-j-items.ensures.source, c.enumerate-j-items.ensures.count, c.checks.ensures.value)
+    (none_done _ (record { count = refl; entries = refl; total_is = refl; most = omega arith }))
 
-long : (c : At-loop-j) → length c.loop-j.degrees ≡ length c.args.degrees.now
-long c = ap length c.loop-j.invariant.1 ∙ length_over c.loop-j.j _ _ c.loop-j.invariant.4
+-- the checks that are done, and the one at hand
+taken : (c : After-degree-degree)
+    → Done c.args.code.now.checks (c.in-Some.check ∷ c.next.new.self.iter) (Degrees c.loop-j.j-iterator.count c.loop-j.sum c.args.degrees.now c.loop-j.degrees)
+taken c = rw c.in-Some.ensures.steps.0 at c.loop-j.invariant
 
--- the check record at hand
-sound : (c : In-loop-j) → SoundRecord c.args.bits c.loop-j.rest.now
-sound c = record_sound _ _ (walk_judged _ _ _ c.loop-j.invariant.0 _ _ c.loop-j-test.true c.requires.0)
+few : (c : After-degree-degree) → c.loop-j.j-iterator.count < length c.args.degrees.now
+few c = omega (arith, (taken c).known.count, some_left (taken c), c.requires)
+
+pub overflow_add-sum : goal.overflow_add-sum
+overflow_add-sum c = omega (arith, (taken c).known.most, few c, c.degree-degree.ensures.range)
+
+put : (old : List ℕ) (done : List (List ℕ)) (check degrees : List ℕ) (j d : ℕ) → degrees ≡ written (map length done) old → j ≡ length (map length done)
+    → d ≡ length check → length (map length done) < length old → set degrees j d ≡ written (map length (done ++ (check ∷ []))) old
+put old done check degrees j d so_far place value room =
+    rw (so_far, place, value, map-append length done (check ∷ [])) (written_next (map length done) old (length check) room)
 
 pub loop-j-preserved : goal.loop-j-preserved
 loop-j-preserved c =
-    let l = c.loop-j in
-    let h = c.loop-j-test.true in
-    let w = l.invariant.0 in (
-      walk_next _ _ _ w _ c.after_check-after.ensures,
-      rw (add-one l.j, l.invariant.1) (over_next l.j _ _ _ h (ap length (walk_check _ _ _ w _ h) ∙ sym c.degree-d.ensures.1)),
-      omega (arith, c.degree-d.ensures.1, l.invariant.2, walk_total _ _ _ w length),
-      omega arith,
-      omega arith,
-    )
+    let d = taken c in
+    let k = d.known in
+    let s = c.in-Some.ensures.steps in
+    let done = map length d.items in
+    let long : length done ≡ c.in-Some.j = omega (arith, length-map d.items length, k.count, s) in
+    one_done d _ (record {
+      count = omega (arith, s, k.count, length-append d.items (c.in-Some.check ∷ []));
+      entries = put c.args.degrees.now d.items c.in-Some.check _ _ _ k.entries (sym long) c.degree-degree.ensures.value (omega (arith, long, few c, s));
+      total_is = omega (arith, k.total_is, c.degree-degree.ensures.value, total_append length d.items (c.in-Some.check ∷ []));
+      most = omega (arith, k.most, s, c.degree-degree.ensures);
+    })
 
 pub returns : goal.returns
 returns c =
-    let l = c.loop-j in
-    let a = c.args in
-    let n = length a.degrees.now in
-    let e : l.j ≡ n = omega arith in
-    record { degrees = rw e at l.invariant.1 ∙ over_whole n _ _ (omega arith) ∙ all_degrees a.s.now n; sum = rw e at l.invariant.2 }
-
-pub degree-d-requires : goal.degree-d-requires
-degree-d-requires c = omega (arith, (sound c).room)
-
-pub bounds-degrees-j : goal.bounds-degrees-j
-bounds-degrees-j c = omega (arith, long (goal.at.bounds-degrees-j c).At-loop-j)
-
-pub after_check-after-requires : goal.after_check-after-requires
-after_check-after-requires c = (sound (goal.at.after_check-after-requires c).In-loop-j).room
-
-pub shape_of-degrees : goal.shape_of-degrees
-shape_of-degrees c = long (goal.at.shape_of-degrees c).At-loop-j
+    let known = all_done (rw c.in-None.ensures.steps.0.0 at c.loop-j.invariant) in
+    let n = length c.args.degrees.now in
+    record {
+      degrees = known.entries ∙ rw (drop_of_length-le c.args.degrees.now {i = length (map length c.args.code.now.checks)} (omega (arith, c.requires, length-map c.args.code.now.checks length))) (append-nil _);
+      sum = known.total_is;
+    }

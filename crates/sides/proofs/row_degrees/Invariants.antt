@@ -1,14 +1,16 @@
--- `sides::row_degrees` meets its contract: the degrees of the records so far, and their sum. Assumes nothing.
-use Rattle.integers.proofs.Prelude.{◌≡◌, List, [], ℕ, ◌*◌, ◌≤◌, length, get_or}
-use Rattle.lists.specs.Tabulated.{over}
+-- `sides::row_degrees` meets its contract: the degrees of the checks so far, and their sum. Assumes nothing.
+use Rattle.integers.proofs.Prelude.{◌≡◌, List, ℕ, ◌*◌, ◌≤◌, map, length}
+use Rattle.lists.specs.Tabulated.{written}
 use Rattle.lists.specs.Entries.{total}
-use Rattle.model.specs.Records.{checks_in}
-use Rattle.records.proofs.Walk.{Walk}
+use Rattle.model.specs.Limits.{most_degree}
+use Rattle.reader.proofs.Done.{Done}
 use Rattle.sides.proofs.row_degrees.Given as goal
 
--- the degree of check k, of m
-abbrev pub degree_at : List ℕ → ℕ → ℕ → ℕ
-degree_at s m k = length (get_or (checks_in m s) k [])
+pub record Degrees (j sum : ℕ) (old degrees : List ℕ) (checks : List (List ℕ)) : Type 0 where
+  pub count : j ≡ length checks
+  pub entries : degrees ≡ written (map length checks) old
+  pub total_is : sum ≡ total length checks
+  pub most : sum ≤ most_degree * j
 
 abbrev pub invariant-loop-j : goal.invariant-loop-j
-invariant-loop-j l = Walk l.s l.j l.rest × (l.degrees ≡ over l.j (degree_at l.s (length l.initial.degrees)) l.initial.degrees) × (l.sum ≡ total length (checks_in l.j l.s)) × (l.sum ≤ 255 * l.j) × (l.j ≤ length l.initial.degrees)
+invariant-loop-j l = Done l.code.checks l.j-iterator.iter (Degrees l.j-iterator.count l.sum l.initial.degrees l.degrees)

@@ -1,52 +1,31 @@
 -- `sides::row_entries` meets its contract: the rows so far. Assumes nothing.
-use Rattle.integers.proofs.Prelude.{◌≡◌, ◌+◌, ◌≤◌, arith, length}
-use Rattle.model.specs.Records.{checks_in, indices, judge_check}
-use Rattle.model.proofs.Accepted.{record_sound}
-use Rattle.records.proofs.Walk.{total_within, walk_start, walk_next, walk_checks, walk_judged, walk_total}
+use Rattle.integers.proofs.Prelude.{◌∷◌, arith, length}
+use Rattle.reader.proofs.Done.{Done, none_done, one_done, all_done, total_left}
+use Rattle.text.specs.Appended.{Appended}
 use Rattle.text.proofs.Appended.{none, long, then}
-use Rattle.sides.proofs.Rows.{rows_next, length_rows, whole}
+use Rattle.sides.proofs.Rows.{rows_of, rows_next, length_rows, whole}
 use Rattle.sides.proofs.row_entries.Goals as goal
-use Rattle.sides.proofs.row_entries.Goals.{In-loop-j}
+use Rattle.sides.proofs.row_entries.Goals.{In-Some}
 
-pub loop-j-init : goal.loop-j-init
-unfolding checks_in
-loop-j-init c = (walk_start _, none 0 _ (omega arith), omega arith)
+pub loop-check-init : goal.loop-check-init
+loop-check-init c =
+    rw (c.into_iter-check-iterator.ensures.into_iter_gives, c.checks-check-items.ensures.value) (none_done _ (none 0 _ (omega arith)))
 
--- the check record at hand, and its place
-judged : (c : In-loop-j) → judge_check c.args.bits c.loop-j.rest.now ≡ 0
-judged c = walk_judged _ _ _ c.loop-j.invariant.0 _ _ c.loop-j-test.true c.requires.0
+-- the checks that are done, and the one at hand
+taken : (c : In-Some)
+    → Done c.args.code.now.checks (c.in-Some.check ∷ c.next.new.self) (λ done. Appended 0 (rows_of done) c.args.entries.now c.loop-check.entries c.loop-check.at)
+taken c = rw c.in-Some.ensures.steps at c.loop-check.invariant
 
-room : (c : In-loop-j) → c.loop-j.at + length (indices c.loop-j.rest.now) ≤ length c.loop-j.entries
-room c =
-    let l = c.loop-j in
-    let s = c.args.s.now in
-    omega (
-      arith,
-      l.invariant.1.ends,
-      length_rows (checks_in l.j s),
-      walk_total _ _ _ l.invariant.0 length,
-      total_within length (l.j + 1) c.args.checks s (omega arith),
-      long l.invariant.1,
-      c.requires.2,
-    )
+pub row-at-requires : goal.row-at-requires
+row-at-requires c =
+    let d = taken (goal.at.row-at-requires c).In-Some in
+    omega (arith, d.known.ends, length_rows d.items, total_left d length, long d.known, c.requires)
 
-pub loop-j-preserved : goal.loop-j-preserved
-loop-j-preserved c =
-    let l = c.loop-j in
-    let k = checks_in l.j c.args.s.now in
-    (walk_next _ _ _ l.invariant.0 _ c.after_check-after.ensures, rw (walk_checks _ _ _ l.invariant.0, rows_next k) (then l.invariant.1 c.row-at.ensures), omega arith)
+pub loop-check-preserved : goal.loop-check-preserved
+loop-check-preserved c =
+    let d = taken (goal.at.loop-check-preserved c).In-Some in
+    one_done d _ (rw (rows_next d.items c.in-Some.check) (then d.known c.row-at.ensures))
 
 pub returns : goal.returns
 returns c =
-    let l = c.loop-j in
-    let e : l.j ≡ c.args.checks = omega arith in
-    whole (rw e at l.invariant.1) (omega (arith, length_rows (checks_in c.args.checks c.args.s.now), c.requires.2))
-
-pub row-at-requires : goal.row-at-requires
-row-at-requires c = (judged (goal.at.row-at-requires c).In-loop-j, c.requires.1, room (goal.at.row-at-requires c).In-loop-j)
-
-pub after_check-after-requires : goal.after_check-after-requires
-after_check-after-requires c = (record_sound _ _ (judged (goal.at.after_check-after-requires c).In-loop-j)).room
-
-pub shape_of-entries : goal.shape_of-entries
-shape_of-entries c = long c.loop-j.invariant.1
+    whole (all_done (rw c.in-None.ensures.steps.0 at c.loop-check.invariant)) (omega (arith, length_rows c.args.code.now.checks, c.requires))

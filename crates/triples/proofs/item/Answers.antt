@@ -1,26 +1,19 @@
 -- `triples::item` meets its contract: a bit of the check, the blank behind two, or an auxiliary. Assumes nothing.
 use Rattle.integers.proofs.Prelude.{sym, ◌∙◌, arith}
-use Rattle.model.specs.Records.{indices}
-use Rattle.triples.proofs.Items.{length_waiting, item_bit, item_blank, item_auxiliary}
+use Rattle.triples.proofs.Items.{item_bit, item_blank, item_auxiliary}
 use Rattle.triples.proofs.item.Goals as goal
-
-pub overflow_add-result : goal.overflow_add-result
-overflow_add-result c = omega (arith, length_waiting (indices c.args.s.now))
-
-pub overflow_cast-result-else-d-lt3 : goal.overflow_cast-result-else-d-lt3
-overflow_cast-result-else-d-lt3 c = omega (arith, length_waiting (indices c.args.s.now))
 
 pub returns-then-i-d : goal.returns-then-i-d
 returns-then-i-d c =
     let a = c.args in
-    c.index.ensures.0 ∙ sym (item_bit (indices a.s.now) a.next a.i (omega arith))
+    c.bit.ensures.value ∙ sym (item_bit a.check.now a.next a.i (omega arith))
 
 pub returns-then-d-lt3 : goal.returns-then-d-lt3
 returns-then-d-lt3 c =
     let a = c.args in
-    sym (item_blank (indices a.s.now) a.next a.i (omega arith) (omega arith) (omega arith))
+    sym (item_blank a.check.now a.next a.i (omega arith) (omega arith) (omega arith))
 
 pub returns-else-d-lt3 : goal.returns-else-d-lt3
 returns-else-d-lt3 c =
     let a = c.args in
-    omega (arith, item_auxiliary (indices a.s.now) a.next a.i (omega arith) (omega arith) (omega arith))
+    omega (arith, item_auxiliary a.check.now a.next a.i (omega arith) (omega arith) (omega arith))

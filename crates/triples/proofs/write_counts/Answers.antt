@@ -1,72 +1,34 @@
--- `triples::write_counts` meets its contract: the counts of the entries so far. Assumes nothing.
-use Rattle.integers.proofs.Prelude.{◌≡◌, sym, ap, ◌∙◌, List, ℕ, ◌*◌, ◌<◌, arith, add-one, length, get_or}
-use mathlib.Core.Logic.{◌⊎◌, inl, inr}
-use Rattle.lists.specs.Tabulated.{over}
-use Rattle.lists.proofs.Tabulated.{length_over, over_in, over_same, over_over}
-use Rattle.model.specs.Splitting.{blank}
-use Rattle.model.specs.Iteration.{occurrences}
-use Rattle.model.proofs.TripleRule.{members_at}
-use Rattle.triples.proofs.Counting.{count_next, hits, hits_most, hits_triples}
+use Rattle.integers.proofs.Prelude.{sym, ◌∙◌, ◌≤◌, arith, length, length-take-le}
+use Rattle.model.specs.Code.{variables}
+use Rattle.model.specs.Splitting.{system_of}
+use Rattle.triples.proofs.Counting.{none_counted, may_count, one_counted, all_counted}
 use Rattle.triples.proofs.write_counts.Goals as goal
-use Rattle.triples.proofs.write_counts.Goals.{Start, After-clear, At-loop-i, In-loop-i}
+use Rattle.triples.proofs.write_counts.Goals.{Start}
 
-pub loop-i-init : goal.loop-i-init
-loop-i-init c =
-    let a = c.args in
-    (omega arith, rw c.clear.ensures (sym (over_over a.variables (hits a.triples.now 0) (λ v. 0) a.counts.now)))
+room : (c : Start) → variables c.args.code.now ≤ length c.args.counts.now
+unfolding system_of
+room c = c.requires.room
 
--- ---- at entry i
-module _ (c : At-loop-i) where
-  abbrev cleared : After-clear
-  cleared = (goal.at.At-loop-i c).After-clear
+pub slice_bounds-fill-end : goal.slice_bounds-fill-end
+slice_bounds-fill-end c = omega (arith, c.variables.ensures.value, room (goal.at.slice_bounds-fill-end c).Start)
 
-  abbrev s : Start
-  s = (goal.at.After-clear cleared).Start
+pub slice_bounds-fill-end-2 : goal.slice_bounds-fill-end-2
+slice_bounds-fill-end-2 c =
+    sym (length-take-le c.variables.result c.args.counts.now (omega (arith, c.variables.ensures.value, room (goal.at.slice_bounds-fill-end-2 c).Start)))
 
-  -- the counts, as they are now
-  now_is : c.loop-i.counts ≡ over s.args.variables (hits s.args.triples.now c.loop-i.i) s.args.counts.now
-  now_is =
-      c.loop-i.invariant.1 ∙ ap (λ (l : List ℕ). over s.args.variables (hits s.args.triples.now c.loop-i.i) l) cleared.clear.ensures
-      ∙ over_over s.args.variables (hits s.args.triples.now c.loop-i.i) (λ v. 0) s.args.counts.now
-
-  long : length c.loop-i.counts ≡ length s.args.counts.now
-  long = ap length now_is ∙ length_over s.args.variables (hits s.args.triples.now c.loop-i.i) s.args.counts.now (omega arith)
-
--- the variable at entry i, or the blank, and its count
-below : (c : In-loop-i)
-    → let v = get_or (s (goal.at.In-loop-i c).At-loop-i).args.triples.now c.loop-i.i 0 in (v < (s (goal.at.In-loop-i c).At-loop-i).args.variables) ⊎ (v ≡ blank)
-below c = let a = s (goal.at.In-loop-i c).At-loop-i in members_at a.args.triples.now a.args.total a.args.variables a.requires.total_le_most_triples.1 a.requires.variables_in_bounds.1 c.loop-i.i (omega arith)
-
-few : (c : In-loop-i) (v : ℕ) → v < (s (goal.at.In-loop-i c).At-loop-i).args.variables → get_or c.loop-i.counts v 0 < 65535
-few c v h =
-    let i = c.loop-i.i in
-    let a = (s (goal.at.In-loop-i c).At-loop-i).args in
-    omega (arith, ap (λ (l : List ℕ). get_or l v 0) (now_is (goal.at.In-loop-i c).At-loop-i), over_in a.variables (hits a.triples.now i) a.counts.now v 0 h, hits_most a.triples.now i v)
+pub loop-v-init : goal.loop-v-init
+loop-v-init c =
+    none_counted _ c.variables.ensures.sound _ c.requires.members _ (room (goal.at.loop-v-init c).Start) _ _ c.variables.ensures.value (c.fill.ensures.after (λ x e. e))
 
 pub count-requires : goal.count-requires
-count-requires c = record { i_in_bounds = omega arith; i_in_bounds_2 = λ other. by (below (goal.at.count-requires c).In-loop-i) other }
-  where
-    v : ℕ
-    v = get_or (s (goal.at.count-requires c).At-loop-i).args.triples.now c.loop-i.i 0
+count-requires c =
+    may_count _ c.variables.ensures.sound _ c.requires.members _ (room (goal.at.count-requires c).Start) _ c.loop-v-test.true _ c.loop-v.invariant
 
-    by : (v < (s (goal.at.count-requires c).At-loop-i).args.variables) ⊎ (v ≡ blank) → (v ≡ blank → ⊥)
-        → (v < length c.loop-i.counts) × (get_or c.loop-i.counts v 0 < 65535)
-    by (inl h) other = (omega (arith, long (goal.at.count-requires c).At-loop-i), few (goal.at.count-requires c).In-loop-i v h)
-    by (inr e) other = absurd (other e)
-
-pub loop-i-preserved : goal.loop-i-preserved
-loop-i-preserved c =
-    let l = c.loop-i in
-    let a = (s (goal.at.loop-i-preserved c).At-loop-i).args in
-    (omega arith, rw (c.count.ensures, l.invariant.1, add-one l.i) (count_next a.variables (hits a.triples.now l.i) (cleared (goal.at.loop-i-preserved c).At-loop-i).clear.new.counts (get_or a.triples.now l.i 0) (s (goal.at.loop-i-preserved c).At-loop-i).requires.variables_in_bounds.1.few (below (goal.at.loop-i-preserved c).In-loop-i)))
+pub loop-v-preserved : goal.loop-v-preserved
+loop-v-preserved c =
+    c.count.ensures
+    ∙ one_counted _ c.variables.ensures.sound _ c.requires.members _ (room (goal.at.loop-v-preserved c).Start) _ c.loop-v-test.true _ c.loop-v.invariant
 
 pub returns : goal.returns
 returns c =
-    let a = (s (goal.at.returns c).At-loop-i).args in
-    let e : c.loop-i.i ≡ 3 * a.total = omega arith in
-    now_is (goal.at.returns c).At-loop-i
-    ∙ over_same a.variables (hits a.triples.now c.loop-i.i) (occurrences a.triples.now a.total) a.counts.now
-    (λ v h. ap (λ (n : ℕ). hits a.triples.now n v) e ∙ hits_triples a.triples.now a.total v)
-
-pub shape_of-counts : goal.shape_of-counts
-shape_of-counts c = long (goal.at.shape_of-counts c).At-loop-i
+    all_counted _ c.variables.ensures.sound _ c.requires.members _ (room (goal.at.returns c).Start) _ _ (omega (arith, c.loop-v-test.false)) (omega (arith, c.loop-v.auto)) c.loop-v.invariant

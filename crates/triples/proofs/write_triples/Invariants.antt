@@ -1,10 +1,6 @@
--- `triples::write_triples` meets its contract: the checks so far, and their triples. Assumes nothing.
-use Rattle.integers.proofs.Prelude.{◌-◌}
-use Rattle.triples.proofs.Writing.{SplitTo}
+-- The triples of the checks so far, and the checks that are left.
+use Rattle.triples.proofs.Writing.{Written}
 use Rattle.triples.proofs.write_triples.Given as goal
 
-abbrev pub invariant-loop-j : goal.invariant-loop-j
-invariant-loop-j l = SplitTo l.code l.initial.triples l.j l.triples l.rest l.next l.done
-
-abbrev pub decreases-loop-j : goal.decreases-loop-j
-decreases-loop-j l = l.checks - l.j
+abbrev pub invariant-loop-check : goal.invariant-loop-check
+invariant-loop-check l = Written l.code l.fn.triples l.check-iterator l.next l.done l.triples

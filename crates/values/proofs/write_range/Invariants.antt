@@ -5,7 +5,7 @@ use Rattle.values.specs.Values.{value_from}
 use Rattle.values.proofs.write_range.Given as goal
 
 abbrev pub invariant-loop-v : goal.invariant-loop-v
-invariant-loop-v l = (l.from ≤ l.v) × (l.v ≤ l.to) × (l.values ≡ sets l.initial.values l.from (tab (l.v - l.from) (λ i. value_from l.sums l.counts l.costs l.weight l.ratio (l.from + i))))
+invariant-loop-v l = (l.from ≤ l.v) × (l.v ≤ l.to) × (l.values ≡ sets l.initial.values l.from (tab (l.v - l.from) (λ i. value_from l.sums l.counts l.costs l.weight l.divisors (l.from + i))))
 
 abbrev pub decreases-loop-v : goal.decreases-loop-v
 decreases-loop-v l = l.to - l.v

@@ -19,14 +19,14 @@ module _ (c : After-write_range) where
   start = (goal.at.After-write_range c).Start
 
   abbrev f : List ℤ → ℕ → ℤ
-  f costs = let s = start.args in value_from s.sums.now s.counts.now costs s.weight s.ratio
+  f costs = let s = start.args in value_from s.sums.now s.counts.now costs s.weight s.divisors.now
 
 pub write_range-requires-2 : goal.write_range-requires-2
 write_range-requires-2 c =
     let s = start (goal.at.write_range-requires-2 c).After-write_range in
     let g = s.requires.given.0 in
     let e = c.write_range.auto.values in
-    rw (e, none_left s.args.costs.now) (record { given = (record { sums_long = g.sums_long; counts_long = g.counts_long; sum = g.sum; cost = λ v h. omega arith; some = g.some; few = g.few }, s.requires.given.1, s.requires.given.2); from_le_to = (s.requires.costs_in_bounds, omega arith); tables = s.requires.tables })
+    rw (e, none_left s.args.costs.now) (record { given = (record { sums_long = g.sums_long; counts_long = g.counts_long; sum = g.sum; cost = λ v h. omega arith; some = g.some; few = g.few }, s.requires.given.1); from_le_to = (s.requires.costs_in_bounds, omega arith) })
 
 pub returns : goal.returns
 returns c =

@@ -1,9 +1,0 @@
--- `numbers::separates` meets its contract. Assumes nothing.
-use Rattle.integers.proofs.Prelude.{eq-eqb, ne_eqb}
-use Rattle.numbers.proofs.separates.Goals as goal
-
-pub returns-then-b-eq32 : goal.returns-then-b-eq32
-returns-then-b-eq32 c = rw (eq-eqb _ 32 c.if-b-eq32.true)
-
-pub returns-else-b-eq32 : goal.returns-else-b-eq32
-returns-else-b-eq32 c = rw (ne_eqb _ 32 c.if-b-eq32.false)
