@@ -1,6 +1,7 @@
 -- What the frames of a group hold while they run: in lanes those that run, in their parts of the lists those that do not. Definitions only.
 use Rattle.std.specs.Prelude.{Bool, true, false, cond, ◌&&◌, List, map, ◌≡◌, ℕ, ◌*◌, ◌<◌, ltb, eqb, ℤ, length, get_or}
 use Rattle.lists.specs.Tabulated.{part}
+use Rattle.model.specs.Limits.{most_frames}
 use Rattle.model.specs.declared.Settings.{Settings}
 use Rattle.model.specs.Causes.{◌if◌}
 use Rattle.model.specs.Iteration.{State}
@@ -60,6 +61,7 @@ pub record Held (p : Plan) (F : ℕ) (S c s : List ℤ) : Type 0 where
 
 -- the stages of eight frames, of which only the F frames of the group run
 pub record Marks (F : ℕ) (stages : List Stage) : Type 0 where
+  pub long : length stages ≡ most_frames
   pub below : (f : ℕ) → going stages f ≡ true → f < F
 
 -- what becomes of a frame after an iteration that stops it or not, by the number s

@@ -18,7 +18,7 @@ pub enum Stage {
 }
 
 impl Stage {
-    fn runs(self) -> bool
+    pub fn runs(self) -> bool
         ensures { result ≡ is_running self }
     {
         match self {
@@ -37,6 +37,7 @@ pub struct Frames<'a, 'b> {
     pub sums: &'b mut [i64],
     pub values: &'b mut [i16],
     pub rows: &'b mut [i32],
+    pub ghost few: { count ≤ 8 },
     pub ghost room: { count ≤ walk.plan.lanes },
     pub ghost marked: { Marks count stages },
     pub ghost held: { Held walk.plan count sums.now values.now rows.now },

@@ -1,5 +1,5 @@
 -- `group_step::Frames::settle` meets its contract. Assumes nothing.
-use Rattle.integers.proofs.Prelude.{◌≡◌, refl, sym, ap, ◌∙◌, not, eqb, ℕ, rules}
+use Rattle.integers.proofs.Prelude.{◌≡◌, refl, sym, ap, ◌∙◌, not, eqb, ℕ, arith, rules, length-set}
 use Rattle.model.specs.Causes.{◌if◌}
 use Rattle.lane_renewal.specs.Counting.{settled_in}
 use Rattle.group_step.proofs.Settled.{still, stopped, goes_by, number_of, runs_out}
@@ -8,7 +8,7 @@ use Rattle.group_step.proofs.Frames.settle.Goals as goal
 pub invariant_of-self : goal.invariant_of-self
 invariant_of-self c =
     let x = c.args.self.now in
-    record { room = x.room; marked = record { below = λ g r. x.marked.below g (still x.stages c.args.f _ (search rules) refl g r) }; held = x.held }
+    record { few = x.few; room = x.room; marked = record { long = length-set x.stages c.args.f _ ∙ x.marked.long; below = λ g r. x.marked.below g (still x.stages c.args.f _ (omega (arith, x.marked.long, x.few, c.requires.fits.2)) refl g r) }; held = x.held }
 
 pub returns-then-settled-settings-clause-settled : goal.returns-then-settled-settings-clause-settled
 returns-then-settled-settings-clause-settled c =
