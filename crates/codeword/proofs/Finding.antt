@@ -21,7 +21,7 @@ module _ {A : Type 0} (test : A → Bool) where
       by true e h = rw e refl
       by false e h = rw (e, h) (omega arith)
 
-  pub place_most : (l : List A) → position_or_len test l ≤ length l
+  place_most : (l : List A) → position_or_len test l ≤ length l
   place_most [] = omega arith
   place_most (x ∷ l) = by (test x) refl (place_most l)
     where
@@ -29,19 +29,24 @@ module _ {A : Type 0} (test : A → Bool) where
       by true e h = rw e (omega arith)
       by false e h = rw e (omega (arith, h))
 
-pub finds : (answer : Option ℕ) (i n : ℕ) → i ≤ n → answer ≡ cond (ltb i n) (Some i) None → Finds answer i n
+finds : (answer : Option ℕ) (i n : ℕ) → i ≤ n → answer ≡ cond (ltb i n) (Some i) None → Finds answer i n
 finds answer i n h e = by (ltb i n) refl
   where
     by : (t : Bool) → ltb i n ≡ t → Finds answer i n
     by true b = rw (e, b) (refl, ltb-true i n b)
     by false b = rw (e, b) (omega (arith, ltb-false i n b, h))
 
+-- what `position` answers
+pub finds_first : {A : Type 0} (test : A → Bool) (l : List A) (d : A) (answer : Option ℕ)
+    → answer ≡ cond (ltb (position_or_len test l) (length l)) (Some (position_or_len test l)) None
+    → Finds answer (first (length l) (λ j. test (get_or l j d))) (length l)
+finds_first test l d answer e = rw (first_place test l d) (finds answer (position_or_len test l) (length l) (place_most test l) e)
+
 pub finds_odd : (k : Code) (w : List ℕ) (answer : Option ℕ)
     → answer ≡ cond (ltb (position_or_len (odd w) k.checks) (length k.checks)) (Some (position_or_len (odd w) k.checks)) None
     → Finds answer (first_odd k w) (length k.checks)
 unfolding first_odd
-finds_odd k w answer e =
-    rw (first_place (odd w) k.checks []) (finds answer (position_or_len (odd w) k.checks) (length k.checks) (place_most (odd w) k.checks) e)
+finds_odd k w answer e = finds_first (odd w) k.checks [] answer e
 
 -- the bits of a check have an entry in a word
 pub named : (k : Code) → Sound k → (w : List ℕ) → k.bits ≤ length w → (check : List ℕ) (j : ℕ) → j < length k.checks → check ≡ get_or k.checks j check

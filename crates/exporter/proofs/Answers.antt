@@ -1,34 +1,11 @@
--- The answers of export and of its size, from the judgement and the room; and what is known of an accepted code. Assumes nothing.
-use Rattle.integers.proofs.Prelude.{◌≡◌, ap, ap₂, ◌∙◌, List, ℕ, zero, suc, ◌≤◌, ◌<◌, arith, lt-ltb, le-ltb, length, drop}
-use Rattle.model.specs.Records.{check_count, code_of, judge}
+-- The answers of export and of its size, from the judgement and the room. Assumes nothing.
+use Rattle.integers.proofs.Prelude.{◌≡◌, ap, ap₂, List, ℕ, zero, suc, ◌≤◌, ◌<◌, arith, lt-ltb, le-ltb, length}
+use Rattle.model.specs.Records.{code_of, judge}
 use Rattle.model.specs.RecordClaims.{Bytes}
 use Rattle.model.specs.Alist.{alist_of, Writing, exporter, Size, export_size}
 use Rattle.model.specs.AlistPromises.{ExportCall, SizeCall}
-use Rattle.model.proofs.Accepted.{length_checks, bytes_sound, accepted}
 use Rattle.model.proofs.AlistPromises.{export_call, size_call}
-use Rattle.reader.proofs.Answers.{Read}
-use Rattle.exporter.specs.Lines.{code_from, Accepted, Fitted}
-
--- ---- an accepted code: its records behind the header
-module _ (b : List ℕ) (n m t : ℕ) (r : Read b n m t) where
-  count : m ≡ check_count b
-  unfolding code_of
-  count = r.checks ∙ length_checks (check_count b) (drop 6 b)
-
-  pub header_room : 6 ≤ length b
-  header_room = (bytes_sound b r.judged).header.room
-
-  module _ (s : List ℕ) (is : s ≡ drop 6 b) where
-    code_read : code_from n m s ≡ code_of b
-    unfolding code_of
-    code_read = rw (is, r.bits, count)
-
-    pub fitted_read : {old l : List ℕ} {k : ℕ} → Fitted (alist_of (code_from n m s)) old l k → Fitted (alist_of (code_of b)) old l k
-    fitted_read f = rw code_read at f
-
-    pub code_accepted : Accepted n m s
-    unfolding code_of
-    code_accepted = (rw (is, r.bits, count) (bytes_sound b r.judged).checks, rw code_read (accepted b r.judged))
+use Rattle.exporter.specs.Lines.{Fitted}
 
 -- ---- the answers
 abbrev size_answer : ℕ → ℕ → Size
@@ -38,7 +15,7 @@ abbrev answer : ℕ → ℕ → List ℕ → Writing
 answer number bytes list = record { number = number; bytes = bytes; list = list }
 
 module _ (b : List ℕ) where
-  pub size_refused : (c : ℕ) → judge b ≡ c → 1 ≤ c → SizeCall b (size_answer c 0)
+  pub size_refused : (c : ℕ) → judge b ≡ c → 0 < c → SizeCall b (size_answer c 0)
   unfolding export_size
   size_refused zero e h = absurd (omega arith)
   size_refused (suc c) e h = size_call b (size_answer (suc c) 0) (rw e)
@@ -48,7 +25,7 @@ module _ (b : List ℕ) where
   size_told n j e = size_call b (size_answer 0 n) (rw (j, e))
 
   module _ (bytes : Bytes b) (old : List ℕ) where
-    pub export_refused : (c : ℕ) → judge b ≡ c → 1 ≤ c → ExportCall b old (answer c 0 old)
+    pub export_refused : (c : ℕ) → judge b ≡ c → 0 < c → ExportCall b old (answer c 0 old)
     unfolding exporter
     export_refused zero e h = absurd (omega arith)
     export_refused (suc c) e h = export_call b old (answer (suc c) 0 old) bytes (rw e)

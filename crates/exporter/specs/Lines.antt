@@ -4,7 +4,6 @@ use Rattle.lists.specs.Tabulated.{written}
 use Rattle.lists.specs.Entries.{total, sum}
 use Rattle.model.specs.Limits.{most_bits, most_places}
 use Rattle.model.specs.Code.{Code}
-use Rattle.model.specs.Records.{checks_in, judge_checks}
 use Rattle.model.specs.Sound.{Sound}
 use Rattle.model.specs.Text.{decimal}
 use Rattle.model.specs.Alist.{largest, fill, line_of, text_of}
@@ -42,19 +41,12 @@ abbrev pub head_text : List ℕ → List ℕ → List ℕ
 head_text columns rows =
     line_of (length columns ∷ length rows ∷ []) ++ (line_of (largest columns ∷ largest rows ∷ []) ++ (line_of columns ++ line_of rows))
 
--- the code of so many bits whose check records s begins with
-abbrev pub code_from : ℕ → ℕ → List ℕ → Code
-code_from bits checks s = record { bits = bits; checks = checks_in checks s }
-
--- where it is accepted
-abbrev pub Accepted : ℕ → ℕ → List ℕ → Type 0
-Accepted bits checks s = (judge_checks bits checks s ≡ 0) × Sound (code_from bits checks s)
-
--- lists for the sides of an accepted code whose check records are s: a number for each bit, the degrees of the checks, and a number for each place
-pub record Lists (s columns rows entries : List ℕ) : Type 0 where
-  pub sound : Accepted (length columns) (length rows) s
-  pub degrees : rows ≡ map length (checks_in (length rows) s)
-  pub places : length entries ≡ total length (checks_in (length rows) s)
+-- lists for the sides of a sound code: a number for each bit, the degrees of the checks, and a number for each place
+pub record Lists (k : Code) (columns rows entries : List ℕ) : Type 0 where
+  pub sound : Sound k
+  pub bits : length columns ≡ k.bits
+  pub degrees : rows ≡ map length k.checks
+  pub places : length entries ≡ total length k.checks
 
 -- a text of r bytes is written to the list old where it fits, and old becomes new
 pub record Fitted (text old new : List ℕ) (r : ℕ) : Type 0 where

@@ -1,16 +1,18 @@
-// Export: the alist text of a code (document 02, L1), and how long it is.
+// Export: the alist text of a code, and how long it is.
 #![tactic(auto)]
 
 ghost use Rattle.std.specs.Prelude.{◌≡◌, [], ◌∷◌, ◌+◌, ◌*◌, ◌-◌, ◌≤◌, length, replicate};
 ghost use Rattle.lists.specs.Entries.{total};
+ghost use Rattle.model.specs.Causes.{number_of, count_of};
 ghost use Rattle.model.specs.Text.{decimal};
 ghost use Rattle.lists.specs.Tabulated.{written};
 ghost use Rattle.model.specs.Alist.{largest, fill, line_of, alist_of};
 ghost use Rattle.model.specs.AlistPromises.{ExportCall, SizeCall};
-ghost use Rattle.exporter.specs.Lines.{SideLists, spaced, head_text, lists_text, side_text, code_from, Accepted, Lists, Fitted};
+ghost use Rattle.exporter.specs.Lines.{SideLists, spaced, head_text, lists_text, side_text, Lists, Fitted};
 ghost use Rattle.text.specs.Wrote.{Room, Wrote};
 
-use model::{MOST_BITS, MOST_CHECKS, MOST_PLACES, Reading, Written};
+use model::{Cause, MOST_BITS, MOST_CHECKS, MOST_PLACES};
+use reader::Code;
 use text::Writer;
 
 // How many digits x has.
@@ -138,120 +140,91 @@ fn write_head(columns: &[u16], rows: &[u16], text: &mut Writer)
     write_list(rows, checks, text);
 }
 
-// The bytes of the text of a code whose check records are `s`, by lists for its sides: a number for each bit, the degrees of the checks, and a number
-// for each place.
-fn measure_in(s: &[u8], columns: &mut [u16], rows: &[u16], entries: &mut [u16]) -> usize
-    requires { Lists s.now columns.old rows.now entries.old }
-    ensures { result ≡ length (alist_of (code_from (length columns.old) (length rows.now) s.now)) }
+// The bytes of the text of a code, by lists for its sides: a number for each bit, the degrees of the checks, and a number for each place.
+fn measure_in(code: &Code, columns: &mut [u16], rows: &[u16], entries: &mut [u16]) -> usize
+    requires { Lists code.now columns.old rows.now entries.old }
+    ensures { result ≡ length (alist_of code.now) }
 {
-    let bits = columns.len();
-    let checks = rows.len();
-    sides::column_degrees(s, checks, columns);
-    let pairs = digits(bits)
-        + digits(checks)
+    sides::column_degrees(code, columns);
+    let pairs = digits(columns.len())
+        + digits(rows.len())
         + digits(largest(&columns[..]))
         + digits(largest(rows))
         + 4;
-    sides::column_entries(s, checks, &columns[..], entries);
+    sides::column_entries(code, &columns[..], entries);
     let first = side_size(&columns[..], &entries[..]);
-    sides::row_entries(s, bits, checks, entries);
+    sides::row_entries(code, entries);
     let second = side_size(rows, &entries[..]);
     pairs + first + second
 }
 
-// The text of a code whose check records are `s`, by lists as `measure_in` takes them.
-fn write_in(s: &[u8], columns: &mut [u16], rows: &[u16], entries: &mut [u16], text: &mut [u8])
-    requires lists { Lists s.now columns.old rows.now entries.old }
-    requires room { length (alist_of (code_from (length columns.old) (length rows.now) s.now)) ≤ length text.old }
-    ensures { text.new
-        ≡ written (alist_of (code_from (length columns.old) (length rows.now) s.now)) text.old }
+// The text of a code, by lists as `measure_in` takes them.
+fn write_in(code: &Code, columns: &mut [u16], rows: &[u16], entries: &mut [u16], text: &mut [u8])
+    requires lists { Lists code.now columns.old rows.now entries.old }
+    requires room { length (alist_of code.now) ≤ length text.old }
+    ensures { text.new ≡ written (alist_of code.now) text.old }
 {
-    let bits = columns.len();
-    let checks = rows.len();
     let mut text = Writer::new(text);
-    sides::column_degrees(s, checks, columns);
+    sides::column_degrees(code, columns);
     write_head(&columns[..], rows, &mut text);
-    sides::column_entries(s, checks, &columns[..], entries);
+    sides::column_entries(code, &columns[..], entries);
     write_lists(&columns[..], &entries[..], &mut text);
-    sides::row_entries(s, bits, checks, entries);
+    sides::row_entries(code, entries);
     write_lists(rows, &entries[..], &mut text);
 }
 
-// The text of a code whose check records are `s`, by lists as `measure_in` takes them, where `text` has room for it; how many bytes it has.
+// The text of a code, by lists as `measure_in` takes them, where `text` has room for it; how many bytes it has.
 fn text_in(
-    s: &[u8],
+    code: &Code,
     columns: &mut [u16],
     rows: &[u16],
     entries: &mut [u16],
     text: &mut [u8],
 ) -> usize
-    requires { Lists s.now columns.old rows.now entries.old }
-    ensures { Fitted (alist_of (code_from (length columns.old) (length rows.now) s.now))
-        text.old text.new result }
+    requires { Lists code.now columns.old rows.now entries.old }
+    ensures { Fitted (alist_of code.now) text.old text.new result }
 {
-    let bytes = measure_in(s, columns, rows, entries);
+    let bytes = measure_in(code, columns, rows, entries);
     if bytes <= text.len() {
-        write_in(s, columns, rows, entries, text);
+        write_in(code, columns, rows, entries, text);
     }
     bytes
 }
 
-// The text of a code whose check records are `s`, where `text` has room for it; how many bytes it has.
-fn write_text(s: &[u8], bits: usize, checks: usize, text: &mut [u8]) -> usize
-    requires { Accepted bits checks s.now }
-    ensures { Fitted (alist_of (code_from bits checks s.now)) text.old text.new result }
+// The text of a code, where `text` has room for it; how many bytes it has.
+fn write_text(code: &Code, text: &mut [u8]) -> usize
+    ensures { Fitted (alist_of code.now) text.old text.new result }
 {
     let mut columns = [0u16; MOST_BITS];
     let mut rows = [0u16; MOST_CHECKS];
     let mut entries = [0u16; MOST_PLACES];
-    let places = sides::row_degrees(s, bits, &mut rows[..checks]);
+    let sizes = code.sizes();
+    let places = sides::row_degrees(code, &mut rows[..sizes.checks]);
     text_in(
-        s,
-        &mut columns[..bits],
-        &rows[..checks],
+        code,
+        &mut columns[..sizes.bits],
+        &rows[..sizes.checks],
         &mut entries[..places],
         text,
     )
 }
 
-// The bytes that an export of these records will write.
-pub fn export_size(code: &[u8]) -> Written
-    ensures { SizeCall code.now (record { number = result.number; bytes = result.bytes }) }
+// The bytes that an export of these records will write, or the first cause: 1 to 6, then 9, 7, 8.
+pub fn export_size(code: &[u8]) -> Result<usize, Cause>
+    ensures { SizeCall code.now (record { number = number_of result; bytes = count_of result }) }
 {
-    match reader::read(code) {
-        Reading::Refused(number) => Written { number, bytes: 0 },
-        Reading::Code {
-            bits,
-            checks,
-            triples: _,
-        } => {
-            let mut none = [0u8; 0];
-            let bytes = write_text(records::after_header(code), bits, checks, &mut none);
-            Written { number: 0, bytes }
-        }
-    }
+    let code = Code::read(code)?;
+    Ok(write_text(&code, &mut []))
 }
 
-// Export: the alist text of these records.
-pub fn export(code: &[u8], text: &mut [u8]) -> Written
-    ensures { ExportCall code.now text.old (record { number = result.number; bytes = result.bytes; list = text.new }) }
+// The alist text of these records: how many bytes were written, or the first cause: 1 to 6, then 9, 7, 8, 10. Where it is refused, `text` stays.
+pub fn export(code: &[u8], text: &mut [u8]) -> Result<usize, Cause>
+    ensures { ExportCall code.now text.old (record { number = number_of result; bytes = count_of result; list = text.new }) }
 {
-    match reader::read(code) {
-        Reading::Refused(number) => Written { number, bytes: 0 },
-        Reading::Code {
-            bits,
-            checks,
-            triples: _,
-        } => {
-            let bytes = write_text(records::after_header(code), bits, checks, text);
-            if text.len() < bytes {
-                Written {
-                    number: 10,
-                    bytes: 0,
-                }
-            } else {
-                Written { number: 0, bytes }
-            }
-        }
+    let code = Code::read(code)?;
+    let bytes = write_text(&code, text);
+    if text.len() < bytes {
+        return Err(Cause::Room);
     }
+    Ok(bytes)
 }

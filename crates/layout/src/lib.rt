@@ -17,7 +17,7 @@ pub fn variable(triples: &[u16], t: usize, p: usize) -> usize
     requires { (t ≤ most_triples) × (p < 3) × (3 * t + p < length triples.now) }
     ensures { result ≡ member triples.now t p }
 {
-    slices::index(triples[3 * t + p])
+    usize::from(triples[3 * t + p])
 }
 
 // Entries 4t to 4t + 3: the rows of triple t, where they are not transposed.
@@ -30,8 +30,8 @@ pub fn load(rows: &[i32], t: usize) -> [i32; 4]
 }
 
 pub fn store(rows: &mut [i32], t: usize, s: [i32; 4])
-    requires t_le_most_triples { (t ≤ most_triples) × (4 * t + 3 < length rows.old) }
-    requires by_index { (r : ℕ) → nat_abs (at s r) ≤ 4 * most_row }
+    requires t_bound { (t ≤ most_triples) × (4 * t + 3 < length rows.old) }
+    requires rows_bound { (r : ℕ) → nat_abs (at s r) ≤ 4 * most_row }
     ensures { rows.new ≡ sets rows.old (4 * t) (tab 4 (at s)) }
 {
     let i = 4 * t;
@@ -103,10 +103,8 @@ pub fn straighten(rows: &mut [i32], count: usize)
     requires { (count ≤ most_triples) × (4 * count ≡ length rows.old) × ((i : ℕ) → nat_abs (at rows.old i) ≤ most_row) }
     ensures { rows.new ≡ straight count rows.old }
 {
-    let mut t = count % 4;
-    while t < count {
+    for t in (count % 4..count).step_by(4) {
         let q = load_all(rows, t);
         store_four(rows, t, q);
-        t += 4;
     }
 }

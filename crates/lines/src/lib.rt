@@ -2,14 +2,13 @@
 #![tactic(auto)]
 
 ghost use Rattle.std.specs.Prelude.{◌≡◌, [], ◌∷◌, ◌++◌, map, ◌+◌, ◌≤◌, length};
-ghost use Rattle.model.specs.Calls.{decoding_told};
-ghost use Rattle.model.specs.Told.{DecodingKind};
+ghost use Rattle.model.specs.Calls.{settled_told, decoding_told};
 ghost use Rattle.model.specs.Text.{decimal};
 ghost use Rattle.program.specs.Frames as Frames;
 ghost use Rattle.text.specs.Appended.{Appended};
 ghost use Rattle.text.specs.Wrote.{Room, Wrote};
 
-use model::{Decoding, Ending};
+use model::{Cause, Conclusion, Decoding, Ending};
 use text::Writer;
 
 // The letter of a line and the space after it.
@@ -41,18 +40,19 @@ fn write_bits(word: &[u8], out: &mut Writer)
 // How the line of an answer begins, to the bits or the place.
 fn write_opening(letter: u8, ending: Ending, out: &mut Writer)
     requires { Room 44 out.old }
-    ensures text { Wrote (Frames.opening letter ending.k ending.settled) out.old out.new }
+    ensures text { Wrote (Frames.opening letter ending.k (settled_told ending)) out.old out.new }
     ensures short { out.new.written ≤ out.old.written + 44 }
 {
+    let settled = usize::from(ending.settled);
     write_letter(letter, out);
     out.field(ending.k as usize, b' ');
-    out.field(ending.settled as usize, b' ');
+    out.field(settled, b' ');
 }
 
 // The line of an answer with a place.
 fn write_place(letter: u8, place: usize, ending: Ending, out: &mut Writer)
     requires { Room 65 out.old }
-    ensures { Wrote (Frames.opening letter ending.k ending.settled ++ (decimal place ++ (10 ∷ []))) out.old out.new }
+    ensures { Wrote (Frames.opening letter ending.k (settled_told ending) ++ (decimal place ++ (10 ∷ []))) out.old out.new }
 {
     write_opening(letter, ending, out);
     out.field(place, b'\n');
@@ -61,7 +61,7 @@ fn write_place(letter: u8, place: usize, ending: Ending, out: &mut Writer)
 // The line of a word.
 fn write_word(word: &[u8], ending: Ending, out: &mut Writer)
     requires { Room (45 + length word.now) out.old }
-    ensures { Wrote (Frames.opening 87 ending.k ending.settled ++ (map Frames.glyph word.now ++ (10 ∷ []))) out.old out.new }
+    ensures { Wrote (Frames.opening 87 ending.k (settled_told ending) ++ (map Frames.glyph word.now ++ (10 ∷ []))) out.old out.new }
 {
     write_opening(b'W', ending, out);
     write_bits(word, out);
@@ -88,26 +88,26 @@ pub fn refusal(cause: u32, out: &mut [u8]) -> usize
 }
 
 // The line of an answer, to a writer.
-fn write_line(decoding: Decoding, word: &[u8], out: &mut Writer)
-    requires kind { DecodingKind decoding }
-    requires room { Room (65 + length word.now) out.old }
-    ensures { Wrote (Frames.line (decoding_told decoding) word.now) out.old out.new }
+fn write_line(decoded: Result<Decoding, Cause>, word: &[u8], out: &mut Writer)
+    requires { Room (65 + length word.now) out.old }
+    ensures { Wrote (Frames.line (decoding_told decoded) word.now) out.old out.new }
 {
-    match decoding {
-        Decoding::Word(ending) => write_word(word, ending, out),
-        Decoding::Undecided(bit, ending) => write_place(b'U', bit, ending, out),
-        Decoding::Odd(check, ending) => write_place(b'N', check, ending, out),
-        Decoding::Refused(cause) => write_refusal(cause, out),
+    match decoded {
+        Ok(run) => match run.conclusion {
+            Conclusion::Word => write_word(word, run.ending, out),
+            Conclusion::Undecided(bit) => write_place(b'U', bit, run.ending, out),
+            Conclusion::Odd(check) => write_place(b'N', check, run.ending, out),
+        },
+        Err(cause) => write_refusal(cause.number(), out),
     }
 }
 
-// The line of an answer; how many bytes it has.
-pub fn line(decoding: Decoding, word: &[u8], out: &mut [u8]) -> usize
-    requires decoding_kind { DecodingKind decoding }
-    requires word_in_bounds { 128 + length word.now ≤ length out.old }
-    ensures { Appended 0 (Frames.line (decoding_told decoding) word.now) out.old out.new result }
+// The line of an answer, which may have 128 bytes and those of the word; how many bytes it has.
+pub fn line(decoded: Result<Decoding, Cause>, word: &[u8], out: &mut [u8]) -> usize
+    requires { 128 + length word.now ≤ length out.old }
+    ensures { Appended 0 (Frames.line (decoding_told decoded) word.now) out.old out.new result }
 {
     let mut line = Writer::new(out);
-    write_line(decoding, word, &mut line);
+    write_line(decoded, word, &mut line);
     line.written
 }

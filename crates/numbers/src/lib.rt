@@ -112,6 +112,15 @@ fn fill(text: &[u8], values: &mut [u16]) -> usize
     i
 }
 
+impl Side<'_> {
+    // How many numbers its lists have.
+    pub fn size(&self) -> usize
+        ensures { result ≡ self.now.count * self.now.most }
+    {
+        usize::from(self.count) * usize::from(self.most)
+    }
+}
+
 impl<'a> Numbers<'a> {
     // The numbers of a text.
     pub fn new(text: &'a [u8]) -> Numbers<'a>

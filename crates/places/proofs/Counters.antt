@@ -1,6 +1,6 @@
 -- Lists of counters: sums, zeros, and lists that are more than others. Assumes nothing.
 use Rattle.integers.proofs.Prelude.{◌≡◌, refl, sym, ap, ◌∙◌, Bool, true, false, cond, List, [], ◌∷◌, ◌++◌, ℕ, zero, suc, ◌+◌, ◌-◌, ◌≤◌, ◌<◌, arith, eqb}
-use Rattle.integers.proofs.Prelude.{eqb-true, eqb-false, length, get_or, take, drop, set, length-set, drop_at, get_or-drop}
+use Rattle.integers.proofs.Prelude.{eqb-true, eqb-false, length, get_or, take, drop, set, length-set, get_or-drop}
 use lib.ListN.{replicate}
 use lib.Seq.{get_or-set_same, get_or-set_other}
 use Rattle.lists.specs.Entries.{sum}
@@ -37,9 +37,9 @@ zeros_take (suc n) [] h p = refl
 zeros_take (suc n) (x ∷ l) h zero = h 0
 zeros_take (suc n) (x ∷ l) h (suc p) = zeros_take n l (λ i. h (suc i)) p
 
--- a part that was lent, n counters long, comes back as k after it came back as m
-pub zeros_back : (n : ℕ) (l m k : List ℕ) → length m ≡ n → Zeros l → Zeros k → Zeros (k ++ drop n (m ++ drop n l))
-zeros_back n l m k e h z = rw (drop_at m (drop n l) n e) (both k (drop n l) z (λ p. get_or-drop n l p 0 ∙ h (n + p)))
+-- a part that was lent, n counters long, comes back as k
+pub zeros_back : (n : ℕ) (l k : List ℕ) → Zeros l → Zeros k → Zeros (k ++ drop n l)
+zeros_back n l k h z = both k (drop n l) z (λ p. get_or-drop n l p 0 ∙ h (n + p))
   where
     both : (k m : List ℕ) → Zeros k → Zeros m → Zeros (k ++ m)
     both [] m z h p = h p

@@ -1,16 +1,16 @@
-// Cause 19 of an alist text (document 02, L1): whether columns and rows name the same places, each equally often. No list is kept: a window of rows by columns
-// has a counter for each of its places; the rows count up, the columns count down, and the window agrees where no counter would fall below 0 and all end at 0.
+// Cause 19 of an alist text: whether columns and rows name the same places, each equally often. No list is kept: a window of rows by columns has a counter for
+// each of its places; the rows count up, the columns count down, and the window agrees where no counter would fall below 0 and all end at 0.
 #![tactic(auto)]
 
-ghost use Rattle.std.specs.Prelude.{◌≡◌, true, false, ℕ, ◌+◌, ◌*◌, ◌^◌, ◌≤◌, ◌<◌, min, length, get_or, take, drop};
+ghost use Rattle.std.specs.Prelude.{◌≡◌, true, ℕ, ◌+◌, ◌*◌, ◌^◌, ◌≤◌, ◌<◌, length, get_or, take, drop, IfSome, IfNone};
 ghost use Rattle.lists.specs.Entries.{sum};
 ghost use Rattle.model.specs.Limits.{most_number};
-ghost use Rattle.model.specs.Alist.{agree};
-ghost use Rattle.numbers.specs.Walked.{from, Small, Filled};
+ghost use Rattle.model.specs.Alist.{largest, agree};
+ghost use Rattle.numbers.specs.Walked.{Small};
 ghost use Rattle.places.specs.Held.{Held, lists_of};
 ghost use Rattle.places.specs.Counters.{most_counters, Agrees, Tells, in_rows, in_columns, More, Above, Zeros, Room, Inside, Block};
 
-use numbers::Side;
+use numbers::{Numbers, Side};
 
 // So many counters a window can have.
 const COUNTERS: usize = 131072;
@@ -27,44 +27,6 @@ struct Window {
     width: usize,
 }
 
-// How many numbers a block has, and where they end.
-#[derive(Drop)]
-struct Piece {
-    size: usize,
-    end: usize,
-}
-
-// Whether no counter would have fallen below 0, and how many indices are counted up and not down again.
-#[derive(Drop)]
-struct Count {
-    fine: bool,
-    left: usize,
-}
-
-// Whether all counters are 0, and where the text goes on.
-#[derive(Drop)]
-struct Walk {
-    fine: bool,
-    end: usize,
-}
-
-fn least(x: usize, y: usize) -> usize
-    ensures { result ≡ min x y }
-{
-    if x < y { x } else { y }
-}
-
-// Reads the next block of `left` numbers from `at` on: as many as the list has entries, or as are left.
-fn read_block(text: &[u8], at: usize, left: usize, values: &mut [u16]) -> Piece
-    requires { (at ≤ length text.now) × Small left (from text.now at) }
-    ensures { Filled text.now at (take result.size values.new) result.end
-        × (result.size ≡ min (length values.old) left) × (length values.new ≡ length values.old) }
-{
-    let size = least(values.len(), left);
-    let end = numbers::read(text, at, &mut values[..size]);
-    Piece { size, end }
-}
-
 // Counts up the indices of the rows in the window's columns: `values` are numbers of its rows, from the `first` on. How many there are.
 fn count_up(
     values: &[u16],
@@ -74,16 +36,17 @@ fn count_up(
     counters: &mut [u16],
 ) -> usize
     requires { Inside window (length counters.old) × Block most first (length values.now) window.height × Room window most first counters.old }
-    ensures { More (in_rows window most first values.now) counters.old counters.new
-        × (sum counters.new ≡ sum counters.old + result) × (result ≤ length values.now) }
+    ensures more { More (in_rows window most first values.now) counters.old counters.new }
+    ensures counted { sum counters.new ≡ sum counters.old + result }
+    ensures bound { result ≤ length values.now }
 {
     let left = window.left;
     let width = window.width;
     let mut row = first / most * width;
     let mut i = first % most;
     let mut open = 0usize;
-    for k in 0..values.len() {
-        let value = slices::index(values[k]);
+    for value in values {
+        let value = usize::from(*value);
         if left < value && value <= left + width {
             counters[row + (value - left - 1)] += 1;
             open += 1;
@@ -97,29 +60,27 @@ fn count_up(
     open
 }
 
-// Counts the rows of a window up: `most` numbers of each, from `at` on. How many indices are in its columns.
-fn rows_up(text: &[u8], at: usize, most: usize, window: Window, counters: &mut [u16]) -> usize
-    requires at_in_bounds { (at ≤ length text.now) × Small (window.height * most) (from text.now at) × (most ≤ most_number) }
+// Counts the rows of a window up: `most` numbers of each, the next ones. How many indices are in its columns.
+fn rows_up(rows: &Numbers, most: usize, window: Window, counters: &mut [u16]) -> usize
+    requires numbers_small { Small (window.height * most) rows.now × (most ≤ most_number) }
     requires inside { Inside window (length counters.old) × Zeros counters.old }
-    ensures { More (in_rows window most 0 (take (window.height * most) (from text.now at))) counters.old counters.new
-        × (sum counters.new ≡ result) }
+    ensures more { More (in_rows window most 0 (take (window.height * most) rows.now)) counters.old counters.new }
+    ensures counted { sum counters.new ≡ result }
 {
     let total = window.height * most;
+    let mut rest = rows.again();
     let mut values = [0u16; BLOCK];
     let mut open = 0usize;
-    let mut end = at;
-    let mut done = 0usize;
-    while done < total {
-        let block = read_block(text, end, total - done, &mut values);
-        let size = block.size;
-        end = block.end;
-        open += count_up(&values[..size], done, most, window, counters);
-        done += size;
+    for done in (0..total).step_by(BLOCK) {
+        let block = &mut values[..BLOCK.min(total - done)];
+        rest.read(block);
+        open += count_up(block, done, most, window, counters);
     }
     open
 }
 
-// Counts down the indices of the columns in the window's rows: `values` are numbers of its columns, from the `first` on.
+// Counts down the indices of the columns in the window's rows: `values` are numbers of its columns, from the `first` on. Of `count` indices that were counted
+// up, how many are not counted down again; none where a counter would fall below 0.
 fn count_down(
     values: &[u16],
     first: usize,
@@ -127,11 +88,10 @@ fn count_down(
     window: Window,
     count: usize,
     counters: &mut [u16],
-) -> Count
+) -> Option<usize>
     requires { Inside window (length counters.old) × Block most first (length values.now) window.width × (count ≡ sum counters.old) }
-    ensures more { result.fine ≡ true → More (in_columns window most first values.now) counters.new counters.old
-        × (result.left ≡ sum counters.new) }
-    ensures above { result.fine ≡ false → Above (in_columns window most first values.now) counters.old }
+    ensures more { IfSome result (λ left. More (in_columns window most first values.now) counters.new counters.old × (left ≡ sum counters.new)) }
+    ensures above { IfNone result (Above (in_columns window most first values.now) counters.old) }
 {
     let top = window.top;
     let height = window.height;
@@ -139,12 +99,12 @@ fn count_down(
     let mut column = first / most;
     let mut i = first % most;
     let mut left = count;
-    for k in 0..values.len() {
-        let value = slices::index(values[k]);
+    for value in values {
+        let value = usize::from(*value);
         if top < value && value <= top + height {
             let place = (value - top - 1) * width + column;
             if counters[place] == 0 {
-                return Count { fine: false, left };
+                return None;
             }
             counters[place] -= 1;
             left -= 1;
@@ -155,109 +115,88 @@ fn count_down(
             column += 1;
         }
     }
-    Count { fine: true, left }
+    Some(left)
 }
 
-// Counts the columns of a window down: whether all counters end at 0.
+// Counts the columns of a window down, the next numbers: whether all counters end at 0. Where they do not, the numbers are left anywhere.
 fn columns_down(
-    text: &[u8],
-    at: usize,
+    numbers: &mut Numbers,
     most: usize,
     window: Window,
     count: usize,
     counters: &mut [u16],
-) -> Walk
-    requires at_in_bounds { (at ≤ length text.now) × Small (window.width * most) (from text.now at) × (most ≤ most_number) }
+) -> bool
+    requires numbers_small { Small (window.width * most) numbers.old × (most ≤ most_number) }
     requires inside { Inside window (length counters.old) × (count ≡ sum counters.old) }
-    ensures tells { Tells result.fine ((p : ℕ) → p < length counters.old → get_or counters.old p 0
-        ≡ in_columns window most 0 (take (window.width * most) (from text.now at)) p) }
-    ensures zeros { result.fine ≡ true → Zeros counters.new
-        × (from text.now result.end ≡ drop (window.width * most) (from text.now at)) × (result.end ≤ length text.now) }
+    ensures tells { Tells result ((p : ℕ) → p < length counters.old → get_or counters.old p 0
+        ≡ in_columns window most 0 (take (window.width * most) numbers.old) p) }
+    ensures zeros { result ≡ true → Zeros counters.new }
+    ensures rest { result ≡ true → numbers.new ≡ drop (window.width * most) numbers.old }
 {
     let total = window.width * most;
     let mut values = [0u16; BLOCK];
     let mut left = count;
-    let mut end = at;
-    let mut done = 0usize;
-    while done < total {
-        let block = read_block(text, end, total - done, &mut values);
-        let size = block.size;
-        end = block.end;
-        let counted = count_down(&values[..size], done, most, window, left, counters);
-        left = counted.left;
-        if !counted.fine {
-            return Walk { fine: false, end };
+    for done in (0..total).step_by(BLOCK) {
+        let block = &mut values[..BLOCK.min(total - done)];
+        numbers.read(block);
+        match count_down(block, done, most, window, left, counters) {
+            Some(fewer) => left = fewer,
+            None => return false,
         }
-        done += size;
     }
-    Walk {
-        fine: left == 0,
-        end,
-    }
+    left == 0
 }
 
-// Whether columns and rows agree in the rows top .. top + height - 1, window by window.
+// Whether columns and rows agree in the rows top .. top + height - 1, whose numbers are next, window by window.
 fn band(
-    text: &[u8],
-    at: usize,
+    rows: &Numbers,
     most: usize,
-    columns: Side,
+    columns: &Side,
     top: usize,
     height: usize,
     wide: usize,
     counters: &mut [u16],
 ) -> bool
-    requires at_in_bounds { (at ≤ length text.now) × Small (height * most) (from text.now at) × (most ≤ most_number) × Held text.now columns }
+    requires numbers_small { Small (height * most) rows.now × (most ≤ most_number) × Held columns.now }
     requires height_bound { (top + height ≤ most_number) × (1 ≤ wide) × (height * wide ≤ most_counters) }
-    requires counters_len { (length counters.old ≡ most_counters) × Zeros counters.old }
-    ensures tells { Tells result (Agrees (record { top = top; height = height; left = 0; width = columns.count }) most (from text.now at)
-        columns.most (from text.now columns.lists)) }
+    requires counters_zero { (length counters.old ≡ most_counters) × Zeros counters.old }
+    ensures tells { Tells result (Agrees (record { top = top; height = height; left = 0; width = columns.now.count }) most rows.now
+        columns.now.most columns.now.lists) }
     ensures zeros { result ≡ true → Zeros counters.new }
 {
-    let all = columns.count;
-    let column_most = columns.most;
-    let mut columns_at = columns.lists;
-    let mut left = 0usize;
-    while left < all {
-        let width = least(wide, all - left);
+    let all = usize::from(columns.count);
+    let column_most = usize::from(columns.most);
+    let mut lists = columns.lists.again();
+    for left in (0..all).step_by(wide) {
+        let width = wide.min(all - left);
         let window = Window {
             top,
             height,
             left,
             width,
         };
-        let size = height * width;
-        let count = rows_up(text, at, most, window, &mut counters[..size]);
-        let down = columns_down(
-            text,
-            columns_at,
-            column_most,
-            window,
-            count,
-            &mut counters[..size],
-        );
-        if !down.fine {
+        let lent = &mut counters[..height * width];
+        let count = rows_up(rows, most, window, lent);
+        if !columns_down(&mut lists, column_most, window, count, lent) {
             return false;
         }
-        columns_at = down.end;
-        left += width;
     }
     true
 }
 
-// The bytes of a part of a text, in parts of so many that there are at most 2^24.
-fn bytes(at: usize, end: usize, length: usize) -> usize
-    requires { end ≤ length }
+// Bytes of a text, in parts of so many that there are at most 2^24 of `all` bytes.
+fn parts(bytes: usize, all: usize) -> usize
+    requires { bytes ≤ all }
     ensures { result ≤ 2 ^ 24 }
 {
-    let scale = length / 16777216 + 1;
-    if at < end { (end - at) / scale } else { 0 }
+    bytes / (all / 16777216 + 1)
 }
 
 // How wide a window is best: rows are walked once for each window of a band, columns once for each band; twice as wide where that is cheaper. `rows` are the
 // bytes of the rows for each column, `columns` those of the columns for each row.
 fn window_width(rows: usize, columns: usize) -> usize
-    ensures { (1 ≤ result) × (result ≤ most_counters) }
+    ensures some { 1 ≤ result }
+    ensures bound { result ≤ most_counters }
 {
     let mut width = 1usize;
     while 2 * width <= COUNTERS && columns / (COUNTERS / width) < rows / width / 2 {
@@ -267,41 +206,50 @@ fn window_width(rows: usize, columns: usize) -> usize
 }
 
 // Whether columns and rows agree in all windows.
-fn windows_agree(text: &[u8], columns: Side, rows: Side, wide: usize) -> bool
-    requires { Held text.now columns × Held text.now rows × (1 ≤ wide) × (wide ≤ most_counters) }
-    ensures { Tells result (Agrees (record { top = 0; height = rows.count; left = 0; width = columns.count })
-        rows.most (from text.now rows.lists) columns.most (from text.now columns.lists)) }
+fn windows_agree(columns: &Side, rows: &Side, wide: usize) -> bool
+    requires { Held columns.now × Held rows.now × (1 ≤ wide) × (wide ≤ most_counters) }
+    ensures { Tells result (Agrees (record { top = 0; height = rows.now.count; left = 0; width = columns.now.count })
+        rows.now.most rows.now.lists columns.now.most columns.now.lists) }
 {
     let mut counters = [0u16; COUNTERS];
     let high = COUNTERS / wide;
-    let count = rows.count;
-    let most = rows.most;
-    let mut at = rows.lists;
-    let mut top = 0usize;
-    while top < count {
-        let height = least(high, count - top);
-        if !band(text, at, most, columns, top, height, wide, &mut counters) {
+    let count = usize::from(rows.count);
+    let most = usize::from(rows.most);
+    let mut lists = rows.lists.again();
+    for top in (0..count).step_by(high) {
+        let height = high.min(count - top);
+        if !band(&lists, most, columns, top, height, wide, &mut counters) {
             return false;
         }
-        let passed = numbers::largest(text, at, height * most);
-        at = passed.end;
-        top += height;
+        lists.pass(height * most);
     }
     true
 }
 
-// Whether columns and rows name the same places, each equally often.
-pub fn agree(text: &[u8], columns: Side, rows: Side) -> bool
-    requires { Held text.now columns × Held text.now rows }
-    ensures { result ≡ agree (lists_of text.now columns) (lists_of text.now rows) }
+// The largest index that a side names, and how many bytes its lists take.
+fn measured(side: &Side) -> (u16, usize)
+    requires { Held side.now }
+    ensures { result.0 ≡ largest (take (side.now.count * side.now.most) side.now.lists) }
 {
-    let in_columns = numbers::largest(text, columns.lists, columns.count * columns.most);
-    let in_rows = numbers::largest(text, rows.lists, rows.count * rows.most);
-    if rows.count < in_columns.largest || columns.count < in_rows.largest {
+    let mut lists = side.lists.again();
+    let largest = lists.largest(side.size()).unwrap();
+    (largest, side.lists.bytes().saturating_sub(lists.bytes()))
+}
+
+// Whether columns and rows name the same places, each equally often.
+pub fn agree(columns: &Side, rows: &Side) -> bool
+    requires { Held columns.now × Held rows.now }
+    ensures { result ≡ agree (lists_of columns.now) (lists_of rows.now) }
+{
+    let (in_columns, column_bytes) = measured(columns);
+    let (in_rows, row_bytes) = measured(rows);
+    if rows.count < in_columns || columns.count < in_rows {
         return false;
     }
-    let row_bytes = bytes(rows.lists, in_rows.end, text.len());
-    let column_bytes = bytes(columns.lists, in_columns.end, text.len());
-    let width = window_width(row_bytes * columns.count, column_bytes * rows.count);
-    windows_agree(text, columns, rows, width)
+    let all = row_bytes.max(column_bytes);
+    let width = window_width(
+        parts(row_bytes, all) * usize::from(columns.count),
+        parts(column_bytes, all) * usize::from(rows.count),
+    );
+    windows_agree(columns, rows, width)
 }

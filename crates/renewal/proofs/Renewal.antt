@@ -157,18 +157,18 @@ module _ (T : ℕ) (ts : List ℕ) (c : List ℤ) where
       let e : (4 * (t + k) + r) % 4 ≡ r = omega arith in
       rw (place_four T t r k (omega (arith, a)) a.1 a.0 m l, d, e)
 
-  module _ (t : ℕ) (s s' : List ℤ) (q : List (List (List ℤ))) (m z a b : ℕ) (al : Aligned T t) (h : t < T) (left : Left T t s)
-      (q_is : q ≡ tab 4 (lane s t) ∷ renewed_four ts s c t ∷ []) where
-    four_total : (side : ℤ) → four_changes side (get_or q 0 []) (get_or q 1 []) ≡ sum_ℕ 16 (λ j. change side s (4 * t + j))
+  module _ (t : ℕ) (s s' : List ℤ) (old new' : List (List ℤ)) (m z a b : ℕ) (al : Aligned T t) (h : t < T) (left : Left T t s)
+      (old_is : old ≡ tab 4 (lane s t)) (new_is : new' ≡ renewed_four ts s c t) where
+    four_total : (side : ℤ) → four_changes side old new' ≡ sum_ℕ 16 (λ j. change side s (4 * t + j))
     four_total side =
-        let new' : ℕ → ℕ → ℤ = λ k r. renewed (row s (t + r) k) (sum_at ts c (t + k) r) in
-        ap (λ (q : List (List (List ℤ))). four_changes side (get_or q 0 []) (get_or q 1 [])) q_is
-        ∙ sum_ℕ_swap 4 4 (λ k r. change_of side (row s (t + r) k) (new' k r))
-        ∙ sum_ℕ_same 4 (λ r. sum_ℕ 4 (λ k. change_of side (row s (t + r) k) (new' k r))) _ (λ r l. sum_ℕ_same 4 (λ k. change_of side (row s (t + r) k) (new' k r)) _ (λ k g.
+        let renewed_row : ℕ → ℕ → ℤ = λ k r. renewed (row s (t + r) k) (sum_at ts c (t + k) r) in
+        ap₂ (four_changes side) old_is new_is
+        ∙ sum_ℕ_swap 4 4 (λ k r. change_of side (row s (t + r) k) (renewed_row k r))
+        ∙ sum_ℕ_same 4 (λ r. sum_ℕ 4 (λ k. change_of side (row s (t + r) k) (renewed_row k r))) _ (λ r l. sum_ℕ_same 4 (λ k. change_of side (row s (t + r) k) (renewed_row k r)) _ (λ k g.
         let e : 4 * (t + r) + k ≡ 4 * t + (4 * r + k) = omega arith in ap (change_of side (row s (t + r) k)) (new_four s t k r al g l) ∙ ap (change side s) e))
         ∙ sum_ℕ_fours 4 (λ j. change side s (4 * t + j))
 
-    pub four_renewed : s' ≡ stored s t (renewed_four ts s c t) → a ≡ m + four_changes (pos 1) (get_or q 0 []) (get_or q 1 []) → b ≡ z + four_changes (negsuc 0) (get_or q 0 []) (get_or q 1 [])
+    pub four_renewed : s' ≡ stored s t (renewed_four ts s c t) → a ≡ m + four_changes (pos 1) old new' → b ≡ z + four_changes (negsuc 0) old new'
         → Renewed T ts c t (t + 4) s s' m a z b
     four_renewed put e f =
         step 4 t s s' (λ j. cell (renewed_four ts s c t) (j % 4) (j / 4)) (omega (arith, al)) left put (cells_are (new s) t (renewed_four ts s c t) (λ k r l g.

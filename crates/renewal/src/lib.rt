@@ -2,7 +2,7 @@
 // renewed once more are taken, as they stand while a run goes.
 #![tactic(auto)]
 
-ghost use Rattle.std.specs.Prelude.{◌≡◌, true, ◌&&◌, [], ◌∷◌, ℕ, ◌+◌, ◌*◌, ◌%◌, ◌^◌, ◌≤◌, ◌<◌, leb, pos, negsuc, nat_abs, length};
+ghost use Rattle.std.specs.Prelude.{◌≡◌, true, ◌&&◌, ℕ, ◌+◌, ◌*◌, ◌%◌, ◌^◌, ◌≤◌, ◌<◌, leb, pos, negsuc, nat_abs, length};
 ghost use Rattle.lists.specs.Tabulated.{tab};
 ghost use Rattle.quotient.specs.Quotient.{unit};
 ghost use Rattle.model.specs.Limits.{most_triples, most_done};
@@ -37,13 +37,13 @@ pub fn without_blank(triples: &[u16], count: usize) -> bool
 
 // c at position p of triple t: a variable's, as may be known, or the blank's.
 fn value_at(triples: &[u16], values: &[i16], t: usize, p: usize, known: bool) -> i32
-    requires t_lt_most_triples { (t < most_triples) × (p < 3) × (3 * t + 2 < length triples.now) × Valued triples.now values.now }
-    requires fact { known ≡ true → member triples.now t p ≡ blank → ⊥ }
+    requires t_bound { (t < most_triples) × (p < 3) × (3 * t + 2 < length triples.now) × Valued triples.now values.now }
+    requires no_blank { known ≡ true → member triples.now t p ≡ blank → ⊥ }
     ensures { (result ≡ value_at values.now (member triples.now t p)) × (nat_abs result ≤ unit) }
 {
     let v = layout::variable(triples, t, p);
     if known | (v != BLANK) {
-        values[v] as i32
+        i32::from(values[v])
     } else {
         BLANK_VALUE
     }
@@ -68,7 +68,7 @@ fn thirds(triples: &[u16], values: &[i16], t: usize, known: bool) -> [i32; 4]
 
 // The rows s of triple t, whose third c is given, renewed: "with the old p and new c".
 fn renewed_with(triples: &[u16], values: &[i16], t: usize, c: i32, s: [i32; 4]) -> [i32; 4]
-    requires t_lt_most_triples { (t < most_triples) × (3 * t + 2 < length triples.now) }
+    requires t_bound { (t < most_triples) × (3 * t + 2 < length triples.now) }
     requires valued { Valued triples.now values.now }
     requires rows { Rows s }
     requires c_value { (c ≡ value_at values.now (member triples.now t 2)) × (nat_abs c ≤ unit) }
@@ -81,7 +81,7 @@ fn renewed_with(triples: &[u16], values: &[i16], t: usize, c: i32, s: [i32; 4]) 
 
 // The rows s of triple t, renewed.
 fn renewed_triple(triples: &[u16], values: &[i16], t: usize, s: [i32; 4]) -> [i32; 4]
-    requires t_lt_most_triples { (t < most_triples) × (3 * t + 2 < length triples.now) }
+    requires t_bound { (t < most_triples) × (3 * t + 2 < length triples.now) }
     requires valued { Valued triples.now values.now }
     requires rows { Rows s }
     ensures { result ≡ tab 4 (λ r. renewed (at s r) (sum_at triples.now values.now t r)) }
@@ -112,27 +112,29 @@ fn renewed_four(
     ]
 }
 
-// The four triples from t on, whose third c are given, are renewed; the answer holds their old rows and their new ones. With the tests of a blank in it the
+// The rows of four triples, before they were renewed and after.
+#[derive(Drop)]
+struct Four {
+    old: [[i32; 4]; 4],
+    new: [[i32; 4]; 4],
+}
+
+// The four triples from t on, whose third c are given, are renewed. With the tests of a blank in it the
 // compiler would not inline it, and lose the lanes.
-fn renew_four(
-    triples: &[u16],
-    values: &[i16],
-    c: [i32; 4],
-    rows: &mut [i32],
-    t: usize,
-) -> [[[i32; 4]; 4]; 2]
+fn renew_four(triples: &[u16], values: &[i16], c: [i32; 4], rows: &mut [i32], t: usize) -> Four
     requires t_bound { (t + 4 ≤ most_triples) × (3 * t + 11 < length triples.now) × (4 * t + 15 < length rows.old) }
     requires valued { Valued triples.now values.now }
-    requires by_index { (i : ℕ) → 4 * t ≤ i → SmallRow (at rows.old i) }
+    requires small { (i : ℕ) → 4 * t ≤ i → SmallRow (at rows.old i) }
     requires thirds { Thirds triples.now values.now t c }
-    ensures value { result ≡ tab 4 (lane rows.old t) ∷ renewed_four triples.now rows.old values.now t ∷ [] }
+    ensures old_value { result.old ≡ tab 4 (lane rows.old t) }
+    ensures new_value { result.new ≡ renewed_four triples.now rows.old values.now t }
     ensures rows_after { rows.new
         ≡ stored rows.old t (renewed_four triples.now rows.old values.now t) }
 {
     let old = layout::load_four(rows, t);
     let new = renewed_four(triples, values, t, c, old);
     layout::store_four(rows, t, new);
-    [old, new]
+    Four { old, new }
 }
 
 // ---- the totals
@@ -181,18 +183,15 @@ fn renew_first(triples: &[u16], values: &[i16], rows: &mut [i32], count: usize) 
     ensures { Renewed count triples.now values.now 0 (count % 4) rows.old rows.new
         0 result.multipliers 0 result.slacks }
 {
-    let first = count % 4;
-    let mut t = 0;
     let mut totals = Totals {
         multipliers: 0,
         slacks: 0,
     };
-    while t < first {
+    for t in 0..count % 4 {
         let old = layout::load(rows, t);
         let new = renewed_triple(triples, values, t, old);
         layout::store(rows, t, new);
         totals = with_triple(totals, old, new);
-        t += 1;
     }
     totals
 }
@@ -227,7 +226,7 @@ fn renew_counted(
     while (t < count) & (totals.multipliers <= tolerance) & (totals.slacks <= tolerance) {
         let c = thirds(triples, values, t, known);
         let four = renew_four(triples, values, c, rows, t);
-        totals = with_four(totals, four[0], four[1]);
+        totals = with_four(totals, four.old, four.new);
         t += 4;
     }
     Counted { done: t, totals }
@@ -248,11 +247,9 @@ fn renew_rest(
     requires known { Known known triples.now }
     ensures { rows.new ≡ renewed_from count triples.now values.now from rows.old }
 {
-    let mut t = from;
-    while t < count {
+    for t in (from..count).step_by(4) {
         let c = thirds(triples, values, t, known);
         let _four = renew_four(triples, values, c, rows, t);
-        t += 4;
     }
 }
 

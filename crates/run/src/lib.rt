@@ -1,9 +1,10 @@
-// The run (document 01, 'One iteration'), on lists of exact length: iterations until it settles or K are done. While it goes the rows stand transposed.
+// The run, on lists of exact length: iterations until it settles or K are done. While it goes the rows stand transposed.
 #![tactic(auto)]
 
 ghost use Rattle.std.specs.Prelude.{◌≡◌, false, cond, ◌-◌, ◌*◌, ◌≤◌, ◌<◌, eqb, length};
 ghost use Rattle.quotient.specs.Quotient.{quotient};
 ghost use Rattle.model.specs.Limits.{most_iterations, most_done};
+ghost use Rattle.model.specs.Causes.{◌if◌};
 ghost use Rattle.model.specs.Code.{Code};
 ghost use Rattle.model.specs.Iteration.{State};
 ghost use Rattle.model.specs.Iteration as Iteration;
@@ -16,7 +17,7 @@ ghost use Rattle.run.specs.States.{state_in};
 use model::{Ending, Settings};
 use values::Divisors;
 
-// One iteration: S and c of each variable, then the four rows of each triple. It answers how it stops the run. It may be known that no triple has the blank.
+// One iteration: S and c of each variable, then the four rows of each triple. It answers whether the run then settles. It may be known that no triple has the blank.
 fn iterate(
     settings: Settings,
     triples: &[u16],
@@ -28,13 +29,13 @@ fn iterate(
     sums: &mut [i64],
     values: &mut [i16],
     rows: &mut [i32],
-) -> u32
+) -> bool
     requires lent { Lent settings triples.now counts.now costs.now count sums.old values.old rows.old }
     requires rows_within { (RowsWithin most_done (straight count rows.old)) × (divisors.now ≡ settings.ratio) × (Known known triples.now) }
-    ensures fact { (k : Code) → let g = system_in k triples.now count values.old in
+    ensures next_state { (k : Code) → let g = system_in k triples.now count values.old in
         let a = state_in count sums.old values.old rows.old in
         let b = state_in count sums.new values.new rows.new in
-        (b ≡ Iteration.iterate quotient g settings costs.now a) × (result ≡ Run.stop g settings a b) }
+        (b ≡ Iteration.iterate quotient g settings costs.now a) × ((1 if result) ≡ Run.stop g settings a b) }
     ensures rows_len { length rows.new ≡ 4 * count }
 {
     sums::gather(triples, rows, count, sums);
@@ -45,7 +46,7 @@ fn iterate(
         known,
         rows,
         count,
-        settings.tolerance as u64,
+        u64::from(settings.tolerance),
     )
 }
 
@@ -66,24 +67,27 @@ fn iterations(
     requires lent { Lent settings triples.now counts.now costs.now count sums.old values.old rows.old }
     requires rows_within { (RowsWithin done (straight count rows.old)) × (divisors.now ≡ settings.ratio) × (Known known triples.now) }
     requires done_le_limit { (done ≤ settings.limit) × (settings.limit ≤ most_iterations) }
-    ensures last_after { (k : Code) → let g = system_in k triples.now count values.old in
+    ensures run_on { (k : Code) → let g = system_in k triples.now count values.old in
         let first = state_in count sums.old values.old rows.old in
         let last = state_in count sums.new values.new rows.new in
-        record { k = result.k; settled = result.settled; last = last } ≡ Run.run_from quotient g settings costs.now (settings.limit - done) done first }
-    ensures rows_within_2 { (RowsWithin settings.limit rows.new) × (length rows.new ≡ 4 * count) }
+        record { k = result.k; settled = 1 if result.settled; last = last } ≡ Run.run_from quotient g settings costs.now (settings.limit - done) done first }
+    ensures rows_kept { (RowsWithin settings.limit rows.new) × (length rows.new ≡ 4 * count) }
 {
-    let mut k = done;
-    let mut settled: u32 = 0;
-    while (k < settings.limit) & (settled == 0) {
-        settled = iterate(
+    for k in done..settings.limit {
+        let settled = iterate(
             settings, triples, counts, costs, count, divisors, known, sums, values, rows,
         );
-        k += 1;
+        if settled {
+            return Ending { k: k + 1, settled };
+        }
     }
-    Ending { k, settled }
+    Ending {
+        k: settings.limit,
+        settled: false,
+    }
 }
 
-// The run from the state in the lists, whose rows are transposed and are told in the order of document 01. The divisors of variables in up to 31
+// The run from the state in the lists, whose rows are transposed and are told as a caller reads them. The divisors of variables in up to 31
 // triples are prepared, and whether some triple has the blank is found.
 fn run_from(
     settings: Settings,
@@ -102,7 +106,7 @@ fn run_from(
     ensures { ((k : Code) → let g = system_in k triples.now count values.old in
         let first = state_in count sums.old values.old rows.old in
         let last : State = record { sums = sums.new; values = values.new; rows = rows.new } in
-        record { k = result.k; settled = result.settled; last = last } ≡ Run.run_from quotient g settings costs.now (settings.limit - done) done first) }
+        record { k = result.k; settled = 1 if result.settled; last = last } ≡ Run.run_from quotient g settings costs.now (settings.limit - done) done first) }
 {
     let divisors = Divisors::new(settings.ratio);
     let known = renewal::without_blank(triples, count);
@@ -113,7 +117,7 @@ fn run_from(
     ending
 }
 
-// The run of the system that the lists hold, from the start, where each s is "at first 0".
+// The run of the system that the lists hold, from the start, where each row is 0.
 pub fn run(
     settings: Settings,
     triples: &[u16],
@@ -128,7 +132,7 @@ pub fn run(
     requires le_limit { (1 ≤ settings.limit) × (settings.limit ≤ most_iterations) }
     ensures { ((k : Code) → let g = system_in k triples.now count values.old in
         let last : State = record { sums = sums.new; values = values.new; rows = rows.new } in
-        record { k = result.k; settled = result.settled; last = last } ≡ Run.run quotient g settings costs.now) }
+        record { k = result.k; settled = 1 if result.settled; last = last } ≡ Run.run quotient g settings costs.now) }
 {
     rows.fill(0);
     run_from(
@@ -154,7 +158,7 @@ pub fn go_on(
     ensures { ((k : Code) → let g = system_in k triples.now total values.old in
         let first : State = record { sums = sums.old; values = values.old; rows = rows.old } in
         let last : State = record { sums = sums.new; values = values.new; rows = rows.new } in
-        record { k = result.k; settled = result.settled; last = last } ≡ cond (eqb done 0) (Run.run quotient g settings costs.now)
+        record { k = result.k; settled = 1 if result.settled; last = last } ≡ cond (eqb done 0) (Run.run quotient g settings costs.now)
         (Run.run_from quotient g settings costs.now (settings.limit - done) done first)) }
 {
     if done == 0 {

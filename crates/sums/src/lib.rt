@@ -18,7 +18,7 @@ fn add(sums: &mut [i64], v: usize, x: i32)
     requires { (v < length sums.old) × (nat_abs (at sums.old v) ≤ 2 ^ 60) }
     ensures { (n : ℕ) (f : ℕ → ℤ) → sums.old ≡ tab n f → sums.new ≡ tab n (λ u. f u +ℤ (x when eqb v u)) }
 {
-    sums[v] += x as i64;
+    sums[v] += i64::from(x);
 }
 
 // The same where v is a variable: the blank is given nothing.
@@ -33,8 +33,8 @@ fn add_third(sums: &mut [i64], v: usize, x: i32)
 
 // Each variable of the triple at i is given its share.
 fn give(triples: &[u16], i: usize, shares: [i32; 3], sums: &mut [i64])
-    requires i_lt_most_triples { (i < most_triples) × (3 * i + 2 < length triples.now) }
-    requires by_index { (ts : List ℕ) × (N : ℕ) × (t : ℕ) × (s : List ℤ) × (Due ts N t s sums.old triples.now i shares) }
+    requires i_bound { (i < most_triples) × (3 * i + 2 < length triples.now) }
+    requires due { (ts : List ℕ) × (N : ℕ) × (t : ℕ) × (s : List ℤ) × (Due ts N t s sums.old triples.now i shares) }
     ensures { (ts : List ℕ) (N t : ℕ) (s : List ℤ) → Due ts N t s sums.old triples.now i shares
         → Summed ts N (suc t) s sums.new }
 {
@@ -45,26 +45,14 @@ fn give(triples: &[u16], i: usize, shares: [i32; 3], sums: &mut [i64])
 
 // The first triples, whose rows are not transposed.
 fn give_first(triples: &[u16], rows: &[i32], count: usize, sums: &mut [i64])
-    requires count_le_most_triples { (count ≤ most_triples) × (3 * count ≡ length triples.now) × (4 * count ≡ length rows.now) }
+    requires count_bound { (count ≤ most_triples) × (3 * count ≡ length triples.now) × (4 * count ≡ length rows.now) }
     requires members { (Members triples.now (length sums.old)) × (RowsWithin most_done rows.now) }
     ensures { Summed triples.now (length sums.old) (count % 4) (straight count rows.now) sums.new }
 {
-    slices::clear_i64(sums);
+    sums.fill(0);
     for t in 0..count % 4 {
         give(triples, t, rows::shares(layout::load(rows, t)), sums);
     }
-}
-
-// Triple t + i is copied behind those from t on.
-fn copy_one(triples: &[u16], t: usize, i: usize, members: &mut [u16])
-    requires { (i < 32) × (t + i < most_triples) × (3 * (t + i) + 2 < length triples.now) × (length members.old ≡ 96) }
-    ensures { Copied triples.now t i members.old → Copied triples.now t (suc i) members.new }
-{
-    let from = 3 * (t + i);
-    let to = 3 * i;
-    members[to] = triples[from];
-    members[to + 1] = triples[from + 1];
-    members[to + 2] = triples[from + 2];
 }
 
 // Four b of the triples from t on is copied.
@@ -72,16 +60,15 @@ fn copy_four(triples: &[u16], t: usize, b: usize, members: &mut [u16])
     requires { (b < 8) × (t + 4 * b + 4 ≤ most_triples) × (3 * (t + 4 * b + 4) ≤ length triples.now) × (length members.old ≡ 96) }
     ensures { Copied triples.now t (4 * b) members.old → Copied triples.now t (4 * (b + 1)) members.new }
 {
-    copy_one(triples, t, 4 * b, members);
-    copy_one(triples, t, 4 * b + 1, members);
-    copy_one(triples, t, 4 * b + 2, members);
-    copy_one(triples, t, 4 * b + 3, members);
+    let from = 3 * (t + 4 * b);
+    let to = 12 * b;
+    members[to..to + 12].copy_from_slice(&triples[from..from + 12]);
 }
 
 // The shares of four b of the triples from t on, behind those before them.
 fn share_four(rows: &[i32], t: usize, b: usize, shares: &mut [i32])
     requires b_bound { (t + 4 * b + 4 ≤ most_triples) × (4 * (t + 4 * b + 4) ≤ length rows.now) × (RowsWithin most_done rows.now) }
-    requires b_bound_2 { (b < 8) × (length shares.old ≡ 96) }
+    requires four_bound { (b < 8) × (length shares.old ≡ 96) }
     ensures { (T : ℕ) → InFours T t (4 * (b + 1)) → Shared (straight T rows.now) t (4 * b) shares.old
         → Shared (straight T rows.now) t (4 * (b + 1)) shares.new }
 {
@@ -118,7 +105,7 @@ fn form_group(
 // The variables of the i-th triple of a group are given their shares.
 fn give_one(members: &[u16], shares: &[i32], i: usize, sums: &mut [i64])
     requires i_bound { (i < 32) × (length members.now ≡ 96) × (length shares.now ≡ 96) }
-    requires by_index { (ts : List ℕ) × (N : ℕ) × (t : ℕ) × (s : List ℤ)
+    requires due { (ts : List ℕ) × (N : ℕ) × (t : ℕ) × (s : List ℤ)
         × (Summed ts N (t + i) s sums.old) × (Group ts s t (suc i) members.now shares.now) }
     ensures { (ts : List ℕ) (N t : ℕ) (s : List ℤ) → Summed ts N (t + i) s sums.old
         → Group ts s t (suc i) members.now shares.now → Summed ts N (t + suc i) s sums.new }
@@ -134,7 +121,7 @@ fn give_one(members: &[u16], shares: &[i32], i: usize, sums: &mut [i64])
 // Four b of a group. Given four at a time, the third place's test costs less than the loop's own.
 fn give_four(members: &[u16], shares: &[i32], b: usize, sums: &mut [i64])
     requires b_bound { (b < 8) × (length members.now ≡ 96) × (length shares.now ≡ 96) }
-    requires by_index { (ts : List ℕ) × (N : ℕ) × (t : ℕ) × (s : List ℤ)
+    requires due { (ts : List ℕ) × (N : ℕ) × (t : ℕ) × (s : List ℤ)
         × (Summed ts N (t + 4 * b) s sums.old) × (Group ts s t (4 * (b + 1)) members.now shares.now) }
     ensures { (ts : List ℕ) (N t : ℕ) (s : List ℤ) → Summed ts N (t + 4 * b) s sums.old
         → Group ts s t (4 * (b + 1)) members.now shares.now → Summed ts N (t + 4 * (b + 1)) s sums.new }
@@ -148,7 +135,7 @@ fn give_four(members: &[u16], shares: &[i32], b: usize, sums: &mut [i64])
 // The 4n triples of a group.
 fn give_group(members: &[u16], shares: &[i32], n: usize, sums: &mut [i64])
     requires n_bound { (n ≤ 8) × (length members.now ≡ 96) × (length shares.now ≡ 96) }
-    requires by_index { (ts : List ℕ) × (N : ℕ) × (t : ℕ) × (s : List ℤ)
+    requires due { (ts : List ℕ) × (N : ℕ) × (t : ℕ) × (s : List ℤ)
         × (Summed ts N t s sums.old) × (Group ts s t (4 * n) members.now shares.now) }
     ensures { (ts : List ℕ) (N t : ℕ) (s : List ℤ) → Summed ts N t s sums.old
         → Group ts s t (4 * n) members.now shares.now → Summed ts N (t + 4 * n) s sums.new }
@@ -161,18 +148,16 @@ fn give_group(members: &[u16], shares: &[i32], n: usize, sums: &mut [i64])
 // "S is the sum over its rows of z + p", for every variable. Up to 32 triples are copied, and their shares formed, before these are given: a triple that is
 // read from the lent list between stores to S may have to wait for one of them, by where the two lists lie.
 pub fn gather(triples: &[u16], rows: &[i32], count: usize, sums: &mut [i64])
-    requires count_le_most_triples { (count ≤ most_triples) × (3 * count ≡ length triples.now) × (4 * count ≡ length rows.now) }
+    requires count_bound { (count ≤ most_triples) × (3 * count ≡ length triples.now) × (4 * count ≡ length rows.now) }
     requires members { (Members triples.now (length sums.old)) × (RowsWithin most_done rows.now) }
     ensures { sums.new ≡ tab (length sums.old) (sum_of triples.now count (straight count rows.now)) }
 {
     give_first(triples, rows, count, sums);
     let mut members = [0u16; 96];
     let mut shares = [0i32; 96];
-    let mut t = count % 4;
-    while t < count {
-        let n = if count - t < 32 { count - t } else { 32 };
-        form_group(triples, rows, t, n / 4, &mut members, &mut shares);
-        give_group(&members, &shares, n / 4, sums);
-        t += n;
+    for t in (count % 4..count).step_by(32) {
+        let fours = (count - t).min(32) / 4;
+        form_group(triples, rows, t, fours, &mut members, &mut shares);
+        give_group(&members, &shares, fours, sums);
     }
 }

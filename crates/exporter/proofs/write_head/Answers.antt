@@ -1,5 +1,5 @@
 -- `exporter::write_head` meets its contract: the pairs and the lines of the degrees, one after another. Assumes nothing.
-use Rattle.integers.proofs.Prelude.{◌≡◌, List, [], ◌∷◌, ◌++◌, append_assoc, ℕ, arith, length}
+use Rattle.integers.proofs.Prelude.{◌≡◌, List, [], ◌∷◌, ◌++◌, append_assoc, ℕ, length}
 use Rattle.model.specs.Alist.{largest, line_of}
 use Rattle.text.specs.Wrote.{Wrote}
 use Rattle.text.proofs.Wrote.{then, room_next}

@@ -1,8 +1,8 @@
 -- `exporter::write_lists` meets its contract: the lines of the lists so far. Assumes nothing.
-use Rattle.integers.proofs.Prelude.{◌≡◌, refl, ap, ℕ, arith, length, take_all}
+use Rattle.integers.proofs.Prelude.{refl, ap, ℕ, arith, length, take_all}
 use Rattle.model.specs.Alist.{text_of}
 use Rattle.text.proofs.Wrote.{nothing, then, room_after}
-use Rattle.exporter.specs.Lines.{filled_text, lists_text}
+use Rattle.exporter.specs.Lines.{filled_text}
 use Rattle.exporter.proofs.Lists.{Listed, listed}
 use Rattle.exporter.proofs.write_lists.Goals as goal
 use Rattle.exporter.proofs.write_lists.Goals.{After-from}

@@ -1,5 +1,4 @@
 -- `exporter::write_zeros` meets its contract: the zeros so far.
-use Rattle.integers.proofs.Prelude.{◌≡◌}
 use lib.ListN.{replicate}
 use Rattle.text.specs.Appended.{Appended}
 use Rattle.exporter.specs.Lines.{spaced}

@@ -12,11 +12,11 @@ field-requires c = room_after _ c.write_letter.ensures (omega (arith, decimal_fe
 pub field-requires-2 : goal.field-requires-2
 field-requires-2 c =
     let few = decimal_few c.args.ending.k (omega arith) in
-    room_after _ (then c.write_letter.ensures c.field.ensures.text) (omega (arith, few, decimal_few c.args.ending.settled (omega arith), c.requires))
+    room_after _ (then c.write_letter.ensures c.field.ensures.text) (omega (arith, few, decimal_few c.from-settled.result (omega arith), c.requires))
 
 pub returns-clause-text : goal.returns-clause-text
 unfolding opening
 returns-clause-text c =
     let e = c.args.ending in
-    rw (← append_assoc (decimal e.k) (32 ∷ []) (decimal e.settled ++ (32 ∷ [])))
+    rw (← c.from-settled.ensures, ← append_assoc (decimal e.k) (32 ∷ []) (decimal c.from-settled.result ++ (32 ∷ [])))
     (then (then c.write_letter.ensures c.field.ensures.text) c.field-2.ensures.text)

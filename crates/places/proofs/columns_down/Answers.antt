@@ -1,90 +1,66 @@
--- `places::columns_down` meets its contract: the first numbers of the columns are counted down, block by block. Assumes nothing.
-use Rattle.integers.proofs.Prelude.{◌≡◌, refl, sym, ◌∙◌, ℕ, ◌*◌, ◌≤◌, arith, not-true, not-false, take}
-use native.Mathlib.Nat.{mul-le-mul}
-use Rattle.model.specs.Limits.{most_number}
-use Rattle.numbers.specs.Walked.{from}
+-- The first numbers of the columns are counted down, block by block.
+use Rattle.integers.proofs.Prelude.{◌≡◌, refl, ◌∙◌, ℕ, ◌+◌, ◌*◌, arith, min, take, drop}
+use lib.Seq.{length_front}
+use Rattle.lists.specs.Entries.{sum}
 use Rattle.places.specs.Counters.{in_columns, More}
 use Rattle.places.proofs.Counters.{more_none, above_tells, end_tells, end_zeros}
-use Rattle.places.proofs.Blocks.{reached_none, reached_small, Next, next_block, down_block, above_block}
+use Rattle.places.proofs.Blocks.{block_small, Next, next_block, down_block, above_block}
 use Rattle.places.proofs.columns_down.Goals as goal
-use Rattle.places.proofs.columns_down.Goals.{Start, At-loop-done, After-read_block-block, After-count_down-counted}
-
-few : (s : Start) → s.args.window.width * s.args.most ≤ most_number * most_number
-few s = let wide : s.args.window.width ≤ most_number = omega (arith, s.requires.inside.0.columns) in mul-le-mul wide s.requires.at_in_bounds.2
+use Rattle.places.proofs.columns_down.Goals.{After-read, Left-loop-done, else-loop-done-test, then-loop-done-test+in-Some+else-total-done-gt64}
 
 pub loop-done-init : goal.loop-done-init
-loop-done-init c = (more_none _ _ (λ p h. refl), c.requires.inside.1, reached_none _ _ _ _ c.requires.at_in_bounds.0 refl)
+loop-done-init c =
+    let none : min 0 (c.args.window.width * c.args.most) ≡ 0 = omega arith in
+    (rw none (more_none _ _ (λ p h. refl)), c.requires.inside.1, rw none, refl)
 
-pub read_block-block-requires : goal.read_block-block-requires
-read_block-block-requires c = reached_small c.requires.at_in_bounds.1 c.loop-done.invariant.2
+pub read-requires : goal.read-requires
+read-requires c = block_small c.loop-done.values c.loop-done.invariant.3 c.min.ensures c.requires.numbers_small.0 c.loop-done.invariant.2 c.loop-done-test.true
 
--- ---- a block is read
-module _ (y : After-read_block-block) where
-  abbrev turn : At-loop-done
-  turn = (goal.at.After-read_block-block y).At-loop-done
+-- the block that was read
+next : (y : After-read) → Next y.args.numbers.now y.args.window.width y.args.most y.loop-done.done y.read.new.values y.read.new.self
+next y =
+    next_block y.loop-done.values y.requires.numbers_small.0 y.requires.numbers_small.1 y.loop-done-test.true y.loop-done.invariant.2 y.loop-done.invariant.3 y.min.ensures
+    y.read.ensures.list y.read.ensures.rest
 
-  abbrev start : Start
-  start = (goal.at.At-loop-done turn).Start
-
-  next : Next start.args.text.now (from start.args.text.now start.args.at) start.args.window.width start.args.most turn.loop-done.done
-      y.read_block-block.new.values y.read_block-block.result.size y.read_block-block.result.end
-  next =
-      next_block start.requires.at_in_bounds.1 start.requires.at_in_bounds.2 y.loop-done-test.true turn.loop-done.invariant.2 y.read_block-block.ensures.0 y.read_block-block.ensures.1 y.read_block-block.ensures.2
-
-pub count_down-counted-requires : goal.count_down-counted-requires
-count_down-counted-requires c =
-    (rw (← (turn (goal.at.count_down-counted-requires c).After-read_block-block).loop-done.invariant.0.long) (start (goal.at.count_down-counted-requires c).After-read_block-block).requires.inside.0, (next (goal.at.count_down-counted-requires c).After-read_block-block).block, (turn (goal.at.count_down-counted-requires c).After-read_block-block).loop-done.invariant.1)
-
--- ---- and counted
-module _ (n : After-count_down-counted) where
-  abbrev read : After-read_block-block
-  read = (goal.at.After-count_down-counted n).After-read_block-block
-
-pub shape_of-counters-then-not-counted : goal.shape_of-counters-then-not-counted
-shape_of-counters-then-not-counted c =
-    c.count_down-counted.auto.counters ∙ sym (turn (read (goal.at.shape_of-counters-then-not-counted c).After-count_down-counted)).loop-done.invariant.0.long
-
-pub returns-then-not-counted : goal.returns-then-not-counted
-returns-then-not-counted c =
-    let y = read (goal.at.returns-then-not-counted c).After-count_down-counted in
-    let s = start y in record {
-      tells = above_tells _ s.args.counters.now
-          (above_block (next y) s.args.window (turn y).loop-done.invariant.0 (c.count_down-counted.ensures.above (not-true _ c.if-not-counted.true)));
-      zeros = λ e. let z : ◌≡◌ {A = ℕ} 0 1 = cc in absurd (omega arith);
-    }
+pub returns-in-None-clause-tells : goal.returns-in-None-clause-tells
+returns-in-None-clause-tells c =
+    above_tells _ c.args.counters.now
+    (above_block (next (goal.at.returns-in-None-clause-tells c).After-read) c.args.window c.loop-done.invariant.0 c.in-None.ensures.above)
 
 pub loop-done-preserved : goal.loop-done-preserved
 loop-done-preserved c =
-    let y = read (goal.at.loop-done-preserved c).After-count_down-counted in
-    let k = c.count_down-counted.ensures.more (not-false _ c.if-not-counted.false) in
-    (down_block (next y) (start y).args.window (turn y).loop-done.invariant.0 k.0, k.1, (next y).reached)
+    let n = next (goal.at.loop-done-preserved c).After-read in
+    let k = c.in-Some.ensures.more in (
+      down_block n c.args.window c.loop-done.invariant.0 k.0,
+      k.1,
+      n.reached,
+      length_front c.loop-done.values c.read.new.values c.min.result c.read.auto.values ∙ c.loop-done.invariant.3,
+    )
 
-pub returns : goal.returns
-returns c =
-    let l = c.loop-done in
-    let total = c.args.window.width * c.args.most in
-    let e : l.done ≡ total = omega (arith, l.invariant.2.most, c.loop-done-test.false) in
-    let m : More (in_columns c.args.window c.args.most 0 (take total (from c.args.text.now c.args.at))) l.counters c.args.counters.now
-    = rw (← e) l.invariant.0 in
-    record { tells = end_tells _ _ l.counters l.left m l.invariant.1; zeros = λ t. (end_zeros _ _ l.counters l.left m l.invariant.1 t, rw (← e) l.invariant.2.rest, l.invariant.2.within) }
+-- ---- all of them are counted
+module _ (c : Left-loop-done) where
+  abbrev total : ℕ
+  total = c.args.window.width * c.args.most
 
-pub overflow_mul-total : goal.overflow_mul-total
-overflow_mul-total c = omega (arith, few (goal.at.overflow_mul-total c).Start)
+  ended : More (in_columns c.args.window c.args.most 0 (take total c.args.numbers.now)) c.loop-done-test.counters c.args.counters.now
+      × (c.loop-done-test.left ≡ sum c.loop-done-test.counters) × (c.loop-done-test.numbers ≡ drop total c.args.numbers.now)
+  ended =
+      let l = c.loop-done in
+      elim c.loop-done-test.branch [
+        | else-loop-done-test w ↦ let e : min l.done total ≡ total = omega arith in
+            rw (w.numbers-is, w.counters-is, w.left-is) (rw e at l.invariant.0, l.invariant.1, rw e at l.invariant.2)
+        | then-loop-done-test+in-Some+else-total-done-gt64 w ↦ let n = next_block l.values c.requires.numbers_small.0 c.requires.numbers_small.1 w.loop-done-test.true
+            l.invariant.2 l.invariant.3 w.min.ensures w.read.ensures.list w.read.ensures.rest in
+            let k = w.in-Some.ensures.more in
+            let e : min (l.done + 64) total ≡ total = omega arith in
+            rw (w.numbers-is, w.counters-is, w.left-is) (rw e at (down_block n c.args.window l.invariant.0 k.0), k.1, rw e at n.reached)
+      ]
 
-pub slice_bounds-read_block-end : goal.slice_bounds-read_block-end
-slice_bounds-read_block-end c = sym c.loop-done.invariant.2.entries
+pub returns-clause-tells : goal.returns-clause-tells
+returns-clause-tells c = end_tells _ _ c.loop-done-test.counters c.loop-done-test.left (ended c).0 (ended c).1
 
-pub slice_bounds-values-end : goal.slice_bounds-values-end
-slice_bounds-values-end c = let n = next (goal.at.slice_bounds-values-end c).After-read_block-block in omega (arith, n.room, n.reached.entries)
+pub returns-clause-zeros : goal.returns-clause-zeros
+returns-clause-zeros c = end_zeros _ _ c.loop-done-test.counters c.loop-done-test.left (ended c).0 (ended c).1
 
-pub slice_bounds-count_down-end : goal.slice_bounds-count_down-end
-slice_bounds-count_down-end c = sym (next (goal.at.slice_bounds-count_down-end c).After-read_block-block).long
-
-pub overflow_add-done : goal.overflow_add-done
-overflow_add-done c = let y = read (goal.at.overflow_add-done c).After-count_down-counted in omega (arith, (next y).reached.most, few (start y))
-
-pub loop-done-smaller : goal.loop-done-smaller
-loop-done-smaller c = let y = read (goal.at.loop-done-smaller c).After-count_down-counted in omega (arith, (next y).reached.most, (next y).some)
-
-pub shape_of-counters : goal.shape_of-counters
-shape_of-counters c = sym c.loop-done.invariant.0.long
+pub returns-clause-rest : goal.returns-clause-rest
+returns-clause-rest c = λ t. (ended c).2

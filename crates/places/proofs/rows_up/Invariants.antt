@@ -1,14 +1,14 @@
--- `places::rows_up` meets its contract: the first numbers of the rows are counted, block by block. Assumes nothing.
-use Rattle.integers.proofs.Prelude.{◌≡◌, ◌-◌, ◌≤◌, take}
+-- The first numbers of the rows are counted, block by block.
+use Rattle.integers.proofs.Prelude.{◌≡◌, ◌-◌, ◌≤◌, min, length, take}
 use Rattle.lists.specs.Entries.{sum}
-use Rattle.numbers.specs.Walked.{from}
 use Rattle.places.specs.Counters.{in_rows, More}
 use Rattle.places.proofs.Blocks.{Reached}
 use Rattle.places.proofs.rows_up.Given as goal
 
 abbrev pub invariant-loop-done : goal.invariant-loop-done
-invariant-loop-done l = More (in_rows l.window l.most 0 (take l.done (from l.text l.at))) l.initial.counters l.counters × (sum l.counters ≡ l.open) × (l.open ≤ l.done)
-    × Reached l.text (from l.text l.at) l.total l.done l.values l.end
+invariant-loop-done l =
+    More (in_rows l.window l.most 0 (take (min l.done l.total) l.rows)) l.initial.counters l.counters
+    × (sum l.counters ≡ l.«open») × (l.«open» ≤ min l.done l.total) × Reached l.rows l.total l.done l.rest × (length l.values ≡ 64)
 
 abbrev pub decreases-loop-done : goal.decreases-loop-done
 decreases-loop-done l = l.total - l.done

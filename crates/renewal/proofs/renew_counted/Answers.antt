@@ -33,7 +33,7 @@ with_four-totals-requires c =
     let a = s.args in
     let small = totals_small a.count a.triples.now a.values.now s.requires.sized.0 s.requires.valued.1 (at_first s.requires.sized.2 s.requires.rows_within) (whole l) in record {
       multipliers_bound = omega (arith, small);
-      fours = rw c.renew_four-four.ensures.value (old_fours l.loop-t.rows l.loop-t.t (whole l).left.small, new_fours a.triples.now a.values.now s.requires.valued.1 l.loop-t.rows l.loop-t.t (whole l).left.small);
+      fours = rw (c.renew_four-four.ensures.old_value, c.renew_four-four.ensures.new_value) (old_fours l.loop-t.rows l.loop-t.t (whole l).left.small, new_fours a.triples.now a.values.now s.requires.valued.1 l.loop-t.rows l.loop-t.t (whole l).left.small);
     }
 
 pub loop-t-preserved : goal.loop-t-preserved
@@ -42,8 +42,8 @@ loop-t-preserved c =
     let a = (start l).args in
     let h = room (goal.at.loop-t-preserved c).In-loop-t in (
       (omega (arith, h), omega (arith, l.loop-t.invariant.0, h)),
-      both a.count a.triples.now a.values.now l.loop-t.invariant.1 (four_renewed a.count a.triples.now a.values.now l.loop-t.t l.loop-t.rows c.renew_four-four.new.rows c.renew_four-four.result
-          _ _ _ _ l.loop-t.invariant.0 (omega (arith, h)) (whole l).left c.renew_four-four.ensures.value c.renew_four-four.ensures.rows_after c.with_four-totals.ensures.0 c.with_four-totals.ensures.1),
+      both a.count a.triples.now a.values.now l.loop-t.invariant.1 (four_renewed a.count a.triples.now a.values.now l.loop-t.t l.loop-t.rows c.renew_four-four.new.rows c.renew_four-four.result.old c.renew_four-four.result.new
+          _ _ _ _ l.loop-t.invariant.0 (omega (arith, h)) (whole l).left c.renew_four-four.ensures.old_value c.renew_four-four.ensures.new_value c.renew_four-four.ensures.rows_after c.with_four-totals.ensures.0 c.with_four-totals.ensures.1),
     )
 
 pub returns : goal.returns
@@ -62,7 +62,7 @@ thirds-c-requires c = let s = start (at_test c) in record { t_bound = (omega (ar
 
 pub renew_four-four-requires : goal.renew_four-four-requires
 renew_four-four-requires c = let l = at_test (goal.at.renew_four-four-requires c).In-loop-t in
-    record { t_bound = search (rules, room (goal.at.renew_four-four-requires c).In-loop-t, (whole l).left.long); valued = (start l).requires.valued; by_index = (whole l).left.small; thirds = c.thirds-c.ensures }
+    record { t_bound = search (rules, room (goal.at.renew_four-four-requires c).In-loop-t, (whole l).left.long); valued = (start l).requires.valued; small = (whole l).left.small; thirds = c.thirds-c.ensures }
 
 pub overflow_add-t : goal.overflow_add-t
 overflow_add-t c = omega (arith, (start (at_test (goal.at.overflow_add-t c).In-loop-t)).requires.sized, room (goal.at.overflow_add-t c).In-loop-t)

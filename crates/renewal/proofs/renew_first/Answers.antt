@@ -65,13 +65,10 @@ pub load-old-requires : goal.load-old-requires
 load-old-requires c = search (rules, (left (goal.at.load-old-requires c).At-loop-t).long)
 
 pub renewed_triple-new-requires : goal.renewed_triple-new-requires
-renewed_triple-new-requires c = record { t_lt_most_triples = search rules; valued = (start (goal.at.renewed_triple-new-requires c).At-loop-t).requires.valued; rows = old_small c }
+renewed_triple-new-requires c = record { t_bound = search rules; valued = (start (goal.at.renewed_triple-new-requires c).At-loop-t).requires.valued; rows = old_small c }
 
 pub store-requires : goal.store-requires
-store-requires c = record { t_le_most_triples = search (rules, (left (at_loop (goal.at.store-requires c).After-renewed_triple-new)).long); by_index = λ r. omega (arith, new_small (goal.at.store-requires c).After-renewed_triple-new r) }
-
-pub overflow_add-t : goal.overflow_add-t
-overflow_add-t c = omega (arith, (made (goal.at.overflow_add-t c).After-rows-1).loop-t-test.true)
+store-requires c = record { t_bound = search (rules, (left (at_loop (goal.at.store-requires c).After-renewed_triple-new)).long); rows_bound = λ r. omega (arith, new_small (goal.at.store-requires c).After-renewed_triple-new r) }
 
 pub loop-t-smaller : goal.loop-t-smaller
 loop-t-smaller c = omega (arith, (made (goal.at.loop-t-smaller c).After-rows-1).loop-t-test.true)

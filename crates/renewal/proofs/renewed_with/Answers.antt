@@ -16,7 +16,7 @@ returns c =
     c.renewed_rows.ensures ∙ ap (λ (l : List ℤ). tab 4 (λ r. renewed (at a.s r) (at l r))) (sums_are (goal.at.returns c).After-row_sums)
 
 pub value_at-a-requires : goal.value_at-a-requires
-value_at-a-requires c = record { t_lt_most_triples = (c.requires.t_lt_most_triples.0, omega arith, c.requires.t_lt_most_triples.1, c.requires.valued); fact = λ _ e. omega (arith, c.requires.valued.0.first c.args.t c.requires.t_lt_most_triples.1, c.requires.valued.0.few) }
+value_at-a-requires c = record { t_bound = (c.requires.t_bound.0, omega arith, c.requires.t_bound.1, c.requires.valued); no_blank = λ _ e. omega (arith, c.requires.valued.0.first c.args.t c.requires.t_bound.1, c.requires.valued.0.few) }
 
 pub value_at-b-requires : goal.value_at-b-requires
-value_at-b-requires c = record { t_lt_most_triples = (c.requires.t_lt_most_triples.0, omega arith, c.requires.t_lt_most_triples.1, c.requires.valued); fact = λ _ e. omega (arith, c.requires.valued.0.second c.args.t c.requires.t_lt_most_triples.1, c.requires.valued.0.few) }
+value_at-b-requires c = record { t_bound = (c.requires.t_bound.0, omega arith, c.requires.t_bound.1, c.requires.valued); no_blank = λ _ e. omega (arith, c.requires.valued.0.second c.args.t c.requires.t_bound.1, c.requires.valued.0.few) }

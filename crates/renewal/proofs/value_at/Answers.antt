@@ -9,7 +9,7 @@ use Rattle.model.proofs.Causes.{or_false}
 use Rattle.model.proofs.TripleRule.{member_is}
 use Rattle.model.proofs.Rows.{value_variable}
 use Rattle.renewal.proofs.value_at.Goals as goal
-use Rattle.renewal.proofs.value_at.Goals.{Start, After-variable-v, Then-known-v, After-result-1}
+use Rattle.renewal.proofs.value_at.Goals.{Start, After-variable-v, After-from, Then-known-v}
 
 abbrev start : After-variable-v → Start
 start c = (goal.at.After-variable-v c).Start
@@ -20,14 +20,14 @@ there c = member (start c).args.triples.now (start c).args.t (start c).args.p
 
 -- it is no blank, and so a variable
 other : (c : Then-known-v) → there (goal.at.Then-known-v c).After-variable-v ≡ blank → ⊥
-other c = by (start (goal.at.Then-known-v c).After-variable-v).args.known (start (goal.at.Then-known-v c).After-variable-v).requires.fact c.if-known-v.true
+other c = by (start (goal.at.Then-known-v c).After-variable-v).args.known (start (goal.at.Then-known-v c).After-variable-v).requires.no_blank c.if-known-v.true
   where
     by : (k : Bool) → (k ≡ true → there (goal.at.Then-known-v c).After-variable-v ≡ blank → ⊥) → (k || not (eqb c.variable-v.result blank)) ≡ true → there (goal.at.Then-known-v c).After-variable-v ≡ blank → ⊥
     by true f e = f refl
     by false f e = λ b. eqb-false c.variable-v.result blank (not-true _ e) (c.variable-v.ensures ∙ b)
 
 below : (c : Then-known-v) → c.variable-v.result < length (start (goal.at.Then-known-v c).After-variable-v).args.values.now
-below c = by (member_is s.args.triples.now (length s.args.values.now) s.requires.t_lt_most_triples.3.0 s.args.t s.args.p s.requires.t_lt_most_triples.2 s.requires.t_lt_most_triples.1)
+below c = by (member_is s.args.triples.now (length s.args.values.now) s.requires.t_bound.3.0 s.args.t s.args.p s.requires.t_bound.2 s.requires.t_bound.1)
   where
     s : Start
     s = start (goal.at.Then-known-v c).After-variable-v
@@ -36,15 +36,15 @@ below c = by (member_is s.args.triples.now (length s.args.values.now) s.requires
     by (inl h) = omega (arith, c.variable-v.ensures)
     by (inr e) = absurd (other c e)
 
-value : (c : After-result-1) → let z = at (start (goal.at.After-result-1 c).After-variable-v).args.values.now c.variable-v.result in Worth (to_z w16 (of_z w16 z)) z unit
-value c = param w16 _ unit tt ((start (goal.at.After-result-1 c).After-variable-v).requires.t_lt_most_triples.3.1 c.variable-v.result)
+value : (c : Then-known-v) → let z = at (start (goal.at.Then-known-v c).After-variable-v).args.values.now c.variable-v.result in Worth (to_z w16 (of_z w16 z)) z unit
+value c = param w16 _ unit tt ((start (goal.at.Then-known-v c).After-variable-v).requires.t_bound.3.1 c.variable-v.result)
 
 pub returns-then-known-v : goal.returns-then-known-v
 returns-then-known-v c =
-    let s = start (goal.at.returns-then-known-v c).After-variable-v in
-    let v = stored (value c) w32 tt in
-    let variable : c.variable-v.result < blank = omega (arith, below (goal.at.returns-then-known-v c).Then-known-v, s.requires.t_lt_most_triples.3.0.few) in
-    (v.is ∙ sym (value_variable s.args.values.now c.variable-v.result variable) ∙ ap (value_at s.args.values.now) c.variable-v.ensures, within_raw v)
+    let t = (goal.at.After-from (goal.at.returns-then-known-v c).After-from).Then-known-v in
+    let v = stored (value t) w32 tt in
+    let variable : c.variable-v.result < blank = omega (arith, below t, c.requires.t_bound.3.0.few) in
+    rw c.from.ensures (v.is ∙ sym (value_variable c.args.values.now c.variable-v.result variable) ∙ ap (value_at c.args.values.now) c.variable-v.ensures, within_raw v)
 
 pub returns-else-known-v : goal.returns-else-known-v
 returns-else-known-v c =
@@ -58,6 +58,3 @@ offset_bounds-values-v c = search (rules, below c)
 
 pub bounds-values-v : goal.bounds-values-v
 bounds-values-v c = below c
-
-pub overflow_cast-result : goal.overflow_cast-result
-overflow_cast-result c = fits (value c) w32 tt

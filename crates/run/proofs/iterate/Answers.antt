@@ -68,10 +68,8 @@ write_values-requires c =
           few = λ v h. rw (count_is s v h) ((is_ready s).few v h);
         },
         (is_ready s).weight,
-        (is_ready s).ratio,
       );
       costs_in_bounds = (is_ready s).bits;
-      tables = s.requires.rows_within.1;
     }
 
 -- ---- c
@@ -85,16 +83,17 @@ module _ (c : After-write_values) where
 pub renew_rows-requires : goal.renew_rows-requires
 renew_rows-requires c =
     let s = start (goal.at.renew_rows-requires c).After-write_values in
-    let small = value_small (given (goal.at.renew_rows-requires c).After-write_values).gather.new.sums s.args.counts.now (costs s) s.args.settings.weight s.args.settings.ratio (n s) in
+    let small = value_small (given (goal.at.renew_rows-requires c).After-write_values).gather.new.sums s.args.counts.now (costs s) s.args.settings.weight s.args.divisors.now (n s) in
     record { sized = ((is_ready s).triples, s.requires.lent.members, s.requires.lent.rows); valued = (rw c.write_values.auto.values s.requires.lent.below, λ v. rw c.write_values.ensures (small v)); rows_within = within s; known = s.requires.rows_within.2 }
 
 -- ---- s
 pub returns : goal.returns
 returns c =
     let s = start (goal.at.returns c).After-write_values in
+    let values = rw s.requires.rows_within.1 at c.write_values.ensures in
     record {
-      fact = λ k. (
-        next_state (n s) (ts s) (T s) s.args.settings (costs s) k (a s) s.args.counts.now _ _ _ s.requires.lent.counted (sums_are (given (goal.at.returns c).After-write_values)) c.write_values.ensures c.renew_rows.ensures.rows_after.0,
+      next_state = λ k. (
+        next_state (n s) (ts s) (T s) s.args.settings (costs s) k (a s) s.args.counts.now _ _ _ s.requires.lent.counted (sums_are (given (goal.at.returns c).After-write_values)) values c.renew_rows.ensures.rows_after.0,
         rw c.renew_rows.ensures.rows_after.0 c.renew_rows.ensures.value,
       );
       rows_len = c.renew_rows.ensures.rows_after.1;

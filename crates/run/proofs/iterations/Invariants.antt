@@ -1,13 +1,10 @@
 -- `run::iterations` meets its contract: what has been done and what remains is the whole. Assumes nothing.
-use Rattle.integers.proofs.Prelude.{◌≡◌, ◌-◌, ◌*◌}
-use Rattle.integers.proofs.Prelude.{length}
+use Rattle.integers.proofs.Prelude.{◌≡◌, ◌*◌, ◌≤◌, length}
 use Rattle.run.specs.States.{state_in}
 use Rattle.run.proofs.Remains.{Remains}
 use Rattle.run.proofs.iterations.Given as goal
 
 abbrev pub invariant-loop-k : goal.invariant-loop-k
-invariant-loop-k l = Remains (length l.initial.values) l.triples l.count l.settings l.costs l.done (state_in l.count l.initial.sums l.initial.values l.initial.rows) (state_in l.count l.sums l.values l.rows) l.k l.settled
+invariant-loop-k l = (l.done ≤ l.k)
+    × Remains (length l.initial.values) l.triples l.count l.settings l.costs l.done (state_in l.count l.initial.sums l.initial.values l.initial.rows) (state_in l.count l.sums l.values l.rows) l.k 0
     × (length l.rows ≡ 4 * l.count)
-
-abbrev pub decreases-loop-k : goal.decreases-loop-k
-decreases-loop-k l = l.settings.limit - l.k

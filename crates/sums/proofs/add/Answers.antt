@@ -5,22 +5,19 @@ use Rattle.lists.proofs.Tabulated.{length_tab, get_or_tab}
 use Rattle.model.specs.Iteration.{at}
 use Rattle.sums.proofs.Sums.{increased}
 use Rattle.sums.proofs.add.Goals as goal
-use Rattle.sums.proofs.add.Goals.{Start}
+use Rattle.sums.proofs.add.Goals.{Start, After-from}
 
 abbrev old : Start → ℤ
 old s = at s.args.sums.now s.args.v
 
-sum : (s : Start) → Worth (to_z w64 (of_z w64 (old s)) +ℤ to_z w64 (of_z w64 (to_z w32 (of_z w32 s.args.x)))) (old s +ℤ s.args.x) (2 ^ 60 + 2 ^ 31)
-sum s = plus (param w64 (old s) (2 ^ 60) tt s.requires.1) (stored (read w32 s.ranges.x) w64 tt)
+sum : (c : After-from) → Worth (to_z w64 (of_z w64 (old (goal.at.After-from c).Start)) +ℤ to_z w64 (of_z w64 c.from.result)) (old (goal.at.After-from c).Start +ℤ c.args.x) (2 ^ 60 + 2 ^ 31)
+sum c = rw c.from.ensures (plus (param w64 (old (goal.at.After-from c).Start) (2 ^ 60) tt c.requires.1) (stored (read w32 c.ranges.x) w64 tt))
 
 pub returns : goal.returns
 returns c n f e =
     let v = c.args.v in
     let h : v < n = omega (arith, c.requires.0, ap length e ∙ length_tab n f) in
-    ap (set c.args.sums.now v) (stored (sum (goal.at.returns c).Start) w64 tt).is ∙ rw (e, get_or_tab n f v (pos 0) h) (increased n f v c.args.x h)
-
-pub overflow_cast-sums : goal.overflow_cast-sums
-overflow_cast-sums c = fits (read w32 c.ranges.x) w64 tt
+    ap (set c.args.sums.now v) (stored (sum (goal.at.returns c).After-from) w64 tt).is ∙ rw (e, get_or_tab n f v (pos 0) h) (increased n f v c.args.x h)
 
 pub overflow_add-sums : goal.overflow_add-sums
-overflow_add-sums c = fits (sum (goal.at.overflow_add-sums c).Start) w64 tt
+overflow_add-sums c = fits (sum (goal.at.overflow_add-sums c).After-from) w64 tt

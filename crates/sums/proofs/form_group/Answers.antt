@@ -14,7 +14,7 @@ copy_four-requires c =
 pub share_four-requires : goal.share_four-requires
 share_four-requires c =
     let s = start (goal.at.share_four-requires c).At-loop-b in
-    record { b_bound = (omega (arith, s.requires.n_bound), omega (arith, s.requires.n_bound), s.requires.rows_within.0); b_bound_2 = (omega (arith, s.requires.n_bound), c.loop-b.invariant.2) }
+    record { b_bound = (omega (arith, s.requires.n_bound), omega (arith, s.requires.n_bound), s.requires.rows_within.0); four_bound = (omega (arith, s.requires.n_bound), c.loop-b.invariant.2) }
 
 pub loop-b-preserved : goal.loop-b-preserved
 loop-b-preserved c = (

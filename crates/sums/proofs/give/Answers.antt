@@ -17,7 +17,7 @@ record Known (a : Start) : Type 0 where
   due : Due ts N t s a.args.sums.now a.args.triples.now a.args.i a.args.shares
 
 known : (a : Start) → Known a
-known a = record { ts = a.requires.by_index.0; N = a.requires.by_index.1; t = a.requires.by_index.2; s = a.requires.by_index.3; due = a.requires.by_index.4 }
+known a = record { ts = a.requires.due.0; N = a.requires.due.1; t = a.requires.due.2; s = a.requires.due.3; due = a.requires.due.4 }
 
 module _ {a : Start} (k : Known a) where
   -- the list of sums, with the shares of p positions

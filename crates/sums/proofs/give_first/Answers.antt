@@ -1,6 +1,7 @@
 -- `sums::give_first` meets its contract: after t triples the sums are those of t triples. Assumes nothing.
 use Rattle.integers.proofs.Prelude.{◌≡◌, refl, ◌∙◌, ◌+◌, ◌*◌, arith, add-one, length}
 use Rattle.lists.specs.Tabulated.{tab}
+use Rattle.lists.proofs.Tabulated.{tab_fill}
 use Rattle.model.specs.Limits.{most_done}
 use Rattle.model.specs.Iteration.{share}
 use Rattle.layout.specs.Transposed.{straight}
@@ -9,24 +10,24 @@ use Rattle.sums.specs.Shares.{Due}
 use Rattle.sums.proofs.Sums.{summed_none, summed_long, summed_also}
 use Rattle.sums.proofs.Groups.{first_formed, four_small}
 use Rattle.sums.proofs.give_first.Goals as goal
-use Rattle.sums.proofs.give_first.Goals.{Start, After-clear_i64, At-loop-t, After-shares}
+use Rattle.sums.proofs.give_first.Goals.{Start, After-fill, At-loop-t, After-shares}
 
 pub loop-t-init : goal.loop-t-init
 loop-t-init c =
-    (omega arith, summed_none _ c.requires.members.0 (straight_within most_done c.args.count c.args.rows.now c.requires.members.1) c.clear_i64.ensures)
+    (omega arith, summed_none _ c.requires.members.0 (straight_within most_done c.args.count c.args.rows.now c.requires.members.1) (tab_fill _ _ _ c.fill.ensures.after))
 
 module _ (l : At-loop-t) where
-  abbrev cleared : After-clear_i64
-  cleared = (goal.at.At-loop-t l).After-clear_i64
+  abbrev cleared : After-fill
+  cleared = (goal.at.At-loop-t l).After-fill
 
   abbrev start : Start
-  start = (goal.at.After-clear_i64 cleared).Start
+  start = (goal.at.After-fill cleared).Start
 
-  long : length cleared.clear_i64.new.l ≡ length start.args.sums.now
-  long = cleared.clear_i64.auto.l
+  long : length cleared.fill.new.self ≡ length start.args.sums.now
+  long = cleared.fill.auto.self
 
 pub load-requires : goal.load-requires
-load-requires c = let s = start (goal.at.load-requires c).At-loop-t in (omega (arith, s.requires.count_le_most_triples), omega (arith, s.requires.count_le_most_triples))
+load-requires c = let s = start (goal.at.load-requires c).At-loop-t in (omega (arith, s.requires.count_bound), omega (arith, s.requires.count_bound))
 
 pub shares-requires : goal.shares-requires
 shares-requires c = let s = start (goal.at.shares-requires c).At-loop-t in four_small s.args.rows.now s.requires.members.1 (λ r. 4 * c.loop-t.t + r) _ c.load.ensures
@@ -37,15 +38,15 @@ formed c =
     c.shares.ensures ∙ first_formed (start (goal.at.After-shares c).At-loop-t).args.count (start (goal.at.After-shares c).At-loop-t).args.rows.now c.loop-t.t _ c.loop-t-test.true c.load.ensures
 
 due : (c : After-shares) → let a = (start (goal.at.After-shares c).At-loop-t).args in
-    Due a.triples.now (length (cleared (goal.at.After-shares c).At-loop-t).clear_i64.new.l) c.loop-t.t (straight a.count a.rows.now) c.loop-t.sums a.triples.now c.loop-t.t c.shares.result
+    Due a.triples.now (length (cleared (goal.at.After-shares c).At-loop-t).fill.new.self) c.loop-t.t (straight a.count a.rows.now) c.loop-t.sums a.triples.now c.loop-t.t c.shares.result
 due c =
     let s = start (goal.at.After-shares c).At-loop-t in
-    record { summed = c.loop-t.invariant.1; few = omega (arith, s.requires.count_le_most_triples); room = omega (arith, s.requires.count_le_most_triples); same = λ p _. refl; shares = formed c }
+    record { summed = c.loop-t.invariant.1; few = omega (arith, s.requires.count_bound); room = omega (arith, s.requires.count_bound); same = λ p _. refl; shares = formed c }
 
 pub give-requires : goal.give-requires
 give-requires c =
     let s = start (goal.at.give-requires c).At-loop-t in
-    record { i_lt_most_triples = (omega (arith, s.requires.count_le_most_triples), omega (arith, s.requires.count_le_most_triples)); by_index = (_, _, _, _, due (goal.at.give-requires c).After-shares) }
+    record { i_bound = (omega (arith, s.requires.count_bound), omega (arith, s.requires.count_bound)); due = (_, _, _, _, due (goal.at.give-requires c).After-shares) }
 
 pub loop-t-preserved : goal.loop-t-preserved
 loop-t-preserved c =

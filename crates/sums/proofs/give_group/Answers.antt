@@ -14,13 +14,13 @@ module _ (l : At-loop-b) where
   start = (goal.at.At-loop-b l).Start
 
   -- the sums so far, of a group that there is
-  now : Summed start.requires.by_index.0 start.requires.by_index.1 (start.requires.by_index.2 + 4 * l.loop-b.b) start.requires.by_index.3 l.loop-b.sums
-  now = l.loop-b.invariant.1 _ _ _ _ start.requires.by_index.4 start.requires.by_index.5
+  now : Summed start.requires.due.0 start.requires.due.1 (start.requires.due.2 + 4 * l.loop-b.b) start.requires.due.3 l.loop-b.sums
+  now = l.loop-b.invariant.1 _ _ _ _ start.requires.due.4 start.requires.due.5
 
 pub give_four-requires : goal.give_four-requires
 give_four-requires c =
     let s = start (goal.at.give_four-requires c).At-loop-b in
-    record { b_bound = omega (arith, s.requires.n_bound, c.loop-b-test.true); by_index = (_, _, _, _, now (goal.at.give_four-requires c).At-loop-b, group_fewer s.requires.by_index.5 _ (omega (arith, c.loop-b-test.true))) }
+    record { b_bound = omega (arith, s.requires.n_bound, c.loop-b-test.true); due = (_, _, _, _, now (goal.at.give_four-requires c).At-loop-b, group_fewer s.requires.due.5 _ (omega (arith, c.loop-b-test.true))) }
 
 pub loop-b-preserved : goal.loop-b-preserved
 loop-b-preserved c = (
@@ -38,4 +38,4 @@ pub loop-b-smaller : goal.loop-b-smaller
 loop-b-smaller c = omega (arith, c.loop-b-test.true)
 
 pub shape_of-sums : goal.shape_of-sums
-shape_of-sums c = summed_long (now (goal.at.shape_of-sums c).At-loop-b) ∙ sym (summed_long (start (goal.at.shape_of-sums c).At-loop-b).requires.by_index.4)
+shape_of-sums c = summed_long (now (goal.at.shape_of-sums c).At-loop-b) ∙ sym (summed_long (start (goal.at.shape_of-sums c).At-loop-b).requires.due.4)

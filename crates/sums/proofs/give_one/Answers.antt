@@ -13,7 +13,7 @@ due {t = t} {s = s} {q = q} i g h =
 
 pub give-requires : goal.give-requires
 give-requires c =
-    record { i_lt_most_triples = (omega (arith, c.requires.i_bound), omega (arith, c.requires.i_bound)); by_index = (c.requires.by_index.0, c.requires.by_index.1, _, c.requires.by_index.3, due c.args.i c.requires.by_index.4 c.requires.by_index.5) }
+    record { i_bound = (omega (arith, c.requires.i_bound), omega (arith, c.requires.i_bound)); due = (c.requires.due.0, c.requires.due.1, _, c.requires.due.3, due c.args.i c.requires.due.4 c.requires.due.5) }
 
 pub returns : goal.returns
 returns c ts N t s g h =

@@ -71,7 +71,7 @@ first c = (asked.at.After-store-arg-5-1 c).After-shares-h
 
 pub store-requires : asked.store-requires
 unfolding four
-store-requires c = let s = start (first c) in record { t_le_most_triples = (omega (arith, s.requires.b_bound_2), omega (arith, s.requires.b_bound_2)); by_index = stores (first c) 0 (omega arith) }
+store-requires c = let s = start (first c) in record { t_bound = (omega (arith, s.requires.four_bound), omega (arith, s.requires.four_bound)); rows_bound = stores (first c) 0 (omega arith) }
 
 abbrev second : After-store-arg-10-1 → After-store
 second c = (asked.at.After-store-arg-10-1 c).After-store
@@ -81,7 +81,7 @@ unfolding four
 store-requires-2 c =
     let x = second c in
     let s = start (first (asked.at.After-store x).After-store-arg-5-1) in
-    record { t_le_most_triples = (omega (arith, s.requires.b_bound_2), omega (arith, s.requires.b_bound_2, x.store.auto.rows)); by_index = stores (first (asked.at.After-store x).After-store-arg-5-1) 1 (omega arith) }
+    record { t_bound = (omega (arith, s.requires.four_bound), omega (arith, s.requires.four_bound, x.store.auto.rows)); rows_bound = stores (first (asked.at.After-store x).After-store-arg-5-1) 1 (omega arith) }
 
 abbrev third : After-store-arg-15-1 → After-store-2
 third c = (asked.at.After-store-arg-15-1 c).After-store-2
@@ -92,7 +92,7 @@ store-requires-3 c =
     let y = third c in
     let x = second (asked.at.After-store-2 y).After-store-arg-10-1 in
     let s = start (first (asked.at.After-store x).After-store-arg-5-1) in
-    record { t_le_most_triples = (omega (arith, s.requires.b_bound_2), omega (arith, s.requires.b_bound_2, x.store.auto.rows, y.store-2.auto.rows)); by_index = stores (first (asked.at.After-store x).After-store-arg-5-1) 2 (omega arith) }
+    record { t_bound = (omega (arith, s.requires.four_bound), omega (arith, s.requires.four_bound, x.store.auto.rows, y.store-2.auto.rows)); rows_bound = stores (first (asked.at.After-store x).After-store-arg-5-1) 2 (omega arith) }
 
 -- ---- each in its place
 shared : (s : Start) (T : ℕ) → InFours T s.args.t (4 * (s.args.b + 1)) → (p k : ℕ) → k < 4
@@ -109,7 +109,7 @@ returns c T f g =
     let x = second (asked.at.After-store-2 y).After-store-arg-10-1 in
     let e = first (asked.at.After-store x).After-store-arg-5-1 in
     let s = start e in
-    shared_next (straight T (rs s)) s.args.t s.args.b (goal e) s.requires.b_bound_2.0 (λ p k _ h. shared s T f p k h) s.args.shares.now _ _ _ s.requires.b_bound_2.1 g
+    shared_next (straight T (rs s)) s.args.t s.args.b (goal e) s.requires.four_bound.0 (λ p k _ h. shared s T f p k h) s.args.shares.now _ _ _ s.requires.four_bound.1 g
     (x.store.ensures ∙ ap (sets s.args.shares.now (4 * s.args.b)) (four_is e 0 (omega arith)))
     (y.store-2.ensures ∙ ap (sets x.store.new.rows (4 * (8 + s.args.b))) (four_is e 1 (omega arith)))
     (c.store-3.ensures ∙ ap (sets y.store-2.new.rows (4 * (16 + s.args.b))) (four_is e 2 (omega arith)))
