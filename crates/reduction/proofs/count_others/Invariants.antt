@@ -2,8 +2,8 @@
 use Rattle.integers.proofs.Prelude.{◌≡◌, ◌≤◌, take}
 use Rattle.model.specs.Encoding.{others}
 use Rattle.reduction.specs.Table.{columns_in}
-use Rattle.reduction.proofs.Reduction.count_others.Given as goal
+use Rattle.reduction.proofs.count_others.Given as goal
 
 abbrev pub invariant-loop-column : goal.invariant-loop-column
 invariant-loop-column l =
-    (l.count ≤ l.column) × (l.count ≡ others (take l.column (columns_in l.self-inside.bits l.self-inside.rows.now)))
+    (l.count ≤ l.column) × (l.count ≡ others (take l.column (columns_in l.bits l.rows)))
