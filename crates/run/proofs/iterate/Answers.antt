@@ -44,7 +44,7 @@ module _ (s : Start) where
 
 pub gather-requires : goal.gather-requires
 gather-requires c =
-    record { count_le_most_triples = ((is_ready (goal.at.gather-requires c).Start).triples, c.requires.lent.members, c.requires.lent.rows); members = (rw c.requires.lent.sums c.requires.lent.below, within (goal.at.gather-requires c).Start) }
+    record { count_bound = ((is_ready (goal.at.gather-requires c).Start).triples, c.requires.lent.members, c.requires.lent.rows); members = (rw c.requires.lent.sums c.requires.lent.below, within (goal.at.gather-requires c).Start) }
 
 -- ---- S
 module _ (c : After-gather) where
@@ -94,7 +94,7 @@ returns c =
     record {
       next_state = λ k. (
         next_state (n s) (ts s) (T s) s.args.settings (costs s) k (a s) s.args.counts.now _ _ _ s.requires.lent.counted (sums_are (given (goal.at.returns c).After-write_values)) values c.renew_rows.ensures.rows_after.0,
-        rw c.renew_rows.ensures.rows_after.0 c.renew_rows.ensures.value,
+        rw (c.renew_rows.ensures.rows_after.0, ← c.from.ensures) c.renew_rows.ensures.value,
       );
       rows_len = c.renew_rows.ensures.rows_after.1;
     }
