@@ -4,14 +4,13 @@
 ghost use Rattle.std.specs.Prelude.{◌≡◌, true, false, cond, List, ℕ, suc, ◌+◌, ◌*◌, ◌≤◌, ◌<◌, eqb, ℤ, nat_abs, length};
 ghost use Rattle.lists.specs.Tabulated.{part};
 ghost use Rattle.quotient.specs.Quotient.{quotient};
-ghost use Rattle.model.specs.Limits.{most_weight, most_cost, most_ratio, most_iterations};
+ghost use Rattle.model.specs.Limits.{most_weight, most_cost, most_iterations};
 ghost use Rattle.model.specs.Code.{Code};
 ghost use Rattle.model.specs.Iteration.{at};
 ghost use Rattle.model.specs.Run as Run;
 ghost use Rattle.model.specs.Bounds.{RowsWithin, Lent};
 ghost use Rattle.model.specs.Group.{end_of};
 ghost use Rattle.lanes.specs.Lanes.{Fits, Raised, lane_state};
-ghost use Rattle.lane_values.specs.Divisors.{Ready};
 ghost use Rattle.lane_values.specs.Valued.{Counted};
 ghost use Rattle.lane_step.specs.Step.{system_for, Weighed};
 ghost use Rattle.group_step.specs.Frames.{marks, going, ended_in, Held, Marks};
@@ -88,7 +87,7 @@ fn take_out_all(frames: &mut Frames, work: &[i32], i: usize)
 fn step_on(settings: Settings, divisors: &Divisors, frames: &mut Frames, work: &mut [i32]) -> u32
     requires settings { (settings.limit ≤ most_iterations)
         × Counted frames.old.walk.plan frames.old.walk.counts.now }
-    requires ready { Ready divisors.now × (divisors.now.ratio ≡ settings.ratio) }
+    requires ratio { divisors.now.any ≡ settings.ratio }
     requires in_lanes { InLanes frames.old.walk.plan settings frames.old.walk.triples.now frames.old.walk.counts.now 0 0
         frames.old.stages work.old }
     requires enough { enough_run (marks frames.old.stages) ≡ true }
@@ -171,10 +170,7 @@ fn run_frame(settings: Settings, costs: &[i16], f: usize, done: u32, frames: &mu
         &mut frames.values[v..v_end],
         &mut frames.rows[r..r_end],
     );
-    frames.stages[f] = Stage::Ended {
-        k: ending.k,
-        settled: ending.settled != 0,
-    };
+    frames.stages[f] = Stage::Ended(ending);
 }
 
 // Each frame that runs, by itself, `done` iterations being done.

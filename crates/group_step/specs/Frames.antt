@@ -17,17 +17,17 @@ use Rattle.group_step.specs.declared.Stage.TheVariants as stage
 abbrev pub is_running : Stage → Bool
 is_running stage.Idle = false
 is_running stage.Running = true
-is_running (stage.Ended k settled) = false
+is_running (stage.Ended e) = false
 
 abbrev pub iterations : Stage → ℕ
 iterations stage.Idle = 0
 iterations stage.Running = 0
-iterations (stage.Ended k settled) = k
+iterations (stage.Ended e) = e.k
 
 abbrev pub stop_of : Stage → ℕ
 stop_of stage.Idle = 0
 stop_of stage.Running = 0
-stop_of (stage.Ended k settled) = 1 if settled
+stop_of (stage.Ended e) = 1 if e.settled
 
 -- those of all frames: which run, and whether frame f does
 abbrev pub marks : List Stage → List Bool

@@ -39,7 +39,7 @@ returns-clause-ended c g k =
     _ _ _ c.go_on-ending.new.sums c.go_on-ending.new.values c.go_on-ending.new.rows (size_is s n) (size_is s m)
     (c.go_on-ending.auto.sums ∙ lent_long s n x.sums.now S) (c.go_on-ending.auto.values ∙ lent_long s n x.values.now V)
     (c.go_on-ending.auto.rows ∙ lent_long s m x.rows.now R) _
-    ? g
+    (rw (length_part n f x.values.now V) at (rw (size_is s p.bits, size_is s n, size_is s m) at (c.go_on-ending.ensures k))) g
 
 pub returns-clause-stops : goal.returns-clause-stops
 returns-clause-stops c g = stops c.args.frames.now.stages c.args.f _ refl (inside (goal.at.returns-clause-stops c).Start) g
