@@ -76,7 +76,7 @@ module _ (k : Code) (s : Sound k) (T n : ℕ) (T_is : T ≡ triples k) (n_is : n
     -- what the run left in its parts of the lists
     module _ (j settled : ℕ) (S c r : List ℤ)
         (ran : (code : Code) → record { k = j; settled = settled; last = record { sums = S; values = c; rows = r } }
-          ≡ run quotient (system_in code (take (3 * T) ts) T (take n l.values)) o costs)
+        ≡ run quotient (system_in code (take (3 * T) ts) T (take n l.values)) o costs)
         (S_long : length S ≡ length (take n l.sums)) (c_long : length c ≡ length (take n l.values)) (r_long : length r ≡ length (take (4 * T) l.rows)) where
       is : record { k = j; settled = settled; last = record { sums = S; values = c; rows = r } } ≡ ended
       is = ran k ∙ ap (λ (g : System). run quotient g o costs) system_is

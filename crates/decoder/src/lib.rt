@@ -5,14 +5,13 @@ ghost use Rattle.std.specs.Prelude.{◌≡◌, false, ◌≤◌, length, Ok, IfO
 ghost use Rattle.quotient.specs.Quotient.{quotient};
 ghost use Rattle.model.specs.Limits.{most_frames};
 ghost use Rattle.model.specs.Causes.{number_of, first_of};
-ghost use Rattle.model.specs.Code.{triples, variables};
 ghost use Rattle.model.specs.Splitting.{system_of};
 ghost use Rattle.model.specs.Run as Run;
-ghost use Rattle.model.specs.Calls.{out_of_range, decoder_causes, HasRoom, decoding_told, decoded_by};
+ghost use Rattle.model.specs.Calls.{out_of_range, decoder_causes, lists_of, decoding_told, decoded_by};
 ghost use Rattle.model.specs.Lent.{contents_of, SameLists};
 ghost use Rattle.model.specs.DecoderClaims.{Small};
 ghost use Rattle.model.specs.Promises.{DecoderCall};
-ghost use Rattle.decoder.specs.Room.{too_short};
+ghost use Rattle.decoder.specs.Room.{too_short, RoomFor};
 
 use model::{Cause, Decoding, Lists, Settings};
 use reader::Code;
@@ -55,21 +54,28 @@ fn judge(code: &Code, settings: Settings, costs: &[i16], lists: &Lists) -> Resul
 // ---- an accepted call
 
 // The triples and the counts of the code are written, its system is run, and its last values tell the word.
-fn decode_accepted(code: &Code, settings: Settings, costs: &[i16], lists: &mut Lists) -> Decoding
+// By slices: what a field of `Lists` holds is not known any more once its list was lent to be read.
+fn decode_accepted(
+    code: &Code,
+    settings: Settings,
+    costs: &[i16],
+    triples: &mut [u16],
+    counts: &mut [u16],
+    sums: &mut [i64],
+    values: &mut [i16],
+    rows: &mut [i32],
+    word: &mut [u8],
+) -> Decoding
     requires settings { out_of_range settings ≡ false }
     requires costs { (length costs.now ≡ code.now.bits) × Small costs.now }
-    requires room { HasRoom (triples code.now) (variables code.now) code.now.bits (contents_of lists.old) }
-    ensures decoded { record { answer = decoding_told (Ok result); lists = contents_of lists.new }
-        ≡ decoded_by code.now (Run.run quotient (system_of code.now) settings costs.now) (contents_of lists.old) }
-    ensures same { SameLists lists.old lists.new }
+    requires room { RoomFor code.now (lists_of triples.old counts.old sums.old values.old rows.old word.old) }
+    ensures { let before = lists_of triples.old counts.old sums.old values.old rows.old word.old in
+        let after = lists_of triples.new counts.new sums.new values.new rows.new word.new in
+        record { answer = decoding_told (Ok result); lists = after }
+        ≡ decoded_by code.now (Run.run quotient (system_of code.now) settings costs.now) before }
 {
     let total = code.triples();
     let variables = code.variables();
-    let triples = &mut *lists.triples;
-    let counts = &mut *lists.counts;
-    let sums = &mut *lists.sums;
-    let values = &mut *lists.values;
-    let rows = &mut *lists.rows;
     triples::write_system(code, triples, counts);
     let ending = run::run(
         settings,
@@ -81,7 +87,7 @@ fn decode_accepted(code: &Code, settings: Settings, costs: &[i16], lists: &mut L
         &mut values[..variables],
         &mut rows[..4 * total],
     );
-    let conclusion = outcome::conclude(code, &values[..variables], &mut *lists.word);
+    let conclusion = outcome::conclude(code, &values[..variables], word);
     Decoding { conclusion, ending }
 }
 
@@ -101,5 +107,15 @@ pub fn decode(
 {
     let code = Code::read(code)?;
     judge(&code, settings, costs, lists)?;
-    Ok(decode_accepted(&code, settings, costs, lists))
+    Ok(decode_accepted(
+        &code,
+        settings,
+        costs,
+        &mut *lists.triples,
+        &mut *lists.counts,
+        &mut *lists.sums,
+        &mut *lists.values,
+        &mut *lists.rows,
+        &mut *lists.word,
+    ))
 }

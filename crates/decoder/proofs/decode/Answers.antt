@@ -1,4 +1,5 @@
 use Rattle.std.proofs.lemmas.Result.{err_from_is_err_and}
+use Rattle.model.specs.Lent.{contents_of}
 use Rattle.model.proofs.Told.{determined}
 use Rattle.decoder.proofs.Decoded.{in_range, agree, room, unsound, refused, accepted}
 use Rattle.decoder.proofs.decode.Goals as goal
@@ -15,9 +16,14 @@ returns-in_err-judge-clause-call c =
 
 pub decode_accepted-requires : goal.decode_accepted-requires
 decode_accepted-requires c =
+    let l = contents_of c.args.lists.now in
     let none = c.in_ok-judge.ensures.number in
-    record { settings = in_range _ _ _ _ none; costs = (agree _ _ _ _ none, c.in_ok-judge.ensures.small); room = room _ _ _ _ none }
+    record {
+      settings = in_range c.args.settings c.args.costs.now l c.in_ok-code.code none;
+      costs = (agree c.args.settings c.args.costs.now l c.in_ok-code.code none, c.in_ok-judge.ensures.small);
+      room = room c.args.settings c.args.costs.now l c.in_ok-code.code none;
+    }
 
 pub returns-clause-call : goal.returns-clause-call
 returns-clause-call c =
-    accepted _ _ _ _ c.in_ok-code.ensures.number _ c.in_ok-code.ensures.code c.in_ok-judge.ensures.number c.in_ok-judge.ensures.small _ c.decode_accepted.ensures.decoded
+    accepted _ _ _ _ c.in_ok-code.ensures.number _ c.in_ok-code.ensures.code c.in_ok-judge.ensures.number c.in_ok-judge.ensures.small _ c.decode_accepted.ensures
