@@ -80,7 +80,11 @@ fn stage_of(costs: &[i16]) -> Stage
     ensures value { result ≡ stage_for costs.now }
     ensures small { some forbidden costs.now ≡ false → Small costs.now }
 {
-    if inputs::some_forbidden(costs) { Stage::Idle } else { Stage::Running }
+    if inputs::some_forbidden(costs) {
+        Stage::Idle
+    } else {
+        Stage::Running
+    }
 }
 
 // The stages of so many frames.
