@@ -37,12 +37,14 @@ fn iterate(
     rows: &mut [i32],
 ) -> bool
     requires lent { Lent system.now.settings system.now.triples.now system.now.counts.now system.now.costs.now system.now.count sums.old values.old rows.old }
-    requires rows_within { (RowsWithin most_done (straight system.now.count rows.old)) × (divisors.now ≡ system.now.settings.ratio) × (Known known system.now.triples.now) }
+    requires rows_within { RowsWithin most_done (straight system.now.count rows.old) }
+    requires divisors { divisors.now ≡ system.now.settings.ratio }
+    requires known { Known known system.now.triples.now }
     ensures next_state { (k : Code) → let g = system_in k system.now.triples.now system.now.count values.old in
         let a = state_in system.now.count sums.old values.old rows.old in
         let b = state_in system.now.count sums.new values.new rows.new in
         (b ≡ Iteration.iterate quotient g system.now.settings system.now.costs.now a) × ((1 if result) ≡ Run.stop g system.now.settings a b) }
-    ensures rows_len { length rows.new ≡ 4 * system.now.count }
+    ensures rows_long { length rows.new ≡ 4 * system.now.count }
 {
     sums::gather(system.triples, rows, system.count, sums);
     values::write_values(
@@ -74,7 +76,9 @@ fn iterations(
     rows: &mut [i32],
 ) -> Ending
     requires lent { Lent system.now.settings system.now.triples.now system.now.counts.now system.now.costs.now system.now.count sums.old values.old rows.old }
-    requires rows_within { (RowsWithin done (straight system.now.count rows.old)) × (divisors.now ≡ system.now.settings.ratio) × (Known known system.now.triples.now) }
+    requires rows_within { RowsWithin done (straight system.now.count rows.old) }
+    requires divisors { divisors.now ≡ system.now.settings.ratio }
+    requires known { Known known system.now.triples.now }
     requires done_le_limit { (done ≤ system.now.settings.limit) × (system.now.settings.limit ≤ most_iterations) }
     ensures run_on { (k : Code) → let g = system_in k system.now.triples.now system.now.count values.old in
         let first = state_in system.now.count sums.old values.old rows.old in
@@ -152,31 +156,31 @@ pub fn go_on(
     triples: &[u16],
     counts: &[u16],
     costs: &[i16],
-    total: usize,
+    count: usize,
     done: u32,
     sums: &mut [i64],
     values: &mut [i16],
     rows: &mut [i32],
 ) -> Ending
-    requires lent { Lent settings triples.now counts.now costs.now total sums.old values.old rows.old }
+    requires lent { Lent settings triples.now counts.now costs.now count sums.old values.old rows.old }
     requires rows_within { eqb done 0 ≡ false → RowsWithin done rows.old }
     requires le_limit { (1 ≤ settings.limit) × (done ≤ settings.limit) × (settings.limit ≤ most_iterations) }
-    ensures { ((k : Code) → let g = system_in k triples.now total values.old in
+    ensures { ((k : Code) → let g = system_in k triples.now count values.old in
         let first : State = record { sums = sums.old; values = values.old; rows = rows.old } in
         let last : State = record { sums = sums.new; values = values.new; rows = rows.new } in
         record { k = result.k; settled = 1 if result.settled; last = last } ≡ cond (eqb done 0) (Run.run quotient g settings costs.now)
         (Run.run_from quotient g settings costs.now (settings.limit - done) done first)) }
 {
     if done == 0 {
-        return run(settings, triples, counts, costs, total, sums, values, rows);
+        return run(settings, triples, counts, costs, count, sums, values, rows);
     }
-    layout::straighten(rows, total);
+    layout::straighten(rows, count);
     let system = System {
         settings,
         triples,
         counts,
         costs,
-        count: total,
+        count,
     };
     run_from(&system, done, sums, values, rows)
 }

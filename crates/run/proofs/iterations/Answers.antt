@@ -14,7 +14,9 @@ iterate-settled-requires c =
     let r = c.loop-k.invariant.1 in
     record {
       lent = lent_again _ _ _ r.sums r.values c.loop-k.invariant.2 c.requires.lent;
-      rows_within = (weaker c.loop-k.k most_done (omega (arith, c.requires.done_le_limit.1)) r.within, c.requires.rows_within.1, c.requires.rows_within.2);
+      rows_within = weaker c.loop-k.k most_done (omega (arith, c.requires.done_le_limit.1)) r.within;
+      divisors = c.requires.divisors;
+      known = c.requires.known;
     }
 
 -- after an iteration
@@ -40,11 +42,11 @@ returns-then-settled-clause-run_on c =
 pub returns-then-settled-clause-rows_kept : goal.returns-then-settled-clause-rows_kept
 returns-then-settled-clause-rows_kept c =
     let r = next (goal.at.returns-then-settled-clause-rows_kept c).After-iterate-settled in
-    let long = c.iterate-settled.ensures.rows_len in
+    let long = c.iterate-settled.ensures.rows_long in
     (weaker (c.loop-k.k + 1) c.args.system.now.settings.limit r.few (straight_back (c.loop-k.k + 1) c.args.system.now.count c.iterate-settled.new.rows long r.within), long)
 
 pub loop-k-preserved : goal.loop-k-preserved
-loop-k-preserved c = (omega arith, rw c.if-settled.false at (next (goal.at.loop-k-preserved c).After-iterate-settled), c.iterate-settled.ensures.rows_len)
+loop-k-preserved c = (omega arith, rw c.if-settled.false at (next (goal.at.loop-k-preserved c).After-iterate-settled), c.iterate-settled.ensures.rows_long)
 
 -- ---- after the last
 pub returns-clause-run_on : goal.returns-clause-run_on
