@@ -1,1 +1,4 @@
+pub mod Calls
+pub mod Costs
+pub mod Finite
 pub mod Rounding

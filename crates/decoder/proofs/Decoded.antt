@@ -1,67 +1,81 @@
--- The whole answer from its parts. Assumes nothing.
-use Rattle.integers.proofs.Prelude.{◌≡◌, sym, ap₂, ◌∙◌, List, ℕ, zero, suc, ◌≤◌, arith, ℤ}
-use Rattle.lists.specs.Tabulated.{written}
+-- The answers of the decoder, by its causes in their order. Assumes nothing.
+use Rattle.integers.proofs.Prelude.{◌≡◌, sym, ap, ◌∙◌, false, not, List, ℕ, zero, suc, ◌*◌, ◌≤◌, arith, eqb, eqb-true, not-false, ltb-false, ℤ, length}
 use Rattle.quotient.specs.Quotient.{quotient}
-use Rattle.model.specs.Iteration.{counts_of}
-use Rattle.model.specs.Calls.{Lists, Answer, Decoded, decoder_causes, decoder_cause_up_to, decoder_cause, decoded_by, decoder_up_to}
-use Rattle.model.specs.Causes.{first_of, accepted}
-use Rattle.model.specs.Told.{Refuses}
+use Rattle.model.specs.declared.Settings.{Settings}
+use Rattle.model.specs.Limits.{most_iterations}
+use Rattle.model.specs.Causes.{first_of, short}
+use Rattle.model.specs.Code.{Code, triples, variables}
+use Rattle.model.specs.Records.{code_of, judge}
+use Rattle.model.specs.Splitting.{system_of}
+use Rattle.model.specs.Run.{run}
+use Rattle.model.specs.Calls.{unequal, forbidden, out_of_range, Lists, Decoded, HasRoom, lacks_room, decoder_causes, decoder_cause_up_to, decoder_cause, decoded_by, decoder_up_to}
+use Rattle.lists.specs.Entries.{some}
 use Rattle.model.specs.DecoderClaims.{Small}
 use Rattle.model.specs.Promises.{DecoderCall}
-use Rattle.model.proofs.DecoderCalls.{input_refuses}
+use Rattle.model.proofs.Causes.{clear, unless, or_false}
 use Rattle.model.proofs.Promises.{decoder_call}
-use Rattle.model.specs.Run.{Ended, run}
-use Rattle.model.specs.Words.{word_of, outcome}
-use Rattle.model.specs.Records.{code_of, judge}
-use Rattle.model.specs.Code.{Code}
-use Rattle.model.specs.Splitting.{system_of}
-use Rattle.model.specs.declared.Settings.{Settings}
+use Rattle.decoder.specs.Room.{too_short}
 
-same_lists : (l m : Lists) → l.triples ≡ m.triples → l.counts ≡ m.counts → l.sums ≡ m.sums → l.values ≡ m.values → l.rows ≡ m.rows → l.word ≡ m.word → l ≡ m
-same_lists l m p q r s t u =
-    ap₂ (λ (x y : List ℕ). record { triples = x; counts = y; sums = l.sums; values = l.values; rows = l.rows; word = l.word }) p q
-    ∙ ap₂ (λ (x y : List ℤ). record { triples = m.triples; counts = m.counts; sums = x; values = y; rows = l.rows; word = l.word }) r s
-    ∙ ap₂ (λ (x : List ℤ) (y : List ℕ). record { triples = m.triples; counts = m.counts; sums = m.sums; values = m.values; rows = x; word = y }) t u
+-- the room of one frame
+pub one_frame : (k : Code) (l : Lists) → too_short 1 k l ≡ lacks_room k l
+one_frame k l =
+    let v : 1 * variables k ≡ variables k = omega arith in
+    let r : 1 * (4 * triples k) ≡ 4 * triples k = omega arith in
+    let n : 1 * k.bits ≡ k.bits = omega arith in
+    rw (v, r, n)
 
--- what a run that ended with e leaves
-pub decoded : (k : Code) (e : Ended) (l m : Lists) (a : Answer) → m.triples ≡ written (system_of k).members l.triples → m.counts ≡ written (counts_of (system_of k)) l.counts
-    → m.sums ≡ written e.last.sums l.sums → m.values ≡ written e.last.values l.values → m.rows ≡ written e.last.rows l.rows
-    → a ≡ record { number = (outcome k e.last.values).number; place = (outcome k e.last.values).place; k = e.k; settled = e.settled }
-    → m.word ≡ accepted (outcome k e.last.values).number (written (word_of k e.last.values) l.word) l.word → record { answer = a; lists = m } ≡ decoded_by k e l
-unfolding decoded_by
-decoded k e l m a p q r s t u v = ap₂ (λ (a : Answer) (m : Lists). record { answer = a; lists = m }) u (same_lists m (decoded_by k e l).lists p q r s t v)
+module _ (o : Settings) (costs : List ℤ) (l : Lists) where
+  -- ---- none of the causes of a call with the code k holds
+  module _ (k : Code) (none : 0 ≡ first_of (decoder_causes k o costs l)) where
+    pub in_range : out_of_range o ≡ false
+    in_range = let x = clear (decoder_causes k o costs l) (sym none) in unless 10 (out_of_range o) x.0
 
--- ---- the entry, by the causes in their order
-module _ (b : List ℕ) (o : Settings) (costs : List ℤ) (l : Lists) where
-  abbrev pub after_judgement : ℕ
-  after_judgement = first_of (decoder_causes (code_of b) o costs l)
+    pub agree : length costs ≡ k.bits
+    agree =
+        let x = clear (decoder_causes k o costs l) (sym none) in
+        eqb-true (length costs) k.bits (not-false _ (unless 11 (unequal costs k.bits) x.1.0))
 
-  abbrev pub refusal : ℕ → Decoded
-  refusal c = record { answer = record { number = c; place = 0; k = 0; settled = 0 }; lists = l }
+    pub room : HasRoom (triples k) (variables k) k.bits l
+    room =
+        let x = clear (decoder_causes k o costs l) (sym none) in
+        let a = or_false (short (3 * triples k) l.triples) _ (unless 9 (lacks_room k l) x.1.1.1.0) in
+        let b = or_false (short (variables k) l.counts) _ a.1 in
+        let c = or_false (short (variables k) l.sums) _ b.1 in
+        let d = or_false (short (variables k) l.values) _ c.1 in
+        let e = or_false (short (4 * triples k) l.rows) _ d.1 in
+        record {
+          triples = ltb-false _ _ a.0;
+          counts = ltb-false _ _ b.0;
+          sums = ltb-false _ _ c.0;
+          values = ltb-false _ _ d.0;
+          rows = ltb-false _ _ e.0;
+          word = ltb-false _ _ e.1;
+        }
 
-  -- what the contract says of a refusal
-  abbrev pub Refusal : ℕ → Type 0
-  Refusal c = DecoderCall b o costs l (refusal c) × Refuses c
+  -- ---- the call with the bytes b
+  module _ (b : List ℕ) where
+    abbrev refusal : ℕ → Decoded
+    refusal c = record { answer = record { number = c; place = 0; k = 0; settled = 0 }; lists = l }
 
-  refused_by : (c : ℕ) → decoder_cause b o costs l ≡ c → 1 ≤ c → Refusal c
-  unfolding decoder_up_to
-  refused_by zero e h = absurd (omega arith)
-  refused_by (suc c) e h = (decoder_call b o costs l (refusal (suc c)) (λ z. absurd (omega arith)) (rw e), input_refuses b o costs l c e)
-
-  pub unsound : (c : ℕ) → judge b ≡ c → 1 ≤ c → Refusal c
-  unfolding decoder_cause_up_to
-  unsound zero e h = absurd (omega arith)
-  unsound (suc c) e h = refused_by (suc c) (rw e) h
-
-  module _ (sound : judge b ≡ 0) where
-    cause_is : decoder_cause b o costs l ≡ after_judgement
-    unfolding decoder_cause_up_to
-    cause_is = rw sound
-
-    pub refused : (c : ℕ) → c ≡ after_judgement → (c ≡ 0 → ⊥) → Refusal c
-    refused c e h = refused_by c (cause_is ∙ sym e) (omega arith)
-
-    pub accepted_is : (d : Decoded) → 0 ≡ after_judgement → Small costs → d ≡ decoded_by (code_of b) (run quotient (system_of (code_of b)) o costs) l
-        → DecoderCall b o costs l d
+    refused_by : (c : ℕ) → decoder_cause b o costs l ≡ c → 1 ≤ c → DecoderCall b o costs l (refusal c)
     unfolding decoder_up_to
-    accepted_is d e small is = decoder_call b o costs l d (λ _. small) (rw (cause_is ∙ sym e) is)
+    refused_by zero e h = absurd (omega arith)
+    refused_by (suc c) e h = decoder_call b o costs l (refusal (suc c)) (λ z. absurd (omega (arith, e, z))) (rw e)
+
+    pub unsound : (c : ℕ) → c ≡ judge b → 1 ≤ c → DecoderCall b o costs l (refusal c)
+    unfolding decoder_cause_up_to
+    unsound zero e h = absurd (omega arith)
+    unsound (suc c) e h = refused_by (suc c) (rw (← e)) h
+
+    module _ (judged : 0 ≡ judge b) (k : Code) (is : k ≡ code_of b) where
+      cause_is : decoder_cause b o costs l ≡ first_of (decoder_causes k o costs l)
+      unfolding decoder_cause_up_to
+      cause_is = rw (← judged, ← is)
+
+      pub refused : (c : ℕ) → c ≡ first_of (decoder_causes k o costs l) → 1 ≤ c → DecoderCall b o costs l (refusal c)
+      refused c e h = refused_by c (cause_is ∙ sym e) h
+
+      pub accepted : 0 ≡ first_of (decoder_causes k o costs l) → Small costs → (d : Decoded) → d ≡ decoded_by k (run quotient (system_of k) o costs) l
+          → DecoderCall b o costs l d
+      unfolding decoder_up_to
+      accepted none small d ran = decoder_call b o costs l d (λ _. small) (rw (cause_is ∙ sym none) (rw is at ran))

@@ -1,3 +1,2 @@
 pub mod Frames
-pub mod Readiness
 pub mod Answers

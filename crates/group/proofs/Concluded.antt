@@ -19,23 +19,23 @@ left_long k n c w e = by (eqb n 0) (outcome k c).number
     by false zero = length_written (word_of k c) w (omega (arith, (outcome_claims k c).word.long)) ∙ e
     by false (suc a) = e
 
--- the word of frame f, of frames with n bits and v values each, which did ks iterations and whose words were in old
-abbrev pub left_in : Code → ℕ → ℕ → List ℤ → List ℕ → List ℕ → ℕ → List ℕ
-left_in k n v values ks old f = word_left k (get_or ks f 0) (part v f values) (part n f old)
+-- the word of frame f, of frames with n bits and v values each, of which frame f did ks f iterations and whose words were in old
+abbrev pub left_in : Code → ℕ → ℕ → List ℤ → (ℕ → ℕ) → List ℕ → ℕ → List ℕ
+left_in k n v values ks old f = word_left k (ks f) (part v f values) (part n f old)
 
 -- f of F frames are concluded, so that their words are now in `word`
-pub record Concluded (k : Code) (n v F : ℕ) (values : List ℤ) (ks old : List ℕ) (f : ℕ) (word : List ℕ) : Type 0 where
+pub record Concluded (k : Code) (n v F : ℕ) (values : List ℤ) (ks : ℕ → ℕ) (old : List ℕ) (f : ℕ) (word : List ℕ) : Type 0 where
   pub bits : n ≡ k.bits
   pub room : F * n ≤ length old
   pub within : f ≤ F
   pub so_far : word ≡ written (blocks f (left_in k n v values ks old)) old
 
-module _ {k : Code} {n v F : ℕ} {values : List ℤ} {ks old : List ℕ} {f : ℕ} {word : List ℕ} (c : Concluded k n v F values ks old f word) where
+module _ {k : Code} {n v F : ℕ} {values : List ℤ} {ks : ℕ → ℕ} {old : List ℕ} {f : ℕ} {word : List ℕ} (c : Concluded k n v F values ks old f word) where
   abbrev left : ℕ → List ℕ
   left = left_in k n v values ks old
 
   sized : Sized n F left
-  sized i h = left_long k (get_or ks i 0) (part v i values) (part n i old) (length_part n i old (omega (arith, part_end n F i h, c.room)) ∙ c.bits) ∙ sym c.bits
+  sized i h = left_long k (ks i) (part v i values) (part n i old) (length_part n i old (omega (arith, part_end n F i h, c.room)) ∙ c.bits) ∙ sym c.bits
 
   front : Sized n f left
   front i h = sized i (omega (arith, c.within))

@@ -1,153 +1,133 @@
-// The decoder of a group (document 02, L7): up to eight frames of one code with the same settings.
+// The decoder of a group: up to eight frames of one code with the same settings.
 #![tactic(auto)]
 
-ghost use Rattle.std.specs.Prelude.{◌≡◌, false, cond, not, map, ℕ, ◌*◌, ◌≤◌, ◌<◌, ltb, length, get_or, replicate};
+ghost use Rattle.std.specs.Prelude.{◌≡◌, false, cond, List, map, ℕ, ◌*◌, ◌≤◌, ◌<◌, ltb, length, get_or, replicate};
 ghost use Rattle.lists.specs.Tabulated.{tab, over, written, part, blocks};
 ghost use Rattle.lists.specs.Entries.{some};
-ghost use Rattle.model.specs.Limits.{most_frames, most_triples, most_variables};
-ghost use Rattle.model.specs.Causes.{◌if◌, first_of};
-ghost use Rattle.model.specs.Code as Code;
-ghost use Rattle.model.specs.Records.{code_of, judge};
+ghost use Rattle.model.specs.Limits.{most_frames};
+ghost use Rattle.model.specs.Causes.{number_of, first_of};
+ghost use Rattle.model.specs.Code.{variables};
 ghost use Rattle.model.specs.Splitting.{system_of};
 ghost use Rattle.model.specs.Iteration.{counts_of};
-ghost use Rattle.model.specs.Calls as Calls;
 ghost use Rattle.model.specs.Calls.{forbidden, lists_of, run_told};
+ghost use Rattle.model.specs.Lent.{contents_of, SameLists};
 ghost use Rattle.model.specs.DecoderClaims.{Small};
 ghost use Rattle.model.specs.Group as Group;
-ghost use Rattle.model.specs.Group.{group_input_causes, group_told, group_decoded, work_size};
-ghost use Rattle.model.specs.GroupClaims.{GroupFits};
+ghost use Rattle.model.specs.Group.{group_causes, group_told, group_decoded, no_group_room};
 ghost use Rattle.model.specs.GroupPromises.{GroupCall};
-ghost use Rattle.group.specs.Room.{too_short};
-ghost use Rattle.group.specs.Ends.{Ran, answer_of, word_left};
+ghost use Rattle.group_step.specs.Frames.{iterations, stop_of};
+ghost use Rattle.group_step.specs.declared.Stage.TheVariants.{Idle};
+ghost use Rattle.group.specs.Told.{told};
+ghost use Rattle.group.specs.Ends.{plan_of, stage_for, AcceptedGroup, Ran, answer_of, word_left};
 
+use group_step::Stage;
 use lanes::Plan;
-use model::{DecodeAnswer, Ending, GroupAnswer, MOST_FRAMES, Reading, Settings};
+use model::{Cause, DecodeAnswer, Decoding, Ending, GroupAnswer, Lists, MOST_FRAMES, Settings};
+use reader::Code;
 
 // ---- the causes
 
-// The lengths of the lent lists.
-#[derive(Drop)]
-struct Room {
-    triples: usize,
-    counts: usize,
-    sums: usize,
-    values: usize,
-    rows: usize,
-    word: usize,
-    work: usize,
-}
-
-// How many lanes so many frames take.
-fn lanes_for(frames: usize) -> usize
-    ensures { (result ≡ Group.lanes frames) × (result ≤ 8) }
+// The lanes of so many frames, one four or two, and the sizes of the code.
+fn plan_for(code: &Code, frames: usize) -> Plan
+    ensures { result ≡ plan_of code.now frames }
 {
-    if frames <= 4 { 4 } else { 8 }
+    Plan {
+        lanes: if frames <= 4 { 4 } else { 8 },
+        triples: code.triples(),
+        variables: code.variables(),
+        bits: code.bits(),
+    }
 }
 
 // 10: a lent list that is too short for the frames.
-fn no_room(frames: usize, bits: usize, total: usize, variables: usize, room: Room) -> bool
-    requires { (frames ≤ most_frames) × (total ≤ most_triples) × (variables ≤ most_variables) × (bits ≤ variables) }
-    ensures { result ≡ too_short frames bits total variables room }
+fn lacks_room(code: &Code, frames: usize, lists: &Lists, work: &[i32]) -> bool
+    requires { frames ≤ most_frames }
+    ensures { result ≡ no_group_room code.now frames (contents_of lists.now) work.now }
 {
-    let work = lanes_for(frames) * (4 * total + 3 * variables + 3 * bits);
-    (room.triples < 3 * total)
-        | ((room.counts < variables)
-            | ((room.sums < frames * variables)
-                | ((room.values < frames * variables)
-                    | ((room.rows < frames * (4 * total))
-                        | ((room.word < frames * bits) | (room.work < work))))))
+    decoder::lacks_room(code, frames, lists) || work.len() < plan_for(code, frames).size()
 }
 
-// The first of 11, 21, 12 and 10, or 0.
-fn cause(
+// The first cause of a group with a sound code: 11, 21, 12, 10. Not the decoder's causes: 21 stands between 11 and 12, and a cost of -32,768 is its frame's own.
+fn judge(
+    code: &Code,
     settings: Settings,
     frames: usize,
     costs: &[i16],
-    bits: usize,
-    total: usize,
-    variables: usize,
-    room: Room,
-) -> u32
-    requires { (total ≤ most_triples) × (variables ≤ most_variables) × (bits ≤ variables) }
-    ensures { result ≡ first_of (group_input_causes (Calls.out_of_range settings) frames costs.now bits (too_short frames bits total variables room)) }
+    lists: &Lists,
+    work: &[i32],
+) -> Result<(), Cause>
+    ensures { number_of result ≡ first_of (group_causes code.now settings frames costs.now (contents_of lists.now) work.now) }
 {
     if inputs::out_of_range(settings) {
-        return 11;
+        return Err(Cause::Setting);
     }
-    if (frames < 1) | (MOST_FRAMES < frames) {
-        return 21;
+    if frames < 1 || MOST_FRAMES < frames {
+        return Err(Cause::Frames);
     }
-    if costs.len() != frames * bits {
-        return 12;
+    if costs.len() != frames * code.bits() {
+        return Err(Cause::Lengths);
     }
-    if no_room(frames, bits, total, variables, room) {
-        10
-    } else {
-        0
+    if lacks_room(code, frames, lists, work) {
+        return Err(Cause::Room);
     }
+    Ok(())
 }
 
 // ---- an accepted call
 
-// The mark of a frame with these costs: 1 where none is false, so that it runs.
-fn mark(costs: &[i16]) -> u32
-    ensures value { result ≡ 1 if not (some forbidden costs.now) }
+// The stage of a frame with these costs: it runs where none is -32,768.
+fn stage_of(costs: &[i16]) -> Stage
+    ensures value { result ≡ stage_for costs.now }
     ensures small { some forbidden costs.now ≡ false → Small costs.now }
 {
-    if inputs::some_forbidden(costs) { 0 } else { 1 }
+    if inputs::some_forbidden(costs) {
+        Stage::Idle
+    } else {
+        Stage::Running
+    }
 }
 
-fn mark_frames(costs: &[i16], bits: usize, frames: usize, running: &mut [u32])
-    requires { (length costs.now ≡ frames * bits) × (frames ≤ length running.old) }
-    ensures running_after { running.new ≡ over frames (λ f. 1 if not (some forbidden (part bits f costs.now))) running.old }
-    ensures by_index { (f : ℕ) → f < frames → some forbidden (part bits f costs.now) ≡ false → Small (part bits f costs.now) }
+// The stages of so many frames.
+fn begin_frames(costs: &[i16], bits: usize, frames: usize, stages: &mut [Stage; 8])
+    requires { (length costs.now ≡ frames * bits) × (frames ≤ length stages.old) }
+    ensures stages { stages.new ≡ over frames (λ f. stage_for (part bits f costs.now)) stages.old }
+    ensures small { (f : ℕ) → f < frames → some forbidden (part bits f costs.now) ≡ false → Small (part bits f costs.now) }
 {
-    for i in 0..frames {
-        let from = i * bits;
+    for f in 0..frames {
+        let from = f * bits;
         let to = from + bits;
-        running[i] = mark(&costs[from..to]);
+        stages[f] = stage_of(&costs[from..to]);
     }
 }
 
 // The triples and the counts of the code are written, and the frames without a false cost are run.
 fn run_system(
-    code: &[u8],
+    code: &Code,
     settings: Settings,
     frames: usize,
     costs: &[i16],
-    bits: usize,
-    total: usize,
-    variables: usize,
     triples: &mut [u16],
     counts: &mut [u16],
     sums: &mut [i64],
     values: &mut [i16],
     rows: &mut [i32],
     work: &mut [i32],
-    ks: &mut [u32],
-    settled: &mut [u32],
+    stages: &mut [Stage; 8],
 )
-    requires code_value { (judge code.now ≡ 0) × (bits ≡ (code_of code.now).bits) × (total ≡ Code.triples (code_of code.now))
-        × (variables ≡ Code.variables (code_of code.now)) }
-    requires settings_value { (Calls.out_of_range settings ≡ false) × (frames ≤ most_frames) × (length costs.now ≡ frames * bits) }
-    requires total_in_bounds { (3 * total ≤ length triples.old) × (variables ≤ length counts.old) × (work_size (code_of code.now) frames ≤ length work.old) }
-    requires variables_in_bounds { (frames * variables ≤ length sums.old) × (frames * variables ≤ length values.old) × (frames * (4 * total) ≤ length rows.old) }
-    requires ks_value { (ks.old ≡ replicate most_frames 0) × (settled.old ≡ replicate most_frames 0) }
-    ensures fact { let g = system_of (code_of code.now) in
-        (triples.new ≡ written g.members triples.old) × (counts.new ≡ written (counts_of g) counts.old) }
-    ensures ran { Ran (code_of code.now) settings frames costs.now ks.new settled.new
+    requires accepted { (word : List ℕ) × AcceptedGroup code.now settings frames costs.now
+        (lists_of triples.old counts.old sums.old values.old rows.old word) work.old }
+    requires stages { stages.old ≡ replicate most_frames Idle }
+    ensures split { (triples.new ≡ written (system_of code.now).members triples.old)
+        × (counts.new ≡ written (counts_of (system_of code.now)) counts.old) }
+    ensures ran { Ran code.now settings frames costs.now stages.new
         sums.old values.old rows.old sums.new values.new rows.new }
 {
-    triples::write_system(code, total, variables, triples, counts);
-    let mut running = [0u32; 8];
-    mark_frames(costs, bits, frames, &mut running);
-    let p = Plan {
-        lanes: lanes_for(frames),
-        triples: total,
-        variables,
-        bits,
-    };
-    let size = lanes::size(p);
+    let total = code.triples();
+    let variables = code.variables();
+    triples::write_system(code, triples, counts);
+    begin_frames(costs, code.bits(), frames, stages);
+    let p = plan_for(code, frames);
+    let size = p.size();
     let v_end = frames * variables;
     let r_end = frames * (4 * total);
     group_run::run(
@@ -158,9 +138,7 @@ fn run_system(
         p,
         frames,
         &mut work[..size],
-        &mut running,
-        ks,
-        settled,
+        stages,
         &mut sums[..v_end],
         &mut values[..v_end],
         &mut rows[..r_end],
@@ -168,79 +146,72 @@ fn run_system(
 }
 
 // A frame that ended as told, or that has a false cost and did no iteration: what its values say, and its word.
-fn conclude_frame(
-    code: &[u8],
-    bits: usize,
-    checks: usize,
-    values: &[i16],
-    k: u32,
-    settled: u32,
-    word: &mut [u8],
-) -> DecodeAnswer
-    requires code_value { (judge code.now ≡ 0) × (bits ≡ (code_of code.now).bits) × (checks ≡ length (code_of code.now).checks) }
-    requires bits_in_bounds { (bits ≤ length values.now) × (bits ≤ length word.old) }
-    ensures result_value { run_told result ≡ answer_of (code_of code.now) k settled values.now }
-    ensures word_after { word.new ≡ word_left (code_of code.now) k values.now word.old }
+fn conclude_frame(code: &Code, values: &[i16], stage: Stage, word: &mut [u8]) -> DecodeAnswer
+    requires room { (code.now.bits ≤ length values.now) × (code.now.bits ≤ length word.old) }
+    ensures answer { run_told result ≡ answer_of code.now (iterations stage) (stop_of stage) values.now }
+    ensures word { word.new ≡ word_left code.now (iterations stage) values.now word.old }
 {
+    let (k, settled) = match stage {
+        Stage::Ended { k, settled } => (k, settled),
+        _ => (0, false),
+    };
     if k == 0 {
-        return outcome::alone(13);
+        return DecodeAnswer::from(Err(Cause::Cost));
     }
+    let conclusion = outcome::conclude(code, values, word);
     let ending = Ending { k, settled };
-    outcome::answer(outcome::conclude(code, bits, checks, values, ending, word))
+    DecodeAnswer::from(Ok(Decoding { conclusion, ending }))
+}
+
+// What is told of a frame that a group does not have.
+fn nothing() -> DecodeAnswer
+    ensures { run_told result ≡ Group.alone 0 }
+{
+    DecodeAnswer {
+        number: 0,
+        place: 0,
+        k: 0,
+        settled: 0,
+    }
 }
 
 // The answers of all frames.
 fn conclude(
-    code: &[u8],
-    bits: usize,
-    checks: usize,
-    variables: usize,
+    code: &Code,
     frames: usize,
     values: &[i16],
-    ks: &[u32],
-    settled: &[u32],
+    stages: &[Stage; 8],
     word: &mut [u8],
 ) -> [DecodeAnswer; 8]
-    requires code_value { (judge code.now ≡ 0) × (bits ≡ (code_of code.now).bits) × (checks ≡ length (code_of code.now).checks)
-        × (variables ≡ Code.variables (code_of code.now)) }
-    requires frames_le_most_frames { (frames ≤ most_frames) × (length ks.now ≡ most_frames) × (length settled.now ≡ most_frames) }
-    requires variables_in_bounds { (frames * variables ≤ length values.now) × (frames * bits ≤ length word.old) }
-    ensures result_value { map run_told result ≡ tab most_frames (λ f. cond (ltb f frames)
-        (answer_of (code_of code.now) (get_or ks.now f 0) (get_or settled.now f 0) (part variables f values.now))
+    requires frames { (frames ≤ most_frames) × (length stages.now ≡ most_frames) }
+    requires room { (frames * variables code.now ≤ length values.now) × (frames * code.now.bits ≤ length word.old) }
+    ensures answers { map run_told result ≡ tab most_frames (λ f. cond (ltb f frames)
+        (answer_of code.now (iterations (get_or stages.now f Idle)) (stop_of (get_or stages.now f Idle)) (part (variables code.now) f values.now))
         (Group.alone 0)) }
-    ensures word_after { word.new ≡ written (blocks frames (λ f.
-        word_left (code_of code.now) (get_or ks.now f 0) (part variables f values.now) (part bits f word.old)))
+    ensures words { word.new ≡ written (blocks frames (λ f.
+        word_left code.now (iterations (get_or stages.now f Idle)) (part (variables code.now) f values.now) (part code.now.bits f word.old)))
         word.old }
 {
-    let mut told = [outcome::alone(0); 8];
+    let bits = code.bits();
+    let variables = code.variables();
+    let mut told = [nothing(); 8];
     for f in 0..frames {
         let v = f * variables;
         let v_end = v + variables;
         let b = f * bits;
         let b_end = b + bits;
-        told[f] = conclude_frame(
-            code,
-            bits,
-            checks,
-            &values[v..v_end],
-            ks[f],
-            settled[f],
-            &mut word[b..b_end],
-        );
+        told[f] = conclude_frame(code, &values[v..v_end], stages[f], &mut word[b..b_end]);
     }
     told
 }
 
 // The frames are run, and their last values tell their answers.
+// By slices: what a field of `Lists` holds is not known any more once its list was lent to be read.
 fn decode_accepted(
-    code: &[u8],
+    code: &Code,
     settings: Settings,
     frames: usize,
     costs: &[i16],
-    bits: usize,
-    checks: usize,
-    total: usize,
-    variables: usize,
     triples: &mut [u16],
     counts: &mut [u16],
     sums: &mut [i64],
@@ -249,98 +220,71 @@ fn decode_accepted(
     word: &mut [u8],
     work: &mut [i32],
 ) -> [DecodeAnswer; 8]
-    requires bits_value { (bits ≡ (code_of code.now).bits) × (checks ≡ length (code_of code.now).checks) × (total ≡ Code.triples (code_of code.now))
-        × (variables ≡ Code.variables (code_of code.now)) }
-    requires group_fits { GroupFits code.now settings frames costs.now (lists_of triples.old counts.old sums.old values.old rows.old word.old) work.old }
-    ensures after_after { let before = lists_of triples.old counts.old sums.old values.old rows.old word.old in
+    requires accepted { AcceptedGroup code.now settings frames costs.now (lists_of triples.old counts.old sums.old values.old rows.old word.old) work.old }
+    ensures decoded { let before = lists_of triples.old counts.old sums.old values.old rows.old word.old in
         let after = lists_of triples.new counts.new sums.new values.new rows.new word.new in
-        record { number = 0; answers = map run_told result; lists = after } ≡ group_decoded (code_of code.now) settings frames costs.now before }
-    ensures by_index { (f : ℕ) → f < frames → (let own = part bits f costs.now in some forbidden own ≡ false → Small own) }
+        record { number = 0; answers = map run_told result; lists = after } ≡ group_decoded code.now settings frames costs.now before }
+    ensures small { (f : ℕ) → f < frames → (let own = part code.now.bits f costs.now in some forbidden own ≡ false → Small own) }
 {
-    let mut ks = [0u32; 8];
-    let mut settled = [0u32; 8];
+    let mut stages = [Stage::Idle; 8];
     run_system(
         code,
         settings,
         frames,
         costs,
-        bits,
-        total,
-        variables,
         triples,
         counts,
         sums,
         values,
         rows,
         work,
-        &mut ks,
-        &mut settled,
+        &mut stages,
     );
-    conclude(
-        code, bits, checks, variables, frames, values, &ks, &settled, word,
-    )
+    conclude(code, frames, values, &stages, word)
 }
 
 // ---- the entry
 
-// A refused group.
-fn refuse(number: u32) -> GroupAnswer
-    ensures { (result.number ≡ number) × (map run_told result.frames ≡ replicate most_frames (Group.alone 0)) }
+// What C is told of a group.
+pub fn answer(decoded: Result<[DecodeAnswer; 8], Cause>) -> GroupAnswer
+    ensures { (l : Lists) → group_told result l ≡ told decoded l }
 {
-    GroupAnswer {
-        number,
-        frames: [outcome::alone(0); 8],
+    match decoded {
+        Ok(frames) => GroupAnswer { number: 0, frames },
+        Err(cause) => GroupAnswer {
+            number: cause.number(),
+            frames: [nothing(); 8],
+        },
     }
 }
 
-// The decoder of a group. A refused call leaves every list as it was; a frame with a false cost has 13, and its parts stay. What the work list holds after an
-// accepted call is open.
+// The decoder of a group, in lists with room for all frames (`Lists`) and a list of work; or the first cause, of the code, then 11, 21, 12 and 10. A refused call
+// leaves every list as it was; a frame with a cost of -32,768 has 13, and its parts stay. What the list of work holds after an accepted call is open.
 pub fn decode(
     code: &[u8],
     settings: Settings,
     frames: usize,
     costs: &[i16],
-    triples: &mut [u16],
-    counts: &mut [u16],
-    sums: &mut [i64],
-    values: &mut [i16],
-    rows: &mut [i32],
-    word: &mut [u8],
+    lists: &mut Lists,
     work: &mut [i32],
-) -> GroupAnswer
-    ensures call { let before = lists_of triples.old counts.old sums.old values.old rows.old word.old in
-        let after = lists_of triples.new counts.new sums.new values.new rows.new word.new in
-        GroupCall code.now settings frames costs.now before work.old (group_told result after) work.new }
+) -> Result<[DecodeAnswer; 8], Cause>
+    ensures call { GroupCall code.now settings frames costs.now (contents_of lists.old) work.old
+        (told result (contents_of lists.new)) work.new }
+    ensures same { SameLists lists.old lists.new }
 {
-    let reading = reader::read(code);
-    match reading {
-        Reading::Refused(refused) => refuse(refused),
-        Reading::Code {
-            bits,
-            checks,
-            triples: total,
-        } => {
-            let variables = bits + total - checks;
-            let room = Room {
-                triples: triples.len(),
-                counts: counts.len(),
-                sums: sums.len(),
-                values: values.len(),
-                rows: rows.len(),
-                word: word.len(),
-                work: work.len(),
-            };
-            let refused = cause(settings, frames, costs, bits, total, variables, room);
-            if refused != 0 {
-                return refuse(refused);
-            }
-            GroupAnswer {
-                number: 0,
-                frames: decode_accepted(
-                    code, settings, frames, costs, bits, checks, total, variables, triples, counts,
-                    sums, values, rows, word, work,
-                ),
-            }
-        }
-    }
+    let code = Code::read(code)?;
+    judge(&code, settings, frames, costs, lists, work)?;
+    Ok(decode_accepted(
+        &code,
+        settings,
+        frames,
+        costs,
+        &mut *lists.triples,
+        &mut *lists.counts,
+        &mut *lists.sums,
+        &mut *lists.values,
+        &mut *lists.rows,
+        &mut *lists.word,
+        work,
+    ))
 }

@@ -6,24 +6,10 @@ use Rattle.lists.specs.Tabulated.{part}
 use Rattle.lists.proofs.Parts.{part_back, replaced_part}
 use Rattle.model.specs.Run.{Ended}
 use Rattle.lanes.specs.declared.Plan.{Plan}
-use Rattle.lane_step.specs.Step.{runs}
-use Rattle.group_step.specs.Frames.{ended_in}
-use Rattle.group_run.proofs.Running.{unmarked}
-
--- entry f becomes x
-stored : (l : List ℕ) (f x : ℕ) → f < length l → (g : ℕ) → get_or (set l f x) g 0 ≡ cond (eqb g f) x (get_or l g 0)
-stored l f x h g = by (eqb g f) refl
-  where
-    by : (t : Bool) → eqb g f ≡ t → get_or (set l f x) g 0 ≡ cond t x (get_or l g 0)
-    by true e = ap (λ (i : ℕ). get_or (set l f x) i 0) (eqb-true g f e) ∙ get_or-set_same l f x 0 h
-    by false e = get_or-set_other l f g x 0 (eqb-false g f e)
-
-pub stops : (running : List ℕ) (f : ℕ) → f < length running → (g : ℕ) → runs (set running f 0) g ≡ cond (eqb g f) false (runs running g)
-stops running f h g = by (eqb g f) refl (stored running f 0 h g)
-  where
-    by : (t : Bool) → eqb g f ≡ t → get_or (set running f 0) g 0 ≡ cond t 0 (get_or running g 0) → runs (set running f 0) g ≡ cond t false (runs running g)
-    by true _ e = unmarked (set running f 0) g e
-    by false _ e = rw e refl
+use Rattle.group_step.specs.declared.Stage.{Stage}
+use Rattle.group_step.specs.Frames.{is_running, iterations, stop_of, going, ended_in}
+use Rattle.group_step.specs.declared.Stage.TheVariants as stage
+use Rattle.group_step.proofs.Settled.{going_here, going_there}
 
 -- part f, which was lent as m entries, comes back as x
 returned : (size f m : ℕ) (x l : List ℤ) → m ≡ size → suc f * size ≤ length l → length x ≡ size → (g : ℕ)
@@ -31,26 +17,41 @@ returned : (size f m : ℕ) (x l : List ℤ) → m ≡ size → suc f * size ≤
 returned size f m x l e room long g = rw (part_back size f m x l e) (replaced_part size f x l room long g)
 
 -- the frame has ended as x
-module _ (p : Plan) (f : ℕ) (ks settled : List ℕ) (S c s : List ℤ) (k_room : f < length ks) (t_room : f < length settled)
+module _ (p : Plan) (f : ℕ) (stages : List Stage) (S c s : List ℤ) (inside : f < length stages)
     (S_room : suc f * p.variables ≤ length S) (c_room : suc f * p.variables ≤ length c) (s_room : suc f * (4 * p.triples) ≤ length s)
-    (k t m n : ℕ) (S' c' s' : List ℤ) (m_is : m ≡ p.variables) (n_is : n ≡ 4 * p.triples)
+    (own : Stage) (m n : ℕ) (S' c' s' : List ℤ) (m_is : m ≡ p.variables) (n_is : n ≡ 4 * p.triples)
     (S_long : length S' ≡ p.variables) (c_long : length c' ≡ p.variables) (s_long : length s' ≡ 4 * p.triples) where
-  pub ended_alone : (x : Ended) → record { k = k; settled = t; last = record { sums = S'; values = c'; rows = s' } } ≡ x → (g : ℕ)
-      → ended_in p (set ks f k) (set settled f t) (put_mid (f * p.variables) m S S') (put_mid (f * p.variables) m c c') (put_mid (f * (4 * p.triples)) n s s') g
-      ≡ cond (eqb g f) x (ended_in p ks settled S c s g)
+  stored : (g : ℕ) → get_or (set stages f own) g stage.Idle ≡ cond (eqb g f) own (get_or stages g stage.Idle)
+  stored g = by (eqb g f) refl
+    where
+      by : (t : Bool) → eqb g f ≡ t → get_or (set stages f own) g stage.Idle ≡ cond t own (get_or stages g stage.Idle)
+      by true e = ap (λ (i : ℕ). get_or (set stages f own) i stage.Idle) (eqb-true g f e) ∙ get_or-set_same stages f own stage.Idle inside
+      by false e = get_or-set_other stages f g own stage.Idle (eqb-false g f e)
+
+  pub ended_alone : (x : Ended) → record { k = iterations own; settled = stop_of own; last = record { sums = S'; values = c'; rows = s' } } ≡ x → (g : ℕ)
+      → ended_in p (set stages f own) (put_mid (f * p.variables) m S S') (put_mid (f * p.variables) m c c') (put_mid (f * (4 * p.triples)) n s s') g
+      ≡ cond (eqb g f) x (ended_in p stages S c s g)
   ended_alone x e g =
       rw (
-        stored ks f k k_room g,
-        stored settled f t t_room g,
+        stored g,
         returned p.variables f m S' S m_is S_room S_long g,
         returned p.variables f m c' c m_is c_room c_long g,
         returned (4 * p.triples) f n s' s n_is s_room s_long g,
       ) (by (eqb g f))
     where
       by : (b : Bool) → ◌≡◌ {A = Ended} (record {
-        k = cond b k (get_or ks g 0);
-        settled = cond b t (get_or settled g 0);
+        k = iterations (cond b own (get_or stages g stage.Idle));
+        settled = stop_of (cond b own (get_or stages g stage.Idle));
         last = record { sums = cond b S' (part p.variables g S); values = cond b c' (part p.variables g c); rows = cond b s' (part (4 * p.triples) g s) };
-      }) (cond b x (ended_in p ks settled S c s g))
+      }) (cond b x (ended_in p stages S c s g))
       by true = e
       by false = refl
+
+-- a frame that does not run at f, and all others as they were
+pub stops : (stages : List Stage) (f : ℕ) (own : Stage) → is_running own ≡ false → f < length stages → (g : ℕ)
+    → going (set stages f own) g ≡ cond (eqb g f) false (going stages g)
+stops stages f own e h g = by (eqb g f) refl
+  where
+    by : (t : Bool) → eqb g f ≡ t → going (set stages f own) g ≡ cond t false (going stages g)
+    by true q = ap (going (set stages f own)) (eqb-true g f q) ∙ going_here stages f own h ∙ e
+    by false q = going_there stages f own g (eqb-false g f q)

@@ -21,8 +21,9 @@ use Rattle.model.proofs.Rows.{none}
 use Rattle.model.proofs.Bounds.{start_within}
 use Rattle.lanes.specs.declared.Plan.{Plan}
 use Rattle.lanes.specs.Lanes.{in_lane, values_at, sums_at, weighed_at, lane_rows, lane_values, lane_sum, lane_sums, low_part, high_part, lane_weighed, lane_state, SumsKept}
-use Rattle.lane_step.specs.Step.{runs, system_for, Summed, Small}
-use Rattle.group_step.specs.Frames.{frame_now}
+use Rattle.lane_step.specs.Step.{system_for, Summed, Small}
+use Rattle.group_step.specs.declared.Stage.{Stage}
+use Rattle.group_step.specs.Frames.{going, frame_now}
 use Rattle.run.proofs.Remains.{any}
 use Rattle.group_run.specs.Given.{Given}
 use Rattle.group_run.specs.Course.{ends, Put, InLanes}
@@ -102,11 +103,11 @@ module _ (p : Plan) (w : List ℤ) (l : ℕ) (rows : (j : ℕ) → j < values_at
   started k ts = rw (lane_sums_lem 1 (omega arith), values_are, rows_are, tab_replicate p.variables (pos 0)) refl
 
 -- ---- lanes that begin as w₁ and, when the frames that run have their costs, are w₂
-module _ {p : Plan} {F : ℕ} {o : Settings} {ts counts : List ℕ} {costs : List ℤ} {running : List ℕ} (given : Given p F o ts counts costs running)
-    (below : (f : ℕ) → runs running f ≡ true → f < F) {w₁ w₂ : List ℤ}
+module _ {p : Plan} {F : ℕ} {o : Settings} {ts counts : List ℕ} {costs : List ℤ} {stages : List Stage} (given : Given p F o ts counts costs stages)
+    (below : (f : ℕ) → going stages f ≡ true → f < F) {w₁ w₂ : List ℤ}
     (values : (l v : ℕ) → l < p.lanes → v < p.variables → in_lane p.lanes w₁ l (values_at p + v) ≡ pos unit)
     (rows : (l j : ℕ) → l < p.lanes → j < values_at p → in_lane p.lanes w₁ l j ≡ pos 0)
-    (behind : (l j : ℕ) → l < p.lanes → sums_at p 0 ≤ j → in_lane p.lanes w₁ l j ≡ pos 0) (put : Put p o.weight costs running F w₁ w₂) where
+    (behind : (l j : ℕ) → l < p.lanes → sums_at p 0 ≤ j → in_lane p.lanes w₁ l j ≡ pos 0) (put : Put p o.weight costs stages F w₁ w₂) where
   module _ (l : ℕ) (h : l < p.lanes) where
     rows₂ : (j : ℕ) → j < values_at p → in_lane p.lanes w₂ l j ≡ pos 0
     rows₂ j k = put.before l j h (omega arith) ∙ rows l j h k
@@ -118,9 +119,9 @@ module _ {p : Plan} {F : ℕ} {o : Settings} {ts counts : List ℕ} {costs : Lis
     sums₂ j k m = put.before l j h m ∙ behind l j h k
 
     within : (v : ℕ) → nat_abs (lane_weighed p w₂ l v) ≤ most_weight * most_cost
-    within v = by (runs running l) refl
+    within v = by (going stages l) refl
       where
-        by : (t : Bool) → runs running l ≡ t → nat_abs (lane_weighed p w₂ l v) ≤ most_weight * most_cost
+        by : (t : Bool) → going stages l ≡ t → nat_abs (lane_weighed p w₂ l v) ≤ most_weight * most_cost
         by true r =
             let ready = given.ready l (below l r) r in
             rw (put.weighed l (below l r) r v, abs_mul (pos o.weight) (at (part p.bits l costs) v)) (mul-le-mul ready.weight (ready.cost v))
@@ -129,10 +130,10 @@ module _ {p : Plan} {F : ℕ} {o : Settings} {ts counts : List ℕ} {costs : Lis
             = when_none _ (ltb v p.bits) (put.others l (weighed_at p + v) h r ∙ behind l (weighed_at p + v) h (omega arith)) in
             rw z (omega arith)
 
-  lane_below : (f : ℕ) → runs running f ≡ true → f < p.lanes
+  lane_below : (f : ℕ) → going stages f ≡ true → f < p.lanes
   lane_below f r = omega (arith, below f r, given.lanes)
 
-  pub in_lanes : InLanes p o ts counts 0 0 running w₂
+  pub in_lanes : InLanes p o ts counts 0 0 stages w₂
   in_lanes = record {
     fits = put.fits;
     small = λ l h. small p w₂ l (rows₂ l h) (values₂ l h) (sums₂ l h) counts (within l h);
@@ -142,15 +143,15 @@ module _ {p : Plan} {F : ℕ} {o : Settings} {ts counts : List ℕ} {costs : Lis
   }
 
   -- how the frames end from there
-  pub from_start : (k : Code) (ks settled : List ℕ) (S c s : List ℤ) (f : ℕ)
-      → end_of (system_for k p ts) o (part p.bits f costs) (frame_now p 1 0 w₂ running ks settled S c s f) ≡ ends p o k ts costs 0 running ks settled S c s f
-  from_start k ks settled S c s f = by (runs running f) refl
+  pub from_start : (k : Code) (S c s : List ℤ) (f : ℕ)
+      → end_of (system_for k p ts) o (part p.bits f costs) (frame_now p 1 0 w₂ stages S c s f) ≡ ends p o k ts costs 0 stages S c s f
+  from_start k S c s f = by (going stages f) refl
     where
       g : System
       g = system_for k p ts
 
-      by : (t : Bool) → runs running f ≡ t
-          → end_of g o (part p.bits f costs) (frame_now p 1 0 w₂ running ks settled S c s f) ≡ ends p o k ts costs 0 running ks settled S c s f
+      by : (t : Bool) → going stages f ≡ t
+          → end_of g o (part p.bits f costs) (frame_now p 1 0 w₂ stages S c s f) ≡ ends p o k ts costs 0 stages S c s f
       by true r =
           let h = lane_below f r in
           rw (r, started p w₂ f (rows₂ f h) (values₂ f h) (sums₂ f h) k ts) (steps_are_runs g o (part p.bits f costs)).begins

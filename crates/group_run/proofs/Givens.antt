@@ -15,13 +15,13 @@ use Rattle.lanes.specs.declared.Plan.{Plan}
 use Rattle.lanes.specs.Lanes.{most_narrow}
 use Rattle.lane_values.specs.Valued.{Counted}
 use Rattle.lane_triples.specs.Walk.{Tripled, Narrow}
-use Rattle.lane_step.specs.Step.{runs}
-use Rattle.group_step.specs.Frames.{Held}
+use Rattle.group_step.specs.declared.Stage.{Stage}
+use Rattle.group_step.specs.Frames.{going, Held}
 use Rattle.group_run.specs.Given.{Given}
 
 -- fewer frames run
-pub given_still : {p : Plan} {F : ℕ} {o : Settings} {ts counts : List ℕ} {costs : List ℤ} {running : List ℕ} (still : List ℕ)
-    → ((f : ℕ) → runs still f ≡ true → runs running f ≡ true) → Given p F o ts counts costs running → Given p F o ts counts costs still
+pub given_still : {p : Plan} {F : ℕ} {o : Settings} {ts counts : List ℕ} {costs : List ℤ} {stages : List Stage} (still : List Stage)
+    → ((f : ℕ) → going still f ≡ true → going stages f ≡ true) → Given p F o ts counts costs stages → Given p F o ts counts costs still
 given_still still h g = record {
   frames = g.frames;
   lanes = g.lanes;
@@ -37,7 +37,7 @@ given_still still h g = record {
   ready = λ f l r. g.ready f l (h f r);
 }
 
-module _ {p : Plan} {F : ℕ} {o : Settings} {ts counts : List ℕ} {costs : List ℤ} {running : List ℕ} (given : Given p F o ts counts costs running) where
+module _ {p : Plan} {F : ℕ} {o : Settings} {ts counts : List ℕ} {costs : List ℤ} {stages : List Stage} (given : Given p F o ts counts costs stages) where
   -- ---- the counts
   count_is : (v : ℕ) → v < p.variables → get_or counts v 0 ≡ occurrences ts p.triples v
   count_is v h = ap (λ (l : List ℕ). get_or l v 0) given.counted ∙ get_or_tab p.variables (occurrences ts p.triples) v 0 h
@@ -46,7 +46,7 @@ module _ {p : Plan} {F : ℕ} {o : Settings} {ts counts : List ℕ} {costs : Lis
   counts_long = ap length given.counted ∙ length_tab p.variables (occurrences ts p.triples)
 
   -- by a frame that runs
-  pub counted : (f : ℕ) → f < F → runs running f ≡ true → Counted p counts
+  pub counted : (f : ℕ) → f < F → going stages f ≡ true → Counted p counts
   counted f h r =
       let ready = given.ready f h r in
       record {
@@ -88,7 +88,7 @@ module _ {p : Plan} {F : ℕ} {o : Settings} {ts counts : List ℕ} {costs : Lis
       rows_end = omega (arith, part_end (4 * p.triples) F f h, held.rows_long)
 
       -- are lists that a run can work in
-      pub lent : runs running f ≡ true
+      pub lent : going stages f ≡ true
           → Lent o ts counts (part p.bits f costs) p.triples (part p.variables f S) (part p.variables f c) (part (4 * p.triples) f s)
       lent r =
           let long = length_part p.variables f c values_end in

@@ -1,3 +1,4 @@
+pub mod Parts
 pub mod Running
 pub mod Costs
 pub mod Steps

@@ -7,10 +7,11 @@ use Rattle.model.specs.Splitting.{Members}
 use Rattle.model.specs.Iteration.{occurrences}
 use Rattle.model.specs.Bounds.{Ready}
 use Rattle.lanes.specs.declared.Plan.{Plan}
-use Rattle.lane_step.specs.Step.{runs}
+use Rattle.group_step.specs.declared.Stage.{Stage}
+use Rattle.group_step.specs.Frames.{going}
 
 -- the triples of a code with the plan's sizes, their counts, and the costs of F frames, of which those that run have no false one
-pub record Given (p : Plan) (F : ℕ) (o : Settings) (ts counts : List ℕ) (costs : List ℤ) (running : List ℕ) : Type 0 where
+pub record Given (p : Plan) (F : ℕ) (o : Settings) (ts counts : List ℕ) (costs : List ℤ) (stages : List Stage) : Type 0 where
   pub frames : F ≤ most_frames
   pub lanes : F ≤ p.lanes
   pub triples : p.triples ≤ most_triples
@@ -22,4 +23,4 @@ pub record Given (p : Plan) (F : ℕ) (o : Settings) (ts counts : List ℕ) (cos
   pub auxiliaries : (v : ℕ) → p.bits ≤ v → v < p.variables → occurrences ts p.triples v ≡ 2
   pub costs_long : length costs ≡ F * p.bits
   pub limit : (1 ≤ o.limit) × (o.limit ≤ most_iterations)
-  pub ready : (f : ℕ) → f < F → runs running f ≡ true → Ready p.variables ts p.triples o (part p.bits f costs)
+  pub ready : (f : ℕ) → f < F → going stages f ≡ true → Ready p.variables ts p.triples o (part p.bits f costs)

@@ -61,7 +61,7 @@ module _ (p : Plan) (o : Settings) (i k : ℕ) (w : List ℤ) (l : List Stage) (
   goes h z m = at_one f before (λ g. stopped_by o (σ g) (before g)) before (rw (h, z, lt-ltb k o.limit m) refl) (λ g _. refl)
 
   -- one that is stopped is in its parts
-  module _ (p' : Plan) (l' : List Stage) (S' c' s' : List ℤ) (settled : Bool) (same : p' ≡ p) (stored : l' ≡ set l f (stage.Ended k settled)) (is : σ f ≡ (1 if settled)) (inside : f < length l)
+  module _ (p' : Plan) (l' : List Stage) (S' c' s' : List ℤ) (settled : Bool) (same : p' ≡ p) (stored : l' ≡ set l f (stage.Ended (record { k = k; settled = settled }))) (is : σ f ≡ (1 if settled)) (inside : f < length l)
       (parts : (g : ℕ) → part_state p' S' c' s' g ≡ cond (eqb g f) (lane_state p i w f) (part_state p S c s g)) where
     abbrev after : ℕ → Frame
     after g = frame_now p' i k w l' S' c' s' g
@@ -72,17 +72,17 @@ module _ (p : Plan) (o : Settings) (i k : ℕ) (w : List ℤ) (l : List Stage) (
     there : (g : ℕ) → (g ≡ f → ⊥) → part_state p' S' c' s' g ≡ part_state p S c s g
     there g d = parts g ∙ rw (ne_eqb g f d) refl
 
-    own : get_or l' f stage.Idle ≡ stage.Ended k settled
-    own = rw stored (get_or-set_same l f (stage.Ended k settled) stage.Idle inside)
+    own : get_or l' f stage.Idle ≡ stage.Ended (record { k = k; settled = settled })
+    own = rw stored (get_or-set_same l f (stage.Ended (record { k = k; settled = settled })) stage.Idle inside)
 
     other : (g : ℕ) → (g ≡ f → ⊥) → get_or l' g stage.Idle ≡ get_or l g stage.Idle
-    other g d = rw stored (get_or-set_other l f g (stage.Ended k settled) stage.Idle d)
+    other g d = rw stored (get_or-set_other l f g (stage.Ended (record { k = k; settled = settled })) stage.Idle d)
 
     stops : going l' f ≡ false
-    stops = rw stored (going_here l f (stage.Ended k settled) inside)
+    stops = rw stored (going_here l f (stage.Ended (record { k = k; settled = settled })) inside)
 
     goes_as : (g : ℕ) → (g ≡ f → ⊥) → going l' g ≡ going l g
-    goes_as g d = rw stored (going_there l f (stage.Ended k settled) g d)
+    goes_as g d = rw stored (going_there l f (stage.Ended (record { k = k; settled = settled })) g d)
 
     pub stopped : going l f ≡ true → (eqb (σ f) 0 && ltb k o.limit) ≡ false → (g : ℕ) → after g ≡ cond (eqb g f) (stopped_by o (σ g) (before g)) (before g)
     stopped h e =
@@ -93,11 +93,6 @@ module _ (p : Plan) (o : Settings) (i k : ℕ) (w : List ℤ) (l : List Stage) (
 -- a stage, and its mark
 pub goes_by : (l : List Stage) (f : ℕ) → going l f ≡ is_running (get_or l f stage.Idle)
 goes_by l f = get_or-map is_running l f stage.Idle
-
--- the number of a stop, told by whether it settled the frame
-pub number_of : (b : Bool) → (1 if b) ≡ (1 if not (eqb (1 if b) 0))
-number_of true = refl
-number_of false = refl
 
 -- where it does, or the limit is reached, the frame does not run on
 pub runs_out : (b : Bool) (k K : ℕ) → (b || leb K k) ≡ true → (eqb (1 if b) 0 && ltb k K) ≡ false

@@ -1,6 +1,7 @@
 -- What the frames of a group hold while they run: in lanes those that run, in their parts of the lists those that do not. Definitions only.
 use Rattle.std.specs.Prelude.{Bool, true, false, cond, ◌&&◌, List, map, ◌≡◌, ℕ, ◌*◌, ◌<◌, ltb, eqb, ℤ, length, get_or}
 use Rattle.lists.specs.Tabulated.{part}
+use Rattle.model.specs.Limits.{most_frames}
 use Rattle.model.specs.declared.Settings.{Settings}
 use Rattle.model.specs.Causes.{◌if◌}
 use Rattle.model.specs.Iteration.{State}
@@ -16,17 +17,17 @@ use Rattle.group_step.specs.declared.Stage.TheVariants as stage
 abbrev pub is_running : Stage → Bool
 is_running stage.Idle = false
 is_running stage.Running = true
-is_running (stage.Ended k settled) = false
+is_running (stage.Ended e) = false
 
 abbrev pub iterations : Stage → ℕ
 iterations stage.Idle = 0
 iterations stage.Running = 0
-iterations (stage.Ended k settled) = k
+iterations (stage.Ended e) = e.k
 
 abbrev pub stop_of : Stage → ℕ
 stop_of stage.Idle = 0
 stop_of stage.Running = 0
-stop_of (stage.Ended k settled) = 1 if settled
+stop_of (stage.Ended e) = 1 if e.settled
 
 -- those of all frames: which run, and whether frame f does
 abbrev pub marks : List Stage → List Bool
@@ -60,6 +61,7 @@ pub record Held (p : Plan) (F : ℕ) (S c s : List ℤ) : Type 0 where
 
 -- the stages of eight frames, of which only the F frames of the group run
 pub record Marks (F : ℕ) (stages : List Stage) : Type 0 where
+  pub long : length stages ≡ most_frames
   pub below : (f : ℕ) → going stages f ≡ true → f < F
 
 -- what becomes of a frame after an iteration that stops it or not, by the number s

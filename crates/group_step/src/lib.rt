@@ -7,18 +7,18 @@ ghost use Rattle.group_step.specs.Frames.{is_running, marks, going, Held, Marks}
 
 use lane_renewal::{Totals, Walk};
 use lane_values::Divisors;
-use model::Settings;
+use model::{Ending, Settings};
 
 // How far a frame is. A frame with a false cost is idle: it does not run.
 #[derive(Clone, Copy)]
 pub enum Stage {
     Idle,
     Running,
-    Ended { k: u32, settled: bool },
+    Ended(Ending),
 }
 
 impl Stage {
-    fn runs(self) -> bool
+    pub fn runs(self) -> bool
         ensures { result ≡ is_running self }
     {
         match self {
@@ -37,6 +37,7 @@ pub struct Frames<'a, 'b> {
     pub sums: &'b mut [i64],
     pub values: &'b mut [i16],
     pub rows: &'b mut [i32],
+    pub ghost few: { count ≤ 8 },
     pub ghost room: { count ≤ walk.plan.lanes },
     pub ghost marked: { Marks count stages },
     pub ghost held: { Held walk.plan count sums.now values.now rows.now },
@@ -48,7 +49,6 @@ impl Frames<'_, '_> {
     ghost use Rattle.model.specs.Code.{Code};
     ghost use Rattle.model.specs.Group.{onward};
     ghost use Rattle.lanes.specs.Lanes.{Fits, Raised, lane_state, lane_weighed};
-    ghost use Rattle.lane_values.specs.Divisors.{Ready};
     ghost use Rattle.lane_values.specs.Valued.{Counted};
     ghost use Rattle.lane_renewal.specs.Counting.{settled_in};
     ghost use Rattle.lane_step.specs.Step.{system_for, Weighed, Summed, Small};
@@ -103,9 +103,9 @@ impl Frames<'_, '_> {
     {
         if self.stages[f].runs() {
             let tolerance = u64::from(settings.tolerance);
-            let settled = renewal::settles(totals.multipliers[f], totals.slacks[f], tolerance) != 0;
+            let settled = renewal::settles(totals.multipliers[f], totals.slacks[f], tolerance);
             if settled | (settings.limit <= k) {
-                self.stages[f] = Stage::Ended { k, settled };
+                self.stages[f] = Stage::Ended(Ending { k, settled });
                 self.take_out(work, i, f);
             }
         }
@@ -135,7 +135,7 @@ impl Frames<'_, '_> {
     )
         requires fits { Fits self.old.walk.plan work.old × (i ≤ 1) × (k < most_iterations)
             × Counted self.old.walk.plan self.old.walk.counts.now }
-        requires ready { Ready divisors.now × (divisors.now.ratio ≡ settings.ratio) }
+        requires ratio { divisors.now.any ≡ settings.ratio }
         requires one_runs { (f : ℕ) × (going self.old.stages f ≡ true) }
         requires small { (l : ℕ) → l < self.old.walk.plan.lanes
             → Small self.old.walk.plan self.old.walk.counts.now k work.old l }

@@ -1,5 +1,6 @@
 -- What the form of a text says of its sides, and of the code that its rows are. Assumes nothing.
-use Rattle.integers.proofs.Prelude.{◌≡◌, sym, ap₂, ◌∙◌, true, List, map, ℕ, ◌*◌, ◌≤◌, arith, ltb, length, get_or, take}
+use Rattle.integers.proofs.Prelude.{◌≡◌, sym, ap, subst, ◌∙◌, true, false, List, map, ℕ, ◌*◌, ◌≤◌, arith, ltb, length, get_or, take}
+use Rattle.std.specs.Prelude.{Some, None}
 use Rattle.lists.specs.Entries.{every}
 use Rattle.lists.proofs.Tests.{same_test}
 use Rattle.model.specs.Limits.{most_number}
@@ -11,10 +12,11 @@ use Rattle.numbers.specs.declared.Side.{Side}
 use Rattle.numbers.specs.Walked.{Small}
 use Rattle.numbers.proofs.Walk.{small_at}
 use Rattle.alist.specs.declared.Form.{Form}
-use Rattle.alist.specs.Form.{filled_lists, Stands, Formed}
+use Rattle.alist.specs.Form.{filled_lists, columns_of, rows_of, form_of}
 use Rattle.alist.proofs.Parts.{parts_of, lists_say}
+use Rattle.alist.proofs.Reading.{some_then, none_then}
 use Rattle.places.specs.Held.{Held, lists_of}
-use Rattle.importer.specs.Rows.{named_in, Sided, lowered, code_of_rows}
+use Rattle.importer.specs.Rows.{named_in, Sided, code_of_rows}
 
 -- ---- lists agree with what fills them as they do without it
 module _ (ds es : List ℕ) (cs rs : List (List ℕ)) (p : all_filled ds cs ≡ true) (q : all_filled es rs ≡ true) where
@@ -33,33 +35,18 @@ record Listed (count most : ℕ) (ds l : List ℕ) : Type 0 where
   lengths : map length (listed (take count ds) (pieces count most l)) ≡ take count ds
   indices : every (every (ltb 0)) (listed (take count ds) (pieces count most l)) ≡ true
 
-module _ {s : List ℕ} {side : Side} {count most : ℕ} {ds l : List ℕ} (at : Stands s side count most ds l) (h : Listed count most ds l) where
+module _ {count most : ℕ} {ds l : List ℕ} (h : Listed count most ds l) where
+  abbrev side : Side
+  side = record { count = count; most = most; degrees = ds; lists = l }
+
   side_numbers : Small (count * most) l × (all_filled (take count ds) (pieces count most l) ≡ true)
   side_numbers = lists_say count most ds l h.degrees.long h.lists
 
-  side_held : Held s side
-  side_held = record {
-    within = at.lists_within;
-    numbers = rw (at.count_is, at.most_is, at.lists_at) side_numbers.0;
-    count = rw at.count_is h.small_count;
-    most = rw at.most_is h.small_most;
-  }
+  side_held : Held side
+  side_held = record { numbers = side_numbers.0; count = h.small_count; most = h.small_most }
 
-  side_lists : lists_of s side ≡ pieces count most l
-  side_lists = rw (at.count_is, at.most_is, at.lists_at)
-
-  side_named : named_in s side ≡ listed (take count ds) (pieces count most l)
-  side_named = rw (at.count_is, at.most_is, at.degrees_at, at.lists_at)
-
-  side_sided : Sided s side
-  side_sided = record {
-    degrees_within = at.degrees_within;
-    lists_within = at.lists_within;
-    degrees = rw (at.count_is, at.degrees_at) h.degrees;
-    numbers = rw (at.count_is, at.most_is, at.lists_at) side_numbers.0;
-    lengths = rw (at.count_is, at.most_is, at.degrees_at, at.lists_at) h.lengths;
-    indices = rw (at.count_is, at.most_is, at.degrees_at, at.lists_at) h.indices;
-  }
+  side_sided : Sided side
+  side_sided = record { degrees = h.degrees; numbers = side_numbers.0; lengths = h.lengths; indices = h.indices }
 
 -- ---- both sides of a text whose form is sound
 module _ (l : List ℕ) (sound : well_formed l ≡ true) where
@@ -89,41 +76,40 @@ module _ (l : List ℕ) (sound : well_formed l ≡ true) where
         indices = f.row_indices;
       }
 
-module _ {s : List ℕ} {f : Form} (told : Formed s f) (fine : f.sound ≡ true) where
+-- ---- the form that was read
+pub no_form_read : (s : List ℕ) → None ≡ form_of (numbers_of 0 s) → well_formed (numbers_of 0 s) ≡ false
+no_form_read s e = none_then (well_formed (numbers_of 0 s)) _ e
+
+module _ (s : List ℕ) {f : Form} (told : Some f ≡ form_of (numbers_of 0 s)) where
   abbrev l : List ℕ
   l = numbers_of 0 s
 
+  read : (well_formed l ≡ true) × (f ≡ record { columns = columns_of l; rows = rows_of l })
+  read = some_then (well_formed l) _ f told
+
   pub formed : well_formed l ≡ true
-  formed = sym told.sound ∙ fine
+  formed = read.0
 
-  pub columns_sided : Sided s f.columns
-  columns_sided = side_sided (told.columns fine) (columns_listed l formed)
+  pub columns_sided : Sided f.columns
+  columns_sided = subst (λ (f : Form). Sided f.columns) (sym read.1) (side_sided (columns_listed l formed))
 
-  pub rows_sided : Sided s f.rows
-  rows_sided = side_sided (told.rows fine) (rows_listed l formed)
+  pub rows_sided : Sided f.rows
+  rows_sided = subst (λ (f : Form). Sided f.rows) (sym read.1) (side_sided (rows_listed l formed))
 
-  pub sides_held : Held s f.columns × Held s f.rows
-  sides_held = (side_held (told.columns fine) (columns_listed l formed), side_held (told.rows fine) (rows_listed l formed))
-
-  columns_named : named_in s f.columns ≡ named (columns l)
-  columns_named = side_named (told.columns fine) (columns_listed l formed)
-
-  rows_named : named_in s f.rows ≡ named (rows l)
-  rows_named = side_named (told.rows fine) (rows_listed l formed)
+  pub sides_held : Held f.columns × Held f.rows
+  sides_held = subst (λ (f : Form). Held f.columns × Held f.rows) (sym read.1) (side_held (columns_listed l formed), side_held (rows_listed l formed))
 
   -- what agrees
-  pub named_agree : agree (named_in s f.columns) (named_in s f.rows) ≡ agree (named (columns l)) (named (rows l))
-  named_agree = ap₂ agree columns_named rows_named
+  pub named_agree : agree (named_in f.columns) (named_in f.rows) ≡ agree (named (columns l)) (named (rows l))
+  named_agree = ap (λ (f : Form). agree (named_in f.columns) (named_in f.rows)) read.1
 
-  pub lists_agree : agree (lists_of s f.columns) (lists_of s f.rows) ≡ agree (named (columns l)) (named (rows l))
+  pub lists_agree : agree (lists_of f.columns) (lists_of f.rows) ≡ agree (named (columns l)) (named (rows l))
   lists_agree =
-      let c = columns_listed l formed in
-      let r = rows_listed l formed in
-      ap₂ agree (side_lists (told.columns fine) c) (side_lists (told.rows fine) r)
-      ∙ agree_listed (columns l).degrees (rows l).degrees (columns l).lists (rows l).lists (side_numbers (told.columns fine) c).1
-      (side_numbers (told.rows fine) r).1
+      ap (λ (f : Form). agree (lists_of f.columns) (lists_of f.rows)) read.1
+      ∙ agree_listed (columns l).degrees (rows l).degrees (columns l).lists (rows l).lists (side_numbers (columns_listed l formed)).1
+      (side_numbers (rows_listed l formed)).1
 
   -- the code
-  pub code_is : code_of_rows s f.columns.count f.rows ≡ code_of_text s
+  pub code_is : code_of_rows f.columns.count f.rows ≡ code_of_text s
   unfolding code_in
-  code_is = ap₂ (λ (n : ℕ) (rs : List (List ℕ)). record { bits = n; checks = map lowered rs }) (told.columns fine).count_is rows_named
+  code_is = ap (λ (f : Form). code_of_rows f.columns.count f.rows) read.1

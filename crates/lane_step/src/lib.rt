@@ -9,7 +9,6 @@ ghost use Rattle.model.specs.Code.{Code};
 ghost use Rattle.model.specs.Iteration as Iteration;
 ghost use Rattle.model.specs.Run as Run;
 ghost use Rattle.lanes.specs.Lanes.{Fits, lane_state, lane_weighed};
-ghost use Rattle.lane_values.specs.Divisors.{Ready};
 ghost use Rattle.lane_values.specs.Valued.{Counted};
 ghost use Rattle.lane_renewal.specs.Counting.{settled_in};
 ghost use Rattle.lane_step.specs.Step.{runs, some_run, system_for, Weighed, Summed, Small};
@@ -50,7 +49,7 @@ pub fn advance(
     work: &mut [i32],
 ) -> Totals
     requires fits { Fits walk.now.plan work.old × (i ≤ 1) × Counted walk.now.plan walk.now.counts.now }
-    requires ready { Ready divisors.now × (divisors.now.ratio ≡ settings.ratio) }
+    requires ratio { divisors.now.any ≡ settings.ratio }
     requires one_runs { (f : ℕ) × (runs running.now f ≡ true) }
     requires below { (f : ℕ) → runs running.now f ≡ true → f < walk.now.plan.lanes }
     requires small { (l : ℕ) → l < walk.now.plan.lanes → Small walk.now.plan walk.now.counts.now most_done work.old l }

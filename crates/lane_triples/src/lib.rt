@@ -103,7 +103,7 @@ fn is_wide(counts: &[u16], v: usize) -> bool
     requires { v < length counts.now }
     ensures { result ≡ is_wide counts.now v }
 {
-    MOST_NARROW < slices::index(counts[v])
+    MOST_NARROW < usize::from(counts[v])
 }
 
 // x is added to the sum at i, in two parts where it is wide; the high part stands at j.
@@ -144,7 +144,7 @@ fn renew_any(
     w: usize,
 )
     requires may_step { MayStep lanes work.old (any_places counts.now lanes i values next apart u v w) }
-    requires u_in_bounds { (u < length counts.now) × (v < length counts.now) × (eqb w blank ≡ false → w < length counts.now) }
+    requires variables_counted { (u < length counts.now) × (v < length counts.now) × (eqb w blank ≡ false → w < length counts.now) }
     requires w_bound { (lanes * w < 2 ^ 32) × (values < 2 ^ 32) × (next < 2 ^ 32) × (apart < 2 ^ 32) }
     ensures { work.new ≡ after lanes work.old (any_places counts.now lanes i values next apart u v w) 3 }
 {
@@ -162,37 +162,8 @@ fn renew_any(
 
 // ---- the walk
 
-// Triple t, of which it is known that it is narrow, in the lanes from..to.
-fn walk_narrow(
-    triples: &[u16],
-    p: Plan,
-    values: usize,
-    next: usize,
-    from: usize,
-    to: usize,
-    t: usize,
-    work: &mut [i32],
-)
-    requires fits { Fits p work.old × Halves p from to × (t < p.triples) }
-    requires by_index { (counts : List ℕ) × Narrow p triples.now counts × Begun p triples.now counts values next from to t work.old }
-    ensures by_index_2 { (counts : List ℕ) → Narrow p triples.now counts
-        → Walks p triples.now counts values next from to t (t + 1) work.old work.new }
-    ensures same_beside { SameBeside p from to work.old work.new }
-{
-    let u = p.lanes * layout::variable(triples, t, 0);
-    let v = p.lanes * layout::variable(triples, t, 1);
-    let w = p.lanes * layout::variable(triples, t, 2);
-    let mut l = from;
-    while l < to {
-        let value = values + l;
-        let sum = next + l;
-        renew_narrow(work, p.lanes, 4 * p.lanes * t + l, value, sum, u, v, w);
-        l += 4;
-    }
-}
-
-// Any triple.
-fn walk_any(
+// Triple t in the lanes from..to. It may be known that it is narrow.
+fn walk<const NARROW: bool>(
     triples: &[u16],
     counts: &[u16],
     p: Plan,
@@ -204,57 +175,40 @@ fn walk_any(
     work: &mut [i32],
 )
     requires fits { Fits p work.old × Halves p from to × (t < p.triples) }
+    requires narrow { NARROW ≡ true → Narrow p triples.now counts.now }
     requires begun { Begun p triples.now counts.now values next from to t work.old }
     ensures walks { Walks p triples.now counts.now values next from to t (t + 1) work.old work.new }
     ensures same_beside { SameBeside p from to work.old work.new }
 {
+    let lanes = p.lanes;
     let u = layout::variable(triples, t, 0);
     let v = layout::variable(triples, t, 1);
     let w = layout::variable(triples, t, 2);
-    let apart = p.lanes * p.variables;
-    let mut l = from;
-    while l < to {
-        renew_any(
-            counts,
-            work,
-            p.lanes,
-            4 * p.lanes * t + l,
-            values + l,
-            next + l,
-            apart,
-            u,
-            v,
-            w,
-        );
-        l += 4;
+    for l in (from..to).step_by(4) {
+        let i = 4 * lanes * t + l;
+        let value = values + l;
+        let sum = next + l;
+        if NARROW {
+            renew_narrow(work, lanes, i, value, sum, lanes * u, lanes * v, lanes * w);
+        } else {
+            renew_any(
+                counts,
+                work,
+                lanes,
+                i,
+                value,
+                sum,
+                lanes * p.variables,
+                u,
+                v,
+                w,
+            );
+        }
     }
 }
 
-// The triples from t to `end`, all narrow.
-fn walk_all_narrow(
-    triples: &[u16],
-    p: Plan,
-    values: usize,
-    next: usize,
-    from: usize,
-    to: usize,
-    t: usize,
-    end: usize,
-    work: &mut [i32],
-)
-    requires fits { Fits p work.old × Halves p from to × (t ≤ end) × (end ≤ p.triples) }
-    requires by_index { (counts : List ℕ) × Narrow p triples.now counts × Begun p triples.now counts values next from to t work.old }
-    ensures by_index_2 { (counts : List ℕ) → Narrow p triples.now counts
-        → Walks p triples.now counts values next from to t end work.old work.new }
-    ensures same_beside { SameBeside p from to work.old work.new }
-{
-    for i in t..end {
-        walk_narrow(triples, p, values, next, from, to, i, work);
-    }
-}
-
-// Any triples.
-fn walk_all(
+// The triples from t to `end`.
+fn walk_all<const NARROW: bool>(
     triples: &[u16],
     counts: &[u16],
     p: Plan,
@@ -267,12 +221,13 @@ fn walk_all(
     work: &mut [i32],
 )
     requires fits { Fits p work.old × Halves p from to × (t ≤ end) × (end ≤ p.triples) }
+    requires narrow { NARROW ≡ true → Narrow p triples.now counts.now }
     requires begun { Begun p triples.now counts.now values next from to t work.old }
     ensures walks { Walks p triples.now counts.now values next from to t end work.old work.new }
     ensures same_beside { SameBeside p from to work.old work.new }
 {
     for i in t..end {
-        walk_any(triples, counts, p, values, next, from, to, i, work);
+        walk::<NARROW>(triples, counts, p, values, next, from, to, i, work);
     }
 }
 
@@ -313,8 +268,8 @@ pub fn renew_range(
     let values = lanes::values_at(p);
     let next = lanes::sums_at(p, i);
     if known {
-        walk_all_narrow(triples, p, values, next, from, to, t, end, work);
+        walk_all::<true>(triples, counts, p, values, next, from, to, t, end, work);
     } else {
-        walk_all(triples, counts, p, values, next, from, to, t, end, work);
+        walk_all::<false>(triples, counts, p, values, next, from, to, t, end, work);
     }
 }

@@ -1,4 +1,3 @@
 pub mod Valued
 pub mod Stored
 pub mod Places
-pub mod Divisors

@@ -1,16 +1,14 @@
 -- What c of the variables is worked out from in lanes, and what is written. Definitions only.
 use Rattle.std.specs.Prelude.{List, ◌≡◌, ℕ, ◌+◌, ◌-◌, ◌*◌, ◌≤◌, ◌<◌, ℤ, pos, neg_ℤ, nat_abs, ◌+ℤ◌, ◌*ℤ◌, length, get_or}
 use Rattle.quotient.specs.Quotient.{unit, quotient}
-use Rattle.quotient.specs.Narrowed.{Narrowed}
 use Rattle.model.specs.Limits.{most_checks, most_weight, most_cost}
 use Rattle.model.specs.Iteration.{at, divisor}
 use Rattle.lanes.specs.declared.Plan.{Plan}
 use Rattle.lanes.specs.Lanes.{in_lane, values_at, sums_at, weighed_at, lane_sum, lane_weighed, most_narrow}
 
--- entry c of the three lists stands for the divisor of variables in c triples, A being the ratio: from 2 to 8
-abbrev pub NarrowTables : ℕ → List ℤ → List ℕ → List ℕ → Type 0
-NarrowTables A limits inverses raises =
-    (c : ℕ) → 2 ≤ c → c ≤ most_narrow → Narrowed (divisor (4 * c) A) (at limits c) (get_or inverses c 0) (get_or raises c 0)
+-- entry c of the list is the divisor of variables in c triples, A being the ratio: from 2 to 8
+abbrev pub NarrowTables : ℕ → List ℤ → Type 0
+NarrowTables A narrow = (c : ℕ) → 2 ≤ c → c ≤ most_narrow → at narrow c ≡ divisor (4 * c) A
 
 -- the variables from..to are in as many triples as v
 abbrev pub Same : List ℕ → ℕ → ℕ → ℕ → Type 0

@@ -1,73 +1,52 @@
-// c of all variables (document 01, 'One iteration') in all lanes of a group. Variables in 2 to 8 triples are divided by 32-bit factors; the others as in a single
+// c of all variables in all lanes of a group. Variables in 2 to 8 triples are divided by 32-bit factors; the others as in a single
 // run, one lane after the other.
 #![tactic(auto)]
 
-ghost use Rattle.std.specs.Prelude.{true, [], ◌∷◌, ◌≡◌, ℕ, ◌+◌, ◌-◌, ◌*◌, ◌^◌, ◌≤◌, ◌<◌, ℤ, pos, nat_abs, ◌+ℤ◌, ◌*ℤ◌, length};
+ghost use Rattle.std.specs.Prelude.{true, [], ◌∷◌, ◌≡◌, ℕ, ◌+◌, ◌-◌, ◌*◌, ◌^◌, ◌≤◌, ◌<◌, ℤ, pos, nat_abs, ◌+ℤ◌, ◌*ℤ◌, length, ◌≤ℤ◌};
 ghost use Rattle.quotient.specs.Quotient.{unit};
-ghost use Rattle.quotient.specs.Narrowed.{Narrowed};
 ghost use Rattle.model.specs.Limits.{most_checks, most_weight, most_ratio, most_cost, most_numerator};
 ghost use Rattle.model.specs.Iteration.{at, divisor};
-ghost use Rattle.values.specs.Divisors.{Tables};
-ghost use Rattle.lanes.specs.Lanes.{sums_at, Fits, SumsKept};
+ghost use Rattle.lanes.specs.Lanes.{sums_at, Fits, SumsKept, most_narrow};
 ghost use Rattle.lane_values.specs.Stored.{Parts, Stored};
 ghost use Rattle.lane_values.specs.Valued.{NarrowTables, Same, Counted, WeighedWithin, LaneValued};
-ghost use Rattle.lane_values.specs.Divisors.{Ready};
 ghost use Rattle.lane_values.specs.Places.{whole, wide_value, narrow_value, auxiliary_value, wide_parts, bit_parts, auxiliary_parts, bit_value, Entries};
 
 use lanes::{MOST_NARROW, Plan};
+use quotient::Narrow;
 
 // So many counts are compared at once.
 const BLOCK: usize = 64;
 
-// The divisors of a ratio, made ready.
+// "256 × e − A", for a variable in `count` triples
+fn divisor(count: usize, ratio: u32) -> i64
+    requires { (2 ≤ count) × (count ≤ most_narrow) × (ratio ≤ most_ratio) }
+    ensures value { result ≡ divisor (4 * count) ratio }
+    ensures narrow { (pos 1025 ≤ℤ result) × (result ≤ℤ pos 8192) }
+{
+    (1024 * count) as i64 - i64::from(ratio)
+}
+
+// The divisors of a ratio, made ready: those of 2 to 8 triples by their number, and those of any number, of which a clause sees the ratio.
 #[derive(Drop)]
 pub struct Divisors {
-    pub ratio: u32,
-    // of 2 to 8 triples, by their number
-    pub bounds: [i32; 9],
-    pub factors: [u32; 9],
-    pub raises: [u64; 9],
-    // of 1 triple and more, in their order
-    pub limits: [i64; 31],
-    pub inverses: [i64; 31],
+    pub narrow: [Narrow; 9],
+    pub any: values::Divisors,
+    pub ghost narrow_for: { NarrowTables any narrow },
 }
 
 impl Divisors {
     pub fn new(ratio: u32) -> Self
         requires { ratio ≤ most_ratio }
-        ensures { (result.ratio ≡ ratio) × Ready result }
+        ensures { result.any ≡ ratio }
     {
-        let mut bounds = [0; 9];
-        let mut factors = [0; 9];
-        let mut raises = [0; 9];
-        prepare(ratio, &mut bounds, &mut factors, &mut raises);
-        let mut limits = [0; 31];
-        let mut inverses = [0; 31];
-        values::prepare(ratio, &mut limits, &mut inverses);
-        Divisors {
-            ratio,
-            bounds,
-            factors,
-            raises,
-            limits,
-            inverses,
+        let mut narrow = [Narrow::new(divisor(2, ratio)); 9];
+        for count in 2..9 {
+            narrow[count] = Narrow::new(divisor(count, ratio));
         }
-    }
-}
-
-// The divisors of 2 to 8 triples, made ready.
-fn prepare(ratio: u32, limits: &mut [i32], inverses: &mut [u32], raises: &mut [u64])
-    requires { (ratio ≤ most_ratio) × (length limits.old ≡ 9) × (length inverses.old ≡ 9) × (length raises.old ≡ 9) }
-    ensures { NarrowTables ratio limits.new inverses.new raises.new }
-{
-    for count in 2..9 {
-        let narrow = quotient::prepare_narrow((1024 * count) as i64 - (ratio as i64));
-        let limit = narrow.limit;
-        limits[count] = limit;
-        let inverse = narrow.inverse;
-        inverses[count] = inverse;
-        let raise = narrow.raise;
-        raises[count] = raise;
+        Divisors {
+            narrow,
+            any: values::Divisors::new(ratio),
+        }
     }
 }
 
@@ -80,21 +59,18 @@ fn write_narrow(
     next: usize,
     from: usize,
     to: usize,
-    limit: i32,
-    inverse: u32,
-    raise: u64,
+    narrow: Narrow,
 )
     requires from_le_to { (from ≤ to) × Parts to (length work.old) (values ∷ next ∷ sums ∷ weighed ∷ []) }
-    requires by_index { (i : ℕ) → from ≤ i → i < to
+    requires in_range { (i : ℕ) → from ≤ i → i < to
         → (nat_abs (at work.old (sums + i)) ≤ 2 ^ 31 - 2 ^ 24) × (nat_abs (at work.old (weighed + i)) ≤ most_weight * most_cost) }
-    requires narrowed { (den : ℤ) × Narrowed den limit inverse raise }
-    ensures { (den : ℤ) → Narrowed den limit inverse raise
-        → Stored 2 (values ∷ next ∷ sums ∷ weighed ∷ []) (narrow_value work.old sums weighed den) from to work.old work.new }
+    ensures { Stored 2 (values ∷ next ∷ sums ∷ weighed ∷ []) (narrow_value work.old sums weighed narrow) from to
+        work.old work.new }
 {
     for i in from..to {
         let s = work[sums + i];
         let w = work[weighed + i];
-        work[values + i] = quotient::divide_narrow(s, w, limit, inverse, raise);
+        work[values + i] = narrow.divide(s, w);
         work[next + i] = 0;
     }
 }
@@ -107,19 +83,15 @@ fn write_auxiliaries(
     next: usize,
     from: usize,
     to: usize,
-    limit: i32,
-    inverse: u32,
-    raise: u64,
+    narrow: Narrow,
 )
     requires from_le_to { (from ≤ to) × Parts to (length work.old) (values ∷ next ∷ sums ∷ []) }
-    requires by_index { (i : ℕ) → from ≤ i → i < to → nat_abs (at work.old (sums + i)) ≤ 2 ^ 31 - 2 ^ 24 }
-    requires narrowed { (den : ℤ) × Narrowed den limit inverse raise }
-    ensures { (den : ℤ) → Narrowed den limit inverse raise
-        → Stored 2 (values ∷ next ∷ sums ∷ []) (auxiliary_value work.old sums den) from to work.old work.new }
+    requires in_range { (i : ℕ) → from ≤ i → i < to → nat_abs (at work.old (sums + i)) ≤ 2 ^ 31 - 2 ^ 24 }
+    ensures { Stored 2 (values ∷ next ∷ sums ∷ []) (auxiliary_value work.old sums narrow) from to work.old work.new }
 {
     for i in from..to {
         let s = work[sums + i];
-        work[values + i] = quotient::divide_alone(s, limit, inverse, raise);
+        work[values + i] = narrow.divide_alone(s);
         work[next + i] = 0;
     }
 }
@@ -135,7 +107,7 @@ fn weighed_whole(low: i32, high: i32, weighed: i32) -> i64
 fn raised(c: i16) -> i32
     ensures { result ≡ c +ℤ pos unit }
 {
-    (c as i32) + 16384
+    i32::from(c) + 16384
 }
 
 // The same of bits in any number of triples, whose sums have two parts: the high ones stand `apart` behind the low ones.
@@ -149,19 +121,17 @@ fn write_wide(
     from: usize,
     to: usize,
     count: usize,
-    ratio: u32,
-    limits: &[i64],
-    inverses: &[i64],
+    divisors: &values::Divisors,
 )
     requires from_le_to { (from ≤ to) × Parts to (length work.old) (wide_parts values next sums apart weighed) }
-    requires by_index { (i : ℕ) → from ≤ i → i < to → nat_abs (whole work.old sums (sums + apart) weighed i) ≤ most_numerator }
-    requires le_count { (1 ≤ count) × (count ≤ most_checks) × (ratio ≤ most_ratio) × Tables ratio limits.now inverses.now }
+    requires in_range { (i : ℕ) → from ≤ i → i < to → nat_abs (whole work.old sums (sums + apart) weighed i) ≤ most_numerator }
+    requires count { (1 ≤ count) × (count ≤ most_checks) }
     ensures { Stored 3 (wide_parts values next sums apart weighed)
-        (wide_value work.old sums (sums + apart) weighed (divisor (4 * count) ratio)) from to work.old work.new }
+        (wide_value work.old sums (sums + apart) weighed (divisor (4 * count) divisors.now)) from to work.old work.new }
 {
     for i in from..to {
         let x = weighed_whole(work[sums + i], work[sums + apart + i], work[weighed + i]);
-        work[values + i] = raised(values::divide(x, count, ratio, limits, inverses));
+        work[values + i] = raised(divisors.divide(x, count));
         work[next + i] = 0;
         work[next + apart + i] = 0;
     }
@@ -221,27 +191,20 @@ fn same_until(counts: &[u16], v: usize, end: usize) -> usize
 // The variables from v to `end`, which are bits and in equally many triples.
 fn write_bits(
     counts: &[u16],
-    ratio: u32,
-    limits32: &[i32],
-    inverses32: &[u32],
-    raises: &[u64],
-    limits: &[i64],
-    inverses: &[i64],
+    divisors: &Divisors,
     p: Plan,
     i: usize,
     v: usize,
     end: usize,
     work: &mut [i32],
 )
-    requires fits { Fits p work.old × (i ≤ 1) × (ratio ≤ most_ratio) × Counted p counts.now }
-    requires limits32_len { (length limits32.now ≡ 9) × (length inverses32.now ≡ 9) × (length raises.now ≡ 9) }
-    requires narrow_tables { NarrowTables ratio limits32.now inverses32.now raises.now × Tables ratio limits.now inverses.now }
+    requires fits { Fits p work.old × (i ≤ 1) × Counted p counts.now }
     requires v_lt_end { (v < end) × (end ≤ p.bits) × Same counts.now v v end }
     requires entries { Entries p counts.now i work.old (p.lanes * v) (p.lanes * end) }
-    ensures { Stored 3 (bit_parts p i) (bit_value p counts.now ratio i work.old) (p.lanes * v) (p.lanes * end)
+    ensures { Stored 3 (bit_parts p i) (bit_value p counts.now divisors.now.any i work.old) (p.lanes * v) (p.lanes * end)
         work.old work.new }
 {
-    let count = slices::index(counts[v]);
+    let count = usize::from(counts[v]);
     let weighed = p.weighed_at();
     let sums = p.sums_at(i);
     let values = p.values_at();
@@ -257,9 +220,7 @@ fn write_bits(
             next,
             from,
             to,
-            limits32[count],
-            inverses32[count],
-            raises[count],
+            divisors.narrow[count],
         );
     } else {
         write_wide(
@@ -272,65 +233,37 @@ fn write_bits(
             from,
             to,
             count,
-            ratio,
-            limits,
-            inverses,
+            &divisors.any,
         );
     }
 }
 
 // All bits, those in equally many triples that follow one another together.
-fn write_all_bits(
-    counts: &[u16],
-    ratio: u32,
-    limits32: &[i32],
-    inverses32: &[u32],
-    raises: &[u64],
-    limits: &[i64],
-    inverses: &[i64],
-    p: Plan,
-    i: usize,
-    work: &mut [i32],
-)
-    requires fits { Fits p work.old × (i ≤ 1) × (ratio ≤ most_ratio) × Counted p counts.now }
-    requires limits32_len { (length limits32.now ≡ 9) × (length inverses32.now ≡ 9) × (length raises.now ≡ 9) }
-    requires narrow_tables { NarrowTables ratio limits32.now inverses32.now raises.now × Tables ratio limits.now inverses.now }
+fn write_all_bits(counts: &[u16], divisors: &Divisors, p: Plan, i: usize, work: &mut [i32])
+    requires fits { Fits p work.old × (i ≤ 1) × Counted p counts.now }
     requires entries { Entries p counts.now i work.old 0 (p.lanes * p.bits) }
-    ensures { Stored 3 (bit_parts p i) (bit_value p counts.now ratio i work.old) 0 (p.lanes * p.bits)
+    ensures { Stored 3 (bit_parts p i) (bit_value p counts.now divisors.now.any i work.old) 0 (p.lanes * p.bits)
         work.old work.new }
 {
     let mut v = 0;
     while v < p.bits {
         let end = same_until(counts, v, p.bits);
-        write_bits(
-            counts, ratio, limits32, inverses32, raises, limits, inverses, p, i, v, end, work,
-        );
+        write_bits(counts, divisors, p, i, v, end, work);
         v = end;
     }
 }
 
 // All auxiliaries. Each is in two triples; the count is read from the list all the same, for the sake of the compiled loop.
-fn write_all_auxiliaries(
-    counts: &[u16],
-    limits32: &[i32],
-    inverses32: &[u32],
-    raises: &[u64],
-    p: Plan,
-    i: usize,
-    work: &mut [i32],
-)
+fn write_all_auxiliaries(counts: &[u16], divisors: &Divisors, p: Plan, i: usize, work: &mut [i32])
     requires fits { Fits p work.old × (i ≤ 1) × Counted p counts.now }
-    requires limits32_len { (length limits32.now ≡ 9) × (length inverses32.now ≡ 9) × (length raises.now ≡ 9) }
-    requires by_index { (ratio : ℕ) × NarrowTables ratio limits32.now inverses32.now raises.now }
-    requires by_index_2 { (k : ℕ) → p.lanes * p.bits ≤ k → k < p.lanes * p.variables
+    requires in_range { (k : ℕ) → p.lanes * p.bits ≤ k → k < p.lanes * p.variables
         → nat_abs (at work.old (p.lanes * sums_at p i + k)) ≤ 2 ^ 31 - 2 ^ 24 }
-    ensures { (ratio : ℕ) → NarrowTables ratio limits32.now inverses32.now raises.now
-        → Stored 2 (auxiliary_parts p i) (auxiliary_value work.old (p.lanes * sums_at p i) (divisor (4 * 2) ratio))
+    ensures { Stored 2 (auxiliary_parts p i) (auxiliary_value work.old (p.lanes * sums_at p i) (divisor (4 * 2) divisors.now.any))
         (p.lanes * p.bits) (p.lanes * p.variables) work.old work.new }
 {
     let first = p.bits;
     if first < p.variables {
-        let count = slices::index(counts[first]);
+        let count = usize::from(counts[first]);
         write_auxiliaries(
             work,
             p.sums_at(i),
@@ -338,29 +271,19 @@ fn write_all_auxiliaries(
             p.sums_at(1 - i),
             p.lanes * first,
             p.lanes * p.variables,
-            limits32[count],
-            inverses32[count],
-            raises[count],
+            divisors.narrow[count],
         );
     }
 }
 
 // "First every c is renewed": from list i of the sums, in all lanes; the other list is cleared. The bits, then the auxiliaries.
 pub fn write_values(counts: &[u16], divisors: &Divisors, p: Plan, i: usize, work: &mut [i32])
-    requires fits { Fits p work.old × (i ≤ 1) × Counted p counts.now × Ready divisors.now }
+    requires fits { Fits p work.old × (i ≤ 1) × Counted p counts.now }
     requires within { (l : ℕ) → l < p.lanes
         → SumsKept p counts.now 0 work.old l × SumsKept p counts.now 1 work.old l × WeighedWithin p work.old l }
     ensures fits { Fits p work.new }
-    ensures valued { (l : ℕ) → l < p.lanes → LaneValued p counts.now divisors.now.ratio i work.old work.new l }
+    ensures valued { (l : ℕ) → l < p.lanes → LaneValued p counts.now divisors.now.any i work.old work.new l }
 {
-    let ratio = divisors.ratio;
-    let bounds = &divisors.bounds;
-    let factors = &divisors.factors;
-    let raises = &divisors.raises;
-    let limits = &divisors.limits;
-    let inverses = &divisors.inverses;
-    write_all_bits(
-        counts, ratio, bounds, factors, raises, limits, inverses, p, i, work,
-    );
-    write_all_auxiliaries(counts, bounds, factors, raises, p, i, work);
+    write_all_bits(counts, divisors, p, i, work);
+    write_all_auxiliaries(counts, divisors, p, i, work);
 }

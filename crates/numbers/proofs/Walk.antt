@@ -87,6 +87,9 @@ small_at n l i d h k =
     leb-true (get_or l i d) most_number
     (ap small (sym (get_or-take n l i d k)) ∙ every_at small (take n l) i d h.small (omega (arith, h.long, length-take-le n l h.long)))
 
+pub small_first : (l : List ℕ) → Small 1 l → get_or l 0 none ≤ most_number
+small_first l h = small_at 1 l 0 none h (omega arith)
+
 pub small_next : (n : ℕ) (l : List ℕ) → Small n l → get_or l n none ≤ most_number → Small (suc n) l
 small_next n l h k =
     let i : n < length l = there l n (omega arith) in

@@ -165,6 +165,15 @@ impl<'a> Numbers<'a> {
         u16::try_from(value).ok()
     }
 
+    // The next number, which is known to be one.
+    #[tactic(auto, using(crate::proofs::Walk::small_first))]
+    pub fn known(&mut self) -> u16
+        requires { Small 1 self.old }
+        ensures { self.old ≡ result ∷ self.new }
+    {
+        self.number().unwrap()
+    }
+
     // The largest of the next `count` numbers, 0 where `count` is; none where one of them is missing or no number of a text, and what is left is then not told.
     pub fn largest(&mut self, count: usize) -> Option<u16>
         ensures found { IfSome result (λ most. Small count self.old × (most ≡ largest (take count self.old)) × (self.new ≡ drop count self.old)) }

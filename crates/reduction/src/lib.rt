@@ -81,6 +81,20 @@ fn reduce(code: &Code, rows: &mut Rows)
     }
 }
 
+// How many columns are no pivots.
+fn count_others(rows: &Rows, bits: usize) -> usize
+    requires { bits ≤ most_encoded_bits }
+    ensures { result ≡ others (columns_in bits rows.now) }
+{
+    let mut count = 0;
+    for column in 0..bits {
+        if !is_pivot(rows, column) {
+            count += 1;
+        }
+    }
+    count
+}
+
 // What the row has at the word's ones, modulo 2, in the columns from `start` on.
 fn parity(row: &Row, word: &[u8], start: usize) -> u8
     requires { (start ≤ length word.now) × (length word.now ≤ most_encoded_bits) }
@@ -98,20 +112,22 @@ fn parity(row: &Row, word: &[u8], start: usize) -> u8
 #[derive(Drop)]
 pub struct Reduction<'a> {
     bits: usize,
+    message_length: usize,
     rows: &'a Rows,
 }
 
 impl<'a> Model for Reduction<'a> {
     ghost use Rattle.std.specs.Prelude.{◌≡◌, ◌≤◌, List, length};
     ghost use Rattle.model.specs.Limits.{most_encoded_bits};
-    ghost use Rattle.model.specs.Encoding.{Column};
+    ghost use Rattle.model.specs.Encoding.{Column, others};
     ghost use Rattle.reduction.specs.Table.{columns_in};
 
     ghost Value = { List Column };
 
     ghost view = { λ a. columns_in a.bits a.rows.now };
 
-    ghost invariant = { λ a. (a.bits ≤ most_encoded_bits) × (length a.rows.now ≡ most_encoded_bits) };
+    ghost invariant = { λ a. (a.bits ≤ most_encoded_bits) × (length a.rows.now ≡ most_encoded_bits)
+        × (a.message_length ≡ others (columns_in a.bits a.rows.now)) };
 }
 
 impl<'a> Reduction<'a> {
@@ -123,23 +139,28 @@ impl<'a> Reduction<'a> {
         ensures width { length result ≡ code.now.bits }
     {
         reduce(code, rows);
+        let bits = code.bits();
+        let message_length = count_others(rows, bits);
         Reduction {
-            bits: code.bits(),
+            bits,
+            message_length,
             rows,
         }
     }
 
-    // How many columns are no pivots.
-    pub fn count_others(&self) -> usize
+    // How many columns there are: the bits of the code.
+    pub fn bits(&self) -> usize
+        ensures value { result ≡ length self.now }
+        ensures most { result ≤ most_encoded_bits }
+    {
+        self.bits
+    }
+
+    // How long a message is: an entry for each column that is no pivot.
+    pub fn message_length(&self) -> usize
         ensures { result ≡ others self.now }
     {
-        let mut count = 0;
-        for column in 0..self.bits {
-            if !is_pivot(self.rows, column) {
-                count += 1;
-            }
-        }
-        count
+        self.message_length
     }
 
     // The word of a message, from the last column back: a message bit where the column is no pivot; at a pivot what its row asks for.

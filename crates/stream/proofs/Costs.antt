@@ -1,5 +1,5 @@
 -- The costs of a frame record, one by one. Assumes nothing.
-use Rattle.integers.proofs.Prelude.{◌≡◌, refl, sym, ap, ◌∙◌, not, List, [], ◌∷◌, ℕ, zero, suc, ◌+◌, ◌*◌, ◌≤◌, ltb-false, eqb, ℤ, pos, negsuc, ◌-ℤ◌, length}
+use Rattle.integers.proofs.Prelude.{◌≡◌, refl, sym, ap, ◌∙◌, not, List, [], ◌∷◌, ℕ, zero, suc, ◌+◌, ◌*◌, ◌≤◌, ◌<◌, arith, ltb-false, eqb, ℤ, pos, negsuc, ◌-ℤ◌, length}
 use Rattle.integers.proofs.Prelude.{get_or, drop, drop-drop}
 use native.Mathlib.Nat.{zero-add}
 use Rattle.lists.specs.Tabulated.{over, written}
@@ -32,9 +32,9 @@ costs_written n s old =
     ∙ over_map twos_complement l 0 old
 
 -- ---- what the causes of a frame come to
-pub whole_refused : (n : ℕ) (s : List ℕ) (c : ℕ) → c ≡ judge_whole n s → (c ≡ 0 → ⊥) → c ≡ judge_frame n s
+pub whole_refused : (n : ℕ) (s : List ℕ) (c : ℕ) → c ≡ judge_whole n s → 0 < c → c ≡ judge_frame n s
 unfolding judge_frame
-whole_refused n s c e h = e ∙ sym (refused (judge_whole n s) (13 if some forbidden (costs_of n s) ∷ []) (λ z. h (e ∙ z)))
+whole_refused n s c e h = e ∙ sym (refused (judge_whole n s) (13 if some forbidden (costs_of n s) ∷ []) (λ z. omega (arith, h, e, z)))
 
 pub whole : (n : ℕ) (s : List ℕ) → judge_whole n s ≡ 0 → frame_size n ≤ length s
 unfolding judge_whole

@@ -1,97 +1,89 @@
-// The records of the frame program (document 01, 'The frame program'), on slices.
+// The records of the frame program, on slices.
 #![tactic(auto)]
 
-ghost use Rattle.std.specs.Prelude.{◌≡◌, ◌+◌, ◌*◌, ◌≤◌, ◌<◌, length};
+ghost use Rattle.std.specs.Prelude.{◌≡◌, [], ◌∷◌, ◌+◌, ◌*◌, ◌≤◌, ◌<◌, length, drop};
 ghost use Rattle.lists.specs.Tabulated.{written};
-ghost use Rattle.model.specs.Causes.{accepted};
-ghost use Rattle.model.specs.Records.{judge};
+ghost use Rattle.model.specs.Causes.{number_of, first_of, ◌if◌, short, outside, accepted};
+ghost use Rattle.model.specs.Records.{two_bytes, judge};
 ghost use Rattle.program.specs.Frames as Frames;
 
-use model::{MOST_ITERATIONS, MOST_RATIO, MOST_WEIGHT, Reading, Settings};
+use model::{Cause, MOST_ITERATIONS, MOST_RATIO, MOST_WEIGHT, Settings};
 use program::{HELD_BITS, HELD_TRIPLES};
+use reader::Code;
+
+// The marks that a settings record and a frame begin with.
+const SETTINGS_MARK: usize = 0x4c53;
+
+const FRAME_MARK: usize = 0x4c46;
 
 // ---- code records
 
-// The cause in the header that `s` begins with, 0 for none.
-pub fn judge_header(s: &[u8]) -> u32
-    ensures { result ≡ Frames.judge_held_header s.now }
+// The first cause in the header that `s` begins with: 1, 2, 3, or 10 for more bits than the program holds.
+#[tactic(auto, unfolding(program::specs::Frames::judge_held_header))]
+pub fn judge_header(s: &[u8]) -> Result<(), Cause>
+    ensures { number_of result ≡ Frames.judge_held_header s.now }
 {
-    let cause = records::judge_header(s);
-    if cause != 0 {
-        return cause;
+    let header = records::read_header(s)?;
+    if HELD_BITS < header.bits {
+        return Err(Cause::Room);
     }
-    if HELD_BITS < records::two_bytes(s, 2) {
-        10
-    } else {
-        0
-    }
+    Ok(())
 }
 
-// The cause in the check record that `s` begins with, 0 for none; `triples` are held.
-pub fn judge_check(s: &[u8], bits: usize, triples: usize) -> u32
+// The first cause in the check record that `s` begins with: 1, 2, 4, 5, 6, or 10 for more triples than the program holds; `triples` are held before it.
+#[tactic(auto, unfolding(program::specs::Frames::judge_held_check))]
+pub fn judge_check(s: &[u8], bits: usize, triples: usize) -> Result<(), Cause>
     requires { triples ≤ Frames.held_triples }
-    ensures { result ≡ Frames.judge_held_check bits triples s.now }
+    ensures { number_of result ≡ Frames.judge_held_check bits triples s.now }
 {
-    let cause = records::judge_check(s, bits);
-    if cause != 0 {
-        return cause;
-    }
+    records::judge_check(s, bits)?;
     if HELD_TRIPLES < triples + records::triple_count(s) {
-        10
-    } else {
-        0
+        return Err(Cause::Room);
     }
+    Ok(())
 }
 
-// The cause in the code records together, 0 for none.
-pub fn judge_code(code: &[u8]) -> u32
-    ensures { result ≡ judge code.now }
+// The first cause in the code records together: 1 to 6, then 9, 7, 8.
+pub fn judge_code(code: &[u8]) -> Result<(), Cause>
+    ensures { number_of result ≡ judge code.now }
 {
-    let reading = reader::read(code);
-    match reading {
-        Reading::Refused(cause) => cause,
-        Reading::Code {
-            bits,
-            checks,
-            triples,
-        } => 0,
-    }
+    let _ = Code::read(code)?;
+    Ok(())
 }
 
 // ---- the settings record
 
-// The cause in the settings record that `s` begins with, 0 for none.
-pub fn judge_settings(s: &[u8]) -> u32
-    ensures { result ≡ Frames.judge_settings s.now }
+// The first cause in the setting that `s` has at `at`: 1, or 11 where it is outside least..most.
+fn judge_setting(s: &[u8], at: usize, least: usize, most: usize) -> Result<(), Cause>
+    requires { at ≤ 10 }
+    ensures { number_of result ≡ first_of (1 if short (at + 2) s.now ∷ 11 if outside least most (two_bytes (drop at s.now)) ∷ []) }
 {
-    let len = s.len();
-    if len < 2 {
-        return 1;
+    if s.len() < at + 2 {
+        return Err(Cause::Cut);
     }
-    if records::two_bytes(s, 0) != 0x4c53 {
-        return 2;
+    let setting = records::two_bytes(s, at);
+    if setting < least || most < setting {
+        return Err(Cause::Setting);
     }
-    if len < 4 {
-        return 1;
+    Ok(())
+}
+
+// The first cause in the settings record that `s` begins with: 1, 2, 11, each setting as soon as it is whole.
+#[tactic(auto, unfolding(program::specs::Frames::judge_settings_up_to))]
+pub fn judge_settings(s: &[u8]) -> Result<(), Cause>
+    ensures { number_of result ≡ Frames.judge_settings s.now }
+{
+    let (mark, _) = records::split_number(s)?;
+    if mark != SETTINGS_MARK {
+        return Err(Cause::Mark);
     }
-    let weight = records::two_bytes(s, 2);
-    if (weight < 1) | ((MOST_WEIGHT as usize) < weight) {
-        return 11;
+    judge_setting(s, 2, 1, MOST_WEIGHT as usize)?;
+    judge_setting(s, 4, 0, MOST_RATIO as usize)?;
+    judge_setting(s, 6, 1, MOST_ITERATIONS as usize)?;
+    if s.len() < 12 {
+        return Err(Cause::Cut);
     }
-    if len < 6 {
-        return 1;
-    }
-    if (MOST_RATIO as usize) < records::two_bytes(s, 4) {
-        return 11;
-    }
-    if len < 8 {
-        return 1;
-    }
-    let limit = records::two_bytes(s, 6);
-    if (limit < 1) | ((MOST_ITERATIONS as usize) < limit) {
-        return 11;
-    }
-    if len < 12 { 1 } else { 0 }
+    Ok(())
 }
 
 // The settings in the record that `s` begins with.
@@ -126,19 +118,20 @@ pub fn twos_complement(x: usize) -> i16
     }
 }
 
-// The cause in the bytes of the frame record that `s` begins with, 0 where it is whole.
-fn judge_whole(s: &[u8], bits: usize) -> u32
+// The first cause in the bytes of the frame record that `s` begins with: 1, 2.
+#[tactic(auto, unfolding(program::specs::Frames::judge_whole))]
+fn judge_whole(s: &[u8], bits: usize) -> Result<(), Cause>
     requires { bits ≤ Frames.held_bits }
-    ensures { result ≡ Frames.judge_whole bits s.now }
+    ensures { number_of result ≡ Frames.judge_whole bits s.now }
 {
-    let len = s.len();
-    if len < 2 {
-        return 1;
+    let (mark, rest) = records::split_number(s)?;
+    if mark != FRAME_MARK {
+        return Err(Cause::Mark);
     }
-    if records::two_bytes(s, 0) != 0x4c46 {
-        return 2;
+    if rest.len() < 2 * bits {
+        return Err(Cause::Cut);
     }
-    if len < 2 + 2 * bits { 1 } else { 0 }
+    Ok(())
 }
 
 // The costs of the frame record that `s` begins with.
@@ -151,20 +144,17 @@ fn write_costs(s: &[u8], bits: usize, costs: &mut [i16])
     }
 }
 
-// The cause in the frame record that `s` begins with, 0 for none. The costs of a whole frame are written.
-pub fn read_frame(s: &[u8], bits: usize, costs: &mut [i16]) -> u32
-    requires { (bits ≤ Frames.held_bits) × (bits ≤ length costs.old) }
-    ensures { let n = bits in let b = s.now in let old = costs.old in
-        (result ≡ Frames.judge_frame n b) × (costs.new ≡ accepted (Frames.judge_whole n b) (written (Frames.costs_of n b) old) old) }
+// The first cause in the frame record that `s` begins with: 1, 2, 13. The costs of a whole frame are written.
+pub fn read_frame(s: &[u8], bits: usize, costs: &mut [i16]) -> Result<(), Cause>
+    requires bits { bits ≤ Frames.held_bits }
+    requires room { bits ≤ length costs.old }
+    ensures number { number_of result ≡ Frames.judge_frame bits s.now }
+    ensures costs { costs.new ≡ accepted (Frames.judge_whole bits s.now) (written (Frames.costs_of bits s.now) costs.old) costs.old }
 {
-    let cause = judge_whole(s, bits);
-    if cause != 0 {
-        return cause;
-    }
+    judge_whole(s, bits)?;
     write_costs(s, bits, costs);
     if inputs::some_forbidden(&costs[..bits]) {
-        13
-    } else {
-        0
+        return Err(Cause::Cost);
     }
+    Ok(())
 }

@@ -1,7 +1,9 @@
--- `channel::scale_in_range` meets its contract. Assumes nothing.
+-- `channel::scale_in_range` meets its contract: the literal 0.0 is the model's zero. Assumes nothing.
+use Rattle.integers.proofs.Prelude.{◌∙◌}
 use lib.Ieee.{of_bits}
+use Rattle.channel.proofs.Finite.{finite_is}
 use Rattle.channel.proofs.scale_in_range.Goals as goal
 
-pub returns : goal.returns
+pub returns-then-x-clause-value : goal.returns-then-x-clause-value
 unfolding of_bits
-returns c = record { value = rw c.is_finite.ensures; x_value = c.well_formed.0.1 }
+returns-then-x-clause-value c = rw c.if-x.true (c.is_finite.ensures.value ∙ finite_is c.args.x)

@@ -1,30 +1,37 @@
 -- `encoder::encode_frames` meets its contract: the causes in their order, then the words. Assumes nothing.
-use Rattle.integers.proofs.Prelude.{refl, arith}
-use Rattle.encoder.proofs.Readiness.{some_bits, few, size_counted}
-use Rattle.encoder.proofs.Answers.{frames_unready, frames_refused, frames_fit, frames_told}
+use Rattle.std.proofs.lemmas.Result.{err_from_is_err_and}
+use Rattle.model.proofs.Told.{determined}
+use Rattle.encoder.proofs.Answers.{some_bits, frames_unfit, frames_refused, frames_long, frames_room, frames_told}
 use Rattle.encoder.proofs.encode_frames.Goals as goal
+
+pub returns-in_err-code : goal.returns-in_err-code
+returns-in_err-code c =
+    let p = err_from_is_err_and c.from_residual.result c.from_residual.ensures.1 in
+    rw (p.1, p.2) (frames_unfit _ _ _ _ _ c.in_err-code.ensures.number (determined.refuses _).0)
+
+pub judge-requires : goal.judge-requires
+judge-requires c =
+    let code = c.in_ok-code.ensures in
+    some_bits _ code.number _ code.code.0 _ c.new-reduction.ensures.columns c.new-reduction.ensures.width
+
+pub returns-in_err-judge : goal.returns-in_err-judge
+returns-in_err-judge c =
+    let code = c.in_ok-code.ensures in
+    let p = err_from_is_err_and c.from_residual-in_err-judge.result c.from_residual-in_err-judge.ensures.1 in
+    rw (p.1, p.2)
+    (frames_refused _ code.number _ code.code.0 _ c.new-reduction.ensures.columns c.new-reduction.ensures.width _ _ _ _ c.in_err-judge.ensures (determined.refuses _).0)
 
 pub write_words-requires : goal.write_words-requires
 write_words-requires c =
-    let a = c.args in
-    let r = c.prepare-found.ensures in record {
-      rows_len = (omega (arith, c.prepare-found), few _ _ _ _ _ _ r c.if-number-ne0.false, size_counted _ _ _ _ _ _ r c.if-number-ne0.false);
-      messages_len = frames_fit _ _ _ _ _ _ r a.frames a.messages.now a.words.now c.if-number-ne0.false _ c.judge-cause.ensures c.if-cause-ne0.false;
+    let code = c.in_ok-code.ensures in
+    let reduction = c.new-reduction.ensures in
+    record {
+      messages = frames_long _ code.number _ code.code.0 _ reduction.columns reduction.width _ _ _ c.in_ok-judge.ensures;
+      room = frames_room _ code.number _ code.code.0 _ reduction.columns reduction.width _ _ _ c.in_ok-judge.ensures;
     }
-
-pub returns-then-cause-ne0 : goal.returns-then-cause-ne0
-returns-then-cause-ne0 c =
-    frames_refused _ _ _ _ _ _ c.prepare-found.ensures _ _ _ c.if-number-ne0.false _ c.judge-cause.ensures c.if-cause-ne0.true
 
 pub returns : goal.returns
 returns c =
-    frames_told _ _ _ _ _ _ c.prepare-found.ensures _ _ _ c.if-number-ne0.false _ c.judge-cause.ensures c.if-cause-ne0.false _ c.write_words.ensures
-
-pub prepare-found-requires : goal.prepare-found-requires
-prepare-found-requires c = refl
-
-pub returns-then-number-ne0 : goal.returns-then-number-ne0
-returns-then-number-ne0 c = frames_unready _ _ _ _ _ _ c.prepare-found.ensures _ _ _ c.if-number-ne0.true
-
-pub judge-cause-requires : goal.judge-cause-requires
-judge-cause-requires c = (some_bits _ _ _ _ _ _ c.prepare-found.ensures c.if-number-ne0.false)
+    let code = c.in_ok-code.ensures in
+    let reduction = c.new-reduction.ensures in
+    frames_told _ code.number _ code.code.0 _ reduction.columns reduction.width _ _ _ c.in_ok-judge.ensures _ c.write_words.ensures

@@ -1,61 +1,52 @@
 -- `encoder::read_message` meets its contract: the causes in their order, then the first odd check, then the message. Assumes nothing.
-use Rattle.integers.proofs.Prelude.{◌≡◌, refl, ◌∙◌, arith, length}
-use Rattle.model.specs.declared.Verdict.{Verdict}
-use Rattle.model.specs.Records.{code_of}
+use Rattle.std.proofs.lemmas.Result.{err_from_is_err_and}
+use Rattle.integers.proofs.Prelude.{◌∙◌, sym, refl, arith}
+use Rattle.model.proofs.Told.{determined}
 use Rattle.codeword.proofs.Verdicts.{odd_told, even_told}
-use Rattle.encoder.proofs.Readiness.{encodable, few, size_counted}
-use Rattle.encoder.proofs.Answers.{reading_unready, reading_refused, reading_short, reading_long, reading_told}
+use Rattle.encoder.proofs.Answers.{reading_unfit, reading_refused, reading_short, word_long, reading_told}
 use Rattle.encoder.proofs.read_message.Goals as goal
-use Rattle.encoder.proofs.read_message.Goals.{Start, After-prepare-found, Else-number-ne0, Else-cause-ne0, Else-message-found}
 
-pub returns-then-cause-ne0 : goal.returns-then-cause-ne0
-returns-then-cause-ne0 c =
-    let p = reading_refused _ _ _ _ _ _ c.prepare-found.ensures _ _ c.if-number-ne0.false _ c.judge_word-cause.ensures c.if-cause-ne0.true in record { call = p.0; kind = p.1 }
+pub returns-in_err-code : goal.returns-in_err-code
+returns-in_err-code c =
+    let p = err_from_is_err_and c.from_residual.result c.from_residual.ensures.1 in
+    rw (p.1, p.2) (reading_unfit _ _ _ _ c.in_err-code.ensures.number (determined.refuses _).0)
 
-pub returns-then-message-found : goal.returns-then-message-found
-returns-then-message-found c =
-    let p = reading_short _ _ _ _ _ _ c.prepare-found.ensures _ _ c.if-number-ne0.false _ c.judge_word-cause.ensures c.if-cause-ne0.false c.if-message-found.true in record { call = p.0; kind = p.1 }
+pub returns-in_err-judge_word : goal.returns-in_err-judge_word
+returns-in_err-judge_word c =
+    let code = c.in_ok-code.ensures in
+    let p = err_from_is_err_and c.from_residual-in_err-judge_word.result c.from_residual-in_err-judge_word.ensures.1 in
+    rw (p.1, p.2) (reading_refused _ code.number _ code.code.0 _ _ _ c.bits.ensures.value _ c.in_err-judge_word.ensures (determined.refuses _).0)
 
--- ---- an accepted code and word, and room
-module _ (c : Else-message-found) where
-  abbrev e : Else-cause-ne0
-  e = (goal.at.Else-message-found c).Else-cause-ne0
+pub returns-then-message-message_length : goal.returns-then-message-message_length
+returns-then-message-message_length c =
+    let code = c.in_ok-code.ensures in
+    let reduction = c.new-reduction.ensures in
+    reading_short _ code.number _ code.code.0 _ reduction.columns reduction.width _ _ _ c.bits.ensures.value c.in_ok-judge_word.ensures
+    (omega (arith, c.message_length.ensures, c.if-message-message_length.true))
 
-  abbrev o : Else-number-ne0
-  o = (goal.at.Else-cause-ne0 e).Else-number-ne0
+pub first_odd-requires : goal.first_odd-requires
+first_odd-requires c =
+    let code = c.in_ok-code.ensures in
+    omega (arith, word_long _ code.number _ code.code.0 _ c.args.message.now _ c.bits.ensures.value c.in_ok-judge_word.ensures)
 
-  abbrev p : After-prepare-found
-  p = (goal.at.Else-number-ne0 o).After-prepare-found
-
-  abbrev s : Start
-  s = (goal.at.After-prepare-found p).Start
-
-  long : length s.args.word.now ≡ p.prepare-found.result.bits
-  long = reading_long _ _ _ _ _ _ p.prepare-found.ensures s.args.word.now s.args.message.now o.if-number-ne0.false _ e.judge_word-cause.ensures e.if-cause-ne0.false
-
-  checks : p.prepare-found.result.checks ≡ length (code_of s.args.code.now).checks
-  checks = p.prepare-found.ensures.checks_is o.if-number-ne0.false
-
-pub first_odd-j-requires : goal.first_odd-j-requires
-first_odd-j-requires c =
-    record { code_value = (encodable _ _ _ _ _ _ (p c).prepare-found.ensures (o c).if-number-ne0.false).accepted; checks_value = checks c; code_in_bounds = omega (arith, long c, (p c).prepare-found.ensures.bits_is (o c).if-number-ne0.false) }
-
-pub returns-then-j-checks : goal.returns-then-j-checks
-returns-then-j-checks c =
-    let p = reading_told _ _ _ _ _ _ (p (goal.at.returns-then-j-checks c).Else-message-found).prepare-found.ensures _ _ (o (goal.at.returns-then-j-checks c).Else-message-found).if-number-ne0.false _ (e (goal.at.returns-then-j-checks c).Else-message-found).judge_word-cause.ensures (e (goal.at.returns-then-j-checks c).Else-message-found).if-cause-ne0.false c.if-message-found.false
-    (Verdict.Odd c.first_odd-j.result) _ tt (odd_told _ _ _ (checks (goal.at.returns-then-j-checks c).Else-message-found) _ c.first_odd-j.ensures c.if-j-checks.true) refl in record { call = p.0; kind = p.1 }
+pub returns-in-Some : goal.returns-in-Some
+returns-in-Some c =
+    let code = c.in_ok-code.ensures in
+    let reduction = c.new-reduction.ensures in
+    reading_told _ code.number _ code.code.0 _ reduction.columns reduction.width _ _ _ c.bits.ensures.value c.in_ok-judge_word.ensures
+    (omega (arith, c.message_length.ensures, c.if-message-message_length.false)) _ _ (odd_told _ _ _ c.in-Some.ensures) refl
 
 pub write_message-requires : goal.write_message-requires
 write_message-requires c =
-    record { rows_len = (omega (arith, (p (goal.at.write_message-requires c).Else-message-found).prepare-found), omega (arith, long (goal.at.write_message-requires c).Else-message-found, few _ _ _ _ _ _ (p (goal.at.write_message-requires c).Else-message-found).prepare-found.ensures (o (goal.at.write_message-requires c).Else-message-found).if-number-ne0.false)); rows_in_bounds = rw (long (goal.at.write_message-requires c).Else-message-found) (omega (arith, size_counted _ _ _ _ _ _ (p (goal.at.write_message-requires c).Else-message-found).prepare-found.ensures (o (goal.at.write_message-requires c).Else-message-found).if-number-ne0.false, c.if-message-found.false)) }
+    let code = c.in_ok-code.ensures in
+    record {
+      width = word_long _ code.number _ code.code.0 _ c.args.message.now _ c.bits.ensures.value c.in_ok-judge_word.ensures ∙ sym c.new-reduction.ensures.width;
+      room = omega (arith, c.message_length.ensures, c.if-message-message_length.false);
+    }
 
 pub returns : goal.returns
 returns c =
-    let p = reading_told _ _ _ _ _ _ (p (goal.at.returns c).Else-message-found).prepare-found.ensures _ _ (o (goal.at.returns c).Else-message-found).if-number-ne0.false _ (e (goal.at.returns c).Else-message-found).judge_word-cause.ensures (e (goal.at.returns c).Else-message-found).if-cause-ne0.false c.if-message-found.false
-    Verdict.Codeword _ tt (even_told _ _ _ (checks (goal.at.returns c).Else-message-found) _ c.first_odd-j.ensures c.if-j-checks.false) (c.write_message.ensures ∙ rw (long (goal.at.returns c).Else-message-found)) in record { call = p.0; kind = p.1 }
-
-pub prepare-found-requires : goal.prepare-found-requires
-prepare-found-requires c = refl
-
-pub returns-then-number-ne0 : goal.returns-then-number-ne0
-returns-then-number-ne0 c = let p = reading_unready _ _ _ _ _ _ c.prepare-found.ensures _ _ c.if-number-ne0.true in record { call = p.0; kind = p.1 }
+    let code = c.in_ok-code.ensures in
+    let reduction = c.new-reduction.ensures in
+    reading_told _ code.number _ code.code.0 _ reduction.columns reduction.width _ _ _ c.bits.ensures.value c.in_ok-judge_word.ensures
+    (omega (arith, c.message_length.ensures, c.if-message-message_length.false)) _ _ (even_told _ _ c.in_default.ensures) c.write_message.ensures

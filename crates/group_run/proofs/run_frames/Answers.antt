@@ -1,87 +1,54 @@
 -- `group_run::run_frames` meets its contract: the frames so far have ended as they do by themselves. Assumes nothing.
-use Rattle.integers.proofs.Prelude.{refl, sym, ◌∙◌, ℕ, ◌<◌, arith}
-use Rattle.group_run.proofs.Running.{marked, unmarked}
-use Rattle.group_run.proofs.Givens.{costs_end, sums_end, values_end, rows_end, lent}
+use Rattle.integers.proofs.Prelude.{sym, ap, subst, ◌∙◌, true, cond, ◌*◌, eqb}
+use Rattle.lists.specs.Tabulated.{part}
+use Rattle.model.specs.Bounds.{Lent}
+use Rattle.lane_renewal.specs.declared.Walk.{Walk}
+use Rattle.group_step.specs.Frames.{ended_in}
+use Rattle.group_step.proofs.Settled.{goes_by}
+use Rattle.group_run.specs.Course.{end_from}
+use Rattle.group_run.proofs.Givens.{lent}
+use Rattle.group_run.proofs.Parts.{parts_of, kept_then, end_by}
 use Rattle.group_run.proofs.Singles.{done_none, done_next, done_all}
 use Rattle.group_run.proofs.run_frames.Goals as goal
-use Rattle.group_run.proofs.run_frames.Goals.{Start, At-loop-f, In-loop-f, After-loop-f, else-running-f-ne0, then-running-f-ne0}
+use Rattle.group_run.proofs.run_frames.Goals.{else-runs, then-runs}
 
-pub loop-f-init : goal.loop-f-init
-loop-f-init c =
-    record { given = c.requires.given; marks = c.requires.marks.0; held = c.requires.marks.1; within = c.requires.done_le_limit.1; none = λ f h. absurd (omega arith); same = λ f h c. refl }
-
-abbrev start : At-loop-f → Start
-start l = (goal.at.At-loop-f l).Start
-
--- ---- the frame at hand
-module _ (i : In-loop-f) where
-  abbrev l : At-loop-f
-  l = (goal.at.In-loop-f i).At-loop-f
-
-  abbrev f : ℕ
-  f = l.loop-f.f
-
-  has_mark : f < 8
-  has_mark = omega (arith, i.loop-f-test.true, (start l).requires.given.frames)
-
-pub run_frame-requires : goal.run_frame-requires
-run_frame-requires c =
-    let g = (l (goal.at.run_frame-requires c).In-loop-f).loop-f.invariant.given in
-    let h = c.loop-f-test.true in
-    let runs_now = marked (l (goal.at.run_frame-requires c).In-loop-f).loop-f.running (f (goal.at.run_frame-requires c).In-loop-f) c.if-running-f-ne0.true in record {
-      bits_in_bounds = (costs_end g (f (goal.at.run_frame-requires c).In-loop-f) h, sums_end g (f (goal.at.run_frame-requires c).In-loop-f) h (l (goal.at.run_frame-requires c).In-loop-f).loop-f.invariant.held, values_end g (f (goal.at.run_frame-requires c).In-loop-f) h (l (goal.at.run_frame-requires c).In-loop-f).loop-f.invariant.held, rows_end g (f (goal.at.run_frame-requires c).In-loop-f) h (l (goal.at.run_frame-requires c).In-loop-f).loop-f.invariant.held);
-      f_in_bounds = (omega (arith, has_mark (goal.at.run_frame-requires c).In-loop-f, (l (goal.at.run_frame-requires c).In-loop-f).loop-f.invariant.marks.running_long), omega (arith, has_mark (goal.at.run_frame-requires c).In-loop-f, (l (goal.at.run_frame-requires c).In-loop-f).loop-f.invariant.marks.ks_long), omega (arith, has_mark (goal.at.run_frame-requires c).In-loop-f, (l (goal.at.run_frame-requires c).In-loop-f).loop-f.invariant.marks.settled_long));
-      lent = lent g (f (goal.at.run_frame-requires c).In-loop-f) h (l (goal.at.run_frame-requires c).In-loop-f).loop-f.invariant.held runs_now;
-      rows_within = (l (goal.at.run_frame-requires c).In-loop-f).loop-f.invariant.within (f (goal.at.run_frame-requires c).In-loop-f) runs_now;
-      le_limit = (g.limit.0, (start (l (goal.at.run_frame-requires c).In-loop-f)).requires.done_le_limit.0, g.limit.1);
-    }
+pub run_frame-requires-clause-lent : goal.run_frame-requires-clause-lent
+run_frame-requires-clause-lent c =
+    let y = c.loop-f.frames in
+    let f = c.loop-f.f in
+    let inv = c.loop-f.invariant in
+    subst (λ (v : Walk). Lent c.args.settings v.triples.now v.counts.now (part v.plan.bits f c.args.costs.now) v.plan.triples
+    (part v.plan.variables f y.sums.now) (part v.plan.variables f y.values.now) (part (4 * v.plan.triples) f y.rows.now)) (sym inv.kept.walk)
+    (lent inv.done.given f c.loop-f-test.true (rw (inv.kept.walk, inv.kept.count) at y.held) (goes_by y.stages f ∙ sym c.runs.ensures ∙ c.if-runs.true))
 
 pub loop-f-preserved : goal.loop-f-preserved
 loop-f-preserved c =
-    let x = (l (goal.at.loop-f-preserved c).In-loop-f).loop-f.invariant in
-    let a = (start (l (goal.at.loop-f-preserved c).In-loop-f)).args in
-    let h = c.loop-f-test.true in
-    elim c.if-running-f-ne0.branch [
-      | then-running-f-ne0 w ↦ rw (w.running-is, w.ks-is, w.settled-is, w.sums-is, w.values-is, w.rows-is)
-          (done_next a.p a.settings a.triples.now a.counts.now a.costs.now a.frames a.done h (marked (l (goal.at.loop-f-preserved c).In-loop-f).loop-f.running (f (goal.at.loop-f-preserved c).In-loop-f) w.if-running-f-ne0.true) x _
-          w.run_frame.ensures.by_index w.run_frame.ensures.by_index_2 w.run_frame.auto.running w.run_frame.auto.ks w.run_frame.auto.settled
-          w.run_frame.auto.sums w.run_frame.auto.values w.run_frame.auto.rows)
-      | else-running-f-ne0 w ↦ rw (w.running-is, w.ks-is, w.settled-is, w.sums-is, w.values-is, w.rows-is)
-          (done_none a.p a.settings a.triples.now a.counts.now a.costs.now a.frames a.done h (unmarked (l (goal.at.loop-f-preserved c).In-loop-f).loop-f.running (f (goal.at.loop-f-preserved c).In-loop-f) w.if-running-f-ne0.false) x)
+    let x = c.args.frames.now in
+    let y = c.loop-f.frames in
+    let n = c.loop-f.f in
+    let inv = c.loop-f.invariant in
+    let a = c.args in
+    let own = goes_by y.stages n ∙ sym c.runs.ensures in
+    elim c.if-runs.branch [
+      | then-runs w ↦
+          let k = kept_then inv.kept w.run_frame.ensures.kept in
+          rw w.frames-is (record {
+            kept = k;
+            done = done_next x.walk.plan a.settings x.walk.triples.now x.walk.counts.now a.costs.now x.count a.done c.loop-f-test.true (own ∙ w.if-runs.true) inv.done (parts_of w.run_frame.new.frames)
+                (λ f code. sym (end_by k f) ∙ w.run_frame.ensures.ended f code
+                ∙ ap (λ (v : Walk). cond (eqb f n) (end_from v.plan a.settings code v.triples.now (part v.plan.bits n a.costs.now) a.done true (ended_in v.plan y.stages y.sums.now y.values.now y.rows.now n))
+                (ended_in v.plan y.stages y.sums.now y.values.now y.rows.now f)) inv.kept.walk)
+                w.run_frame.ensures.stops;
+          })
+      | else-runs w ↦ rw w.frames-is (record {
+        kept = inv.kept;
+        done = done_none x.walk.plan a.settings x.walk.triples.now x.walk.counts.now a.costs.now x.count a.done c.loop-f-test.true (own ∙ w.if-runs.false) inv.done;
+      })
     ]
 
--- ---- all frames
-abbrev last : After-loop-f → At-loop-f
-last c = (goal.at.After-loop-f c).At-loop-f
-
-pub returns : goal.returns
-returns c =
-    let x = (last c).loop-f.invariant in
-    let a = (start (last c)).args in record {
-      marks_2 = (x.marks, x.held);
-      by_index = done_all a.p a.settings a.triples.now a.counts.now a.costs.now a.frames a.done c.loop-f-test.false x;
-    }
-
-pub offset_bounds-running-f : goal.offset_bounds-running-f
-offset_bounds-running-f c = record { fits = omega (arith, has_mark c) }
-
-pub bounds-running-f : goal.bounds-running-f
-bounds-running-f c = (omega (arith, has_mark (goal.at.bounds-running-f c).In-loop-f, (l (goal.at.bounds-running-f c).In-loop-f).loop-f.invariant.marks.running_long))
-
-pub shape_of-running : goal.shape_of-running
-shape_of-running c = (last c).loop-f.invariant.marks.running_long ∙ sym (start (last c)).requires.marks.0.running_long
-
-pub shape_of-ks : goal.shape_of-ks
-shape_of-ks c = (last c).loop-f.invariant.marks.ks_long ∙ sym (start (last c)).requires.marks.0.ks_long
-
-pub shape_of-settled : goal.shape_of-settled
-shape_of-settled c = (last c).loop-f.invariant.marks.settled_long ∙ sym (start (last c)).requires.marks.0.settled_long
-
-pub shape_of-sums : goal.shape_of-sums
-shape_of-sums c = (last c).loop-f.invariant.held.sums_long ∙ sym (start (last c)).requires.marks.1.sums_long
-
-pub shape_of-values : goal.shape_of-values
-shape_of-values c = (last c).loop-f.invariant.held.values_long ∙ sym (start (last c)).requires.marks.1.values_long
-
-pub shape_of-rows : goal.shape_of-rows
-shape_of-rows c = (last c).loop-f.invariant.held.rows_long ∙ sym (start (last c)).requires.marks.1.rows_long
+pub returns-clause-ends : goal.returns-clause-ends
+returns-clause-ends c f h code =
+    let x = c.args.frames.now in
+    let a = c.args in
+    end_by c.loop-f.invariant.kept f
+    ∙ done_all x.walk.plan a.settings x.walk.triples.now x.walk.counts.now a.costs.now x.count a.done c.loop-f-test.false c.loop-f.invariant.done f h code

@@ -1,55 +1,48 @@
--- `importer::all_named` meets its contract: the degrees that are left decide. Assumes nothing.
-use Rattle.integers.proofs.Prelude.{◌≡◌, refl, sym, ◌∙◌, List, ℕ, suc, ◌<◌, arith, add-one, lt-ltb, le-ltb, ltb, length, get_or, take, drop}
+-- The degrees that are left decide.
+use Rattle.integers.proofs.Prelude.{◌≡◌, refl, sym, ◌∙◌, List, ℕ, ◌<◌, arith, add-one, lt-ltb, le-ltb, ltb, length, get_or, take}
 use Rattle.integers.proofs.Prelude.{length-take-le, get_or-take}
 use Rattle.lists.proofs.Entries.{every_next, every_stop, every_end}
-use Rattle.numbers.specs.Walked.{from, none}
-use Rattle.numbers.proofs.Walk.{next_at}
+use Rattle.numbers.specs.Walked.{none}
+use Rattle.numbers.proofs.Walk.{next_at, small_part}
 use Rattle.importer.proofs.all_named.Goals as goal
-use Rattle.importer.proofs.all_named.Goals.{Start, After-next-degree}
+use Rattle.importer.proofs.all_named.Goals.{After-known-degree}
 
-pub loop-b-init : goal.loop-b-init
-loop-b-init c = (refl, refl, c.requires.0, omega arith)
+pub loop-init : goal.loop-init
+loop-init c = (refl, c.again-degrees_left.ensures)
+
+pub known-degree-requires : goal.known-degree-requires
+known-degree-requires c = rw c.loop.invariant.1 (small_part c.loop.counter 1 c.args.count c.args.degrees.now (omega arith) c.requires)
 
 -- the degree at hand
-module _ (c : After-next-degree) where
-  abbrev start : Start
-  start = (goal.at.After-next-degree c).Start
-
-  abbrev ds : List ℕ
-  ds = from start.args.text.now start.args.at
-
+module _ (c : After-known-degree) where
   abbrev first : List ℕ
-  first = take start.args.count ds
+  first = take c.args.count c.args.degrees.now
 
-  abbrev b : ℕ
-  b = c.loop-b.b
+  abbrev i : ℕ
+  i = c.loop.counter
 
-  number : (c.next-degree.result.value ≡ get_or ds b none) × (from start.args.text.now c.next-degree.result.end ≡ drop (suc b) ds)
-  number = next_at ds b c.loop-b.invariant.1 c.next-degree.ensures
+  value : get_or first i none ≡ c.known-degree.result
+  value = get_or-take c.args.count c.args.degrees.now i none c.loop-test.true ∙ sym (next_at c.args.degrees.now i c.loop.invariant.1 c.known-degree.ensures).0
 
-  value : get_or first b none ≡ c.next-degree.result.value
-  value = get_or-take start.args.count ds b none c.loop-b-test.true ∙ sym number.0
-
-  there : b < length first
-  there = omega (arith, c.loop-b-test.true, length-take-le start.args.count ds start.requires.1.long)
+  there : i < length first
+  there = omega (arith, c.loop-test.true, length-take-le c.args.count c.args.degrees.now c.requires.long)
 
 pub returns-then-degree-eq0 : goal.returns-then-degree-eq0
 returns-then-degree-eq0 c =
-    let bare = le-ltb 0 (get_or (first (goal.at.returns-then-degree-eq0 c).After-next-degree) (b (goal.at.returns-then-degree-eq0 c).After-next-degree) none) (omega (arith, value (goal.at.returns-then-degree-eq0 c).After-next-degree, c.if-degree-eq0.true)) in
-    sym (c.loop-b.invariant.0 ∙ every_stop (ltb 0) (first (goal.at.returns-then-degree-eq0 c).After-next-degree) (b (goal.at.returns-then-degree-eq0 c).After-next-degree) none (there (goal.at.returns-then-degree-eq0 c).After-next-degree) bare)
+    let k = (goal.at.returns-then-degree-eq0 c).After-known-degree in
+    let bare = le-ltb 0 (get_or (first k) (i k) none) (omega (arith, value k, c.if-degree-eq0.true)) in
+    sym (c.loop.invariant.0 ∙ every_stop (ltb 0) (first k) (i k) none (there k) bare)
 
-pub loop-b-preserved : goal.loop-b-preserved
-loop-b-preserved c =
-    let passes = lt-ltb 0 (get_or (first (goal.at.loop-b-preserved c).After-next-degree) (b (goal.at.loop-b-preserved c).After-next-degree) none) (omega (arith, value (goal.at.loop-b-preserved c).After-next-degree, c.if-degree-eq0.false)) in
-    rw (add-one (b (goal.at.loop-b-preserved c).After-next-degree)) (
-      c.loop-b.invariant.0 ∙ every_next (ltb 0) (first (goal.at.loop-b-preserved c).After-next-degree) (b (goal.at.loop-b-preserved c).After-next-degree) none (there (goal.at.loop-b-preserved c).After-next-degree) passes,
-      (number (goal.at.loop-b-preserved c).After-next-degree).1,
-      c.next-degree.ensures.within,
-      omega arith,
+pub loop-preserved : goal.loop-preserved
+loop-preserved c =
+    let k = (goal.at.loop-preserved c).After-known-degree in
+    let passes = lt-ltb 0 (get_or (first k) (i k) none) (omega (arith, value k, c.if-degree-eq0.false)) in
+    rw (add-one (i k)) (
+      c.loop.invariant.0 ∙ every_next (ltb 0) (first k) (i k) none (there k) passes,
+      (next_at c.args.degrees.now (i k) c.loop.invariant.1 c.known-degree.ensures).1,
     )
 
 pub returns : goal.returns
 returns c =
-    let l = c.loop-b in
-    let ds = from c.args.text.now c.args.at in
-    sym (l.invariant.0 ∙ every_end (ltb 0) (take c.args.count ds) l.b (omega (arith, length-take-le c.args.count ds c.requires.1.long)))
+    let ds = c.args.degrees.now in
+    sym (c.loop.invariant.0 ∙ every_end (ltb 0) (take c.args.count ds) c.loop.counter (omega (arith, length-take-le c.args.count ds c.requires.long)))

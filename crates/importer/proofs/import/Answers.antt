@@ -1,91 +1,73 @@
--- `importer::import` meets its contract: each cause in its order, and the records of a code that has none. Assumes nothing.
-use Rattle.integers.proofs.Prelude.{◌≡◌, sym, ◌∙◌, true, arith, not-false, not-true}
-use Rattle.model.specs.Code.{Code}
-use Rattle.model.specs.RecordClaims.{judge_code}
+-- Each cause in its order, and the records of a code that has none.
+use Rattle.integers.proofs.Prelude.{◌≡◌, sym, ◌∙◌, true, arith}
+use Rattle.std.proofs.lemmas.Result.{err_from_is_err_and}
+use Rattle.std.specs.Prelude.{Ok, Err}
+use Rattle.model.specs.Causes.{number}
 use Rattle.model.specs.Alist.{numbers_of, agree, named, columns, rows, code_of_text}
 use Rattle.importer.specs.Judged.{JudgedCode}
-use Rattle.importer.proofs.Sides.{formed, columns_sided, rows_sided, sides_held, named_agree, lists_agree, code_is}
+use Rattle.importer.proofs.Judging.{some_number}
+use Rattle.importer.proofs.Sides.{no_form_read, formed, columns_sided, rows_sided, sides_held, named_agree, lists_agree, code_is}
 use Rattle.importer.proofs.Answers.{no_form, no_agreement, no_code, no_room, imported}
 use Rattle.importer.proofs.import.Goals as goal
-use Rattle.importer.proofs.import.Goals.{Start, After-read_form-form, Else-not-form, After-agree, Else-not-agree, After-judge-found, Else-cause-ne0}
+use Rattle.importer.proofs.import.Goals.{After-agree, Else-not-agree, In_ok-found}
 
--- ---- the form
-pub returns-then-not-form : goal.returns-then-not-form
-returns-then-not-form c =
-    no_form _ _ (sym c.read_form-form.ensures.sound ∙ not-true c.read_form-form.result.sound c.if-not-form.true)
-
-sound : (c : Else-not-form) → c.read_form-form.result.sound ≡ true
-sound c = not-false c.read_form-form.result.sound c.if-not-form.false
+pub returns-in_default : goal.returns-in_default
+returns-in_default c = no_form _ _ (no_form_read c.args.text.now c.in_default.ensures)
 
 pub agree-requires : goal.agree-requires
-agree-requires c = sides_held c.read_form-form.ensures (sound (goal.at.agree-requires c).Else-not-form)
+agree-requires c = sides_held c.args.text.now c.in-Some.ensures
 
 -- ---- the agreement
-module _ (c : After-agree) where
-  abbrev fine : Else-not-form
-  fine = (goal.at.After-agree c).Else-not-form
-
-  abbrev form : After-read_form-form
-  form = (goal.at.Else-not-form fine).After-read_form-form
-
-  agrees : let l = numbers_of 0 form.args.text.now in agree (named (columns l)) (named (rows l)) ≡ c.agree.result
-  agrees = sym (c.agree.ensures ∙ lists_agree form.read_form-form.ensures (sound fine))
+agrees : (c : After-agree) → let l = numbers_of 0 c.args.text.now in agree (named (columns l)) (named (rows l)) ≡ c.agree.result
+agrees c = sym (c.agree.ensures ∙ lists_agree c.args.text.now c.in-Some.ensures)
 
 pub returns-then-not-agree : goal.returns-then-not-agree
 returns-then-not-agree c =
-    no_agreement _ _ (formed (form (goal.at.returns-then-not-agree c).After-agree).read_form-form.ensures (sound (fine (goal.at.returns-then-not-agree c).After-agree))) (agrees (goal.at.returns-then-not-agree c).After-agree ∙ not-true c.agree.result c.if-not-agree.true-raw)
+    no_agreement _ _ (formed c.args.text.now c.in-Some.ensures) (agrees (goal.at.returns-then-not-agree c).After-agree ∙ c.if-not-agree.true)
 
-agreed : (c : Else-not-agree)
-    → let l = numbers_of 0 (form (goal.at.Else-not-agree c).After-agree).args.text.now in agree (named (columns l)) (named (rows l)) ≡ true
-agreed c = agrees (goal.at.Else-not-agree c).After-agree ∙ not-false c.agree.result c.if-not-agree.false-raw
+agreed : (c : Else-not-agree) → let l = numbers_of 0 c.args.text.now in agree (named (columns l)) (named (rows l)) ≡ true
+agreed c = agrees (goal.at.Else-not-agree c).After-agree ∙ c.if-not-agree.false
 
-pub judge-found-requires : goal.judge-found-requires
-judge-found-requires c =
-    let told = (form (goal.at.judge-found-requires c).After-agree).read_form-form.ensures in
-    let yes = sound (fine (goal.at.judge-found-requires c).After-agree) in
-    record { sided = (columns_sided told yes, rows_sided told yes); rows_value = named_agree told yes ∙ agreed c }
+pub judge-requires : goal.judge-requires
+judge-requires c =
+    let s = c.args.text.now in
+    let told = c.in-Some.ensures in record {
+      sided = (columns_sided s told, rows_sided s told);
+      same_places = named_agree s told ∙ agreed (goal.at.judge-requires c).Else-not-agree;
+    }
 
 -- ---- the code
-module _ (c : After-judge-found) where
-  abbrev both : Else-not-agree
-  both = (goal.at.After-judge-found c).Else-not-agree
+pub returns-in_err-found : goal.returns-in_err-found
+returns-in_err-found c =
+    let s = c.args.text.now in
+    let told = c.in-Some.ensures in
+    let cause = c.in_err-found.field-0.0 in
+    let p = err_from_is_err_and c.from_residual.result c.from_residual.ensures.1 in
+    let judged : JudgedCode (code_of_text s) (Err cause) = rw (← code_is s told) c.in_err-found.ensures in
+    rw (p.1, p.2) (no_code _ _ (formed s told) (agreed (goal.at.returns-in_err-found c).Else-not-agree) (number cause) judged.first (some_number cause))
 
-  abbrev read : After-read_form-form
-  read = form (goal.at.Else-not-agree both).After-agree
+module _ (c : In_ok-found) where
+  judged : JudgedCode (code_of_text c.args.text.now) (Ok c.in_ok-found.found)
+  judged = rw (← code_is c.args.text.now c.in-Some.ensures) c.in_ok-found.ensures
 
-  abbrev start : Start
-  start = (goal.at.After-read_form-form read).Start
-
-  abbrev code : Code
-  code = code_of_text start.args.text.now
-
-  judged : JudgedCode code c.judge-found.result
-  judged = rw (← code_is read.read_form-form.ensures (sound (fine (goal.at.Else-not-agree both).After-agree))) c.judge-found.ensures
-
-pub returns-then-cause-ne0 : goal.returns-then-cause-ne0
-returns-then-cause-ne0 c =
-    let e = both (goal.at.returns-then-cause-ne0 c).After-judge-found in
-    no_code _ _ (formed (read (goal.at.returns-then-cause-ne0 c).After-judge-found).read_form-form.ensures (sound (fine (goal.at.Else-not-agree e).After-agree))) (agreed e) _ (judged (goal.at.returns-then-cause-ne0 c).After-judge-found).first c.if-cause-ne0.true
-
--- where it has no cause
-judged_sound : (c : Else-cause-ne0) → judge_code (code (goal.at.Else-cause-ne0 c).After-judge-found) ≡ 0
-judged_sound c = sym (judged (goal.at.Else-cause-ne0 c).After-judge-found).first ∙ c.if-cause-ne0.false
-
-pub returns-then-code-bytes : goal.returns-then-code-bytes
-returns-then-code-bytes c =
-    no_room _ _ (formed (read (goal.at.returns-then-code-bytes c).After-judge-found).read_form-form.ensures (sound (fine (goal.at.Else-not-agree (both (goal.at.returns-then-code-bytes c).After-judge-found)).After-agree))) (agreed (both (goal.at.returns-then-code-bytes c).After-judge-found)) (judged_sound (goal.at.returns-then-code-bytes c).Else-cause-ne0)
-    (omega (arith, (judged (goal.at.returns-then-code-bytes c).After-judge-found).sized c.if-cause-ne0.false, c.if-code-bytes.true))
+pub returns-then-code-found : goal.returns-then-code-found
+returns-then-code-found c =
+    let j = judged (goal.at.returns-then-code-found c).In_ok-found in
+    no_room _ _ (formed c.args.text.now c.in-Some.ensures) (agreed (goal.at.returns-then-code-found c).Else-not-agree) (sym j.first) (omega (arith, j.sized, c.if-code-found.true))
 
 pub write_records-requires : goal.write_records-requires
 write_records-requires c =
-    let told = (read (goal.at.write_records-requires c).After-judge-found).read_form-form.ensures in
-    let yes = sound (fine (goal.at.Else-not-agree (both (goal.at.write_records-requires c).After-judge-found)).After-agree) in
-    let found = c.judge-found.ensures in
-    record { sided = (rows_sided told yes, sym found.first ∙ c.if-cause-ne0.false); rows_in_bounds = omega (arith, found.sized c.if-cause-ne0.false, c.if-code-bytes.false) }
+    let told = c.in_ok-found.ensures in
+    record {
+      sided = rows_sided c.args.text.now c.in-Some.ensures;
+      sound = rw c.from.ensures (sym told.first);
+      room = omega (arith, told.sized, c.if-code-found.false);
+    }
 
 pub returns : goal.returns
 returns c =
-    let told = (read (goal.at.returns c).After-judge-found).read_form-form.ensures in
-    let yes = sound (fine (goal.at.Else-not-agree (both (goal.at.returns c).After-judge-found)).After-agree) in
-    imported _ _ (formed told yes) (agreed (both (goal.at.returns c).After-judge-found)) (judged_sound (goal.at.returns c).Else-cause-ne0) _ _ (code_is told yes) ((judged (goal.at.returns c).After-judge-found).sized c.if-cause-ne0.false) c.if-code-bytes.false
+    let s = c.args.text.now in
+    let told = c.in-Some.ensures in
+    let j = judged (goal.at.returns c).In_ok-found in
+    imported _ _ (formed s told) (agreed (goal.at.returns c).Else-not-agree) (sym j.first) _ _ (rw c.from.ensures (code_is s told)) j.sized c.if-code-found.false
     c.write_records.ensures

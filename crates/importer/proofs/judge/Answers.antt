@@ -1,5 +1,6 @@
--- `importer::judge` meets its contract: the causes in their order, and the sizes of a code that has none. Assumes nothing.
-use Rattle.integers.proofs.Prelude.{◌≡◌, sym, ap, ◌∙◌, false, ℕ, arith, not-false, not-true, ltb, length}
+-- The causes in their order, and the sizes of a code that has none.
+use Rattle.integers.proofs.Prelude.{◌≡◌, sym, ap, ◌∙◌, false, ℕ, ◌≤◌, arith, ltb, length}
+use Rattle.std.proofs.lemmas.Result.{err_from_is_err_and}
 use Rattle.lists.specs.Entries.{every}
 use Rattle.model.specs.Limits.{most_bits, most_checks}
 use Rattle.model.specs.Causes.{outside}
@@ -13,93 +14,82 @@ use Rattle.importer.proofs.Rows.{length_named, length_checks}
 use Rattle.importer.proofs.Covered.{covered_named}
 use Rattle.importer.proofs.Judging.{bits_refused, count_refused, checks_refused, triples_refused, bare_refused, code_passes}
 use Rattle.importer.proofs.judge.Goals as goal
-use Rattle.importer.proofs.judge.Goals.{Start, Else-outside, Else-outside-2, After-judge_rows-found, Else-found-ne0, Else-found-gt-MOST_TRIPLES, After-all_named}
+use Rattle.importer.proofs.judge.Goals.{Start, Else-is_outside-2, After-all_named, then-is_outside-via-then-is_outside, then-is_outside-via-else-is_outside+then-is_outside-2}
 
 module _ (s : Start) where
   abbrev code : Code
-  code = code_of_rows s.args.text.now s.args.columns.count s.args.rows
+  code = code_of_rows s.args.columns.now.count s.args.rows.now
 
-  count : length code.checks ≡ s.args.rows.count
+  count : length code.checks ≡ s.args.rows.now.count
   count = length_checks s.requires.sided.1
 
--- ---- the sizes
-bits_fine : (c : Else-outside) → outside 3 most_bits c.args.columns.count ≡ false
-bits_fine c = sym c.outside.ensures ∙ c.if-outside.false
+pub returns-then-is_outside : goal.returns-then-is_outside
+returns-then-is_outside c =
+    let s = (goal.at.returns-then-is_outside c).Start in
+    let bits = ap (outside 3 most_bits) (sym c.from-bits.ensures) ∙ sym c.is_outside.ensures in
+    elim c.then-is_outside.branch [
+      | then-is_outside-via-then-is_outside w ↦ bits_refused (code s) (bits ∙ w.if-is_outside.true)
+      | then-is_outside-via-else-is_outside+then-is_outside-2 w ↦ count_refused (code s) (bits ∙ w.if-is_outside.false)
+          (ap (outside 1 most_checks) (count s ∙ sym w.from.ensures) ∙ sym w.is_outside-else-is_outside.ensures ∙ w.if-is_outside-2.true)
+    ]
 
-checks_fine : (c : Else-outside-2) → outside 1 most_checks (length (code (goal.at.Else-outside-2 c).Start).checks) ≡ false
-checks_fine c = ap (outside 1 most_checks) (count (goal.at.Else-outside-2 c).Start) ∙ sym c.outside-2.ensures ∙ c.if-outside-2.false
+-- ---- the sizes are within their ranges
+module _ (c : Else-is_outside-2) where
+  abbrev start : Start
+  start = (goal.at.Else-is_outside-2 c).Start
 
-pub returns-then-outside : goal.returns-then-outside
-returns-then-outside c =
-    bits_refused (code (goal.at.returns-then-outside c).Start) (sym c.outside.ensures ∙ c.if-outside.true) c.refused.ensures
+  bits_fine : outside 3 most_bits c.args.columns.now.count ≡ false
+  bits_fine = ap (outside 3 most_bits) (sym c.from-bits.ensures) ∙ sym c.is_outside.ensures ∙ c.if-is_outside.false
 
-pub returns-then-outside-2 : goal.returns-then-outside-2
-returns-then-outside-2 c =
-    count_refused (code (goal.at.returns-then-outside-2 c).Start) (bits_fine (goal.at.returns-then-outside-2 c).Else-outside) (ap (outside 1 most_checks) (count (goal.at.returns-then-outside-2 c).Start) ∙ sym c.outside-2.ensures ∙ c.if-outside-2.true)
-    c.refused-then-outside-2.ensures
+  checks_fine : outside 1 most_checks (length (code start).checks) ≡ false
+  checks_fine = ap (outside 1 most_checks) (count start ∙ sym c.from.ensures) ∙ sym c.is_outside-else-is_outside.ensures ∙ c.if-is_outside-2.false
 
-pub judge_rows-found-requires : goal.judge_rows-found-requires
-judge_rows-found-requires c =
-    (c.requires.sided.1, omega (arith, count (goal.at.judge_rows-found-requires c).Start, within 1 most_checks (length (code (goal.at.judge_rows-found-requires c).Start).checks) (checks_fine c)))
+  few_checks : length (code start).checks ≤ most_checks
+  few_checks = omega (arith, within 1 most_checks (length (code start).checks) checks_fine)
 
--- ---- the rows
-pub returns-then-found-ne0 : goal.returns-then-found-ne0
-returns-then-found-ne0 c =
-    checks_refused (code (goal.at.returns-then-found-ne0 c).Start) (bits_fine (goal.at.returns-then-found-ne0 c).Else-outside) (checks_fine (goal.at.returns-then-found-ne0 c).Else-outside-2) c.judge_rows-found.ensures c.if-found-ne0.true
+pub judge_rows-requires : goal.judge_rows-requires
+judge_rows-requires c = record { sided = c.requires.sided.1; few = omega (arith, few_checks c, count (start c)) }
+
+pub returns-in_err-found : goal.returns-in_err-found
+returns-in_err-found c =
+    let e = (goal.at.returns-in_err-found c).Else-is_outside-2 in
+    let p = err_from_is_err_and c.from_residual.result c.from_residual.ensures.1 in
+    let told = (rw c.from-bits.ensures at c.in_err-found.ensures) in
+    rw (p.1, p.2) (checks_refused (code (start e)) (bits_fine e) (checks_fine e) told)
 
 pub returns-then-found-gt-MOST_TRIPLES : goal.returns-then-found-gt-MOST_TRIPLES
 returns-then-found-gt-MOST_TRIPLES c =
-    triples_refused (code (goal.at.returns-then-found-gt-MOST_TRIPLES c).Start) (bits_fine (goal.at.returns-then-found-gt-MOST_TRIPLES c).Else-outside) (checks_fine (goal.at.returns-then-found-gt-MOST_TRIPLES c).Else-outside-2) c.judge_rows-found.ensures c.if-found-ne0.false
-    c.if-found-gt-MOST_TRIPLES.true c.refused-then-found-gt-MOST_TRIPLES.ensures
+    let e = (goal.at.returns-then-found-gt-MOST_TRIPLES c).Else-is_outside-2 in
+    let told = (rw c.from-bits.ensures at c.in_ok-found.ensures) in
+    triples_refused (code (start e)) (bits_fine e) (checks_fine e) told c.if-found-gt-MOST_TRIPLES.true
 
 -- ---- the columns
-module _ (c : After-all_named) where
-  abbrev few : Else-found-gt-MOST_TRIPLES
-  few = (goal.at.After-all_named c).Else-found-gt-MOST_TRIPLES
-
-  abbrev fine : Else-found-ne0
-  fine = (goal.at.Else-found-gt-MOST_TRIPLES few).Else-found-ne0
-
-  abbrev found : After-judge_rows-found
-  found = (goal.at.Else-found-ne0 fine).After-judge_rows-found
-
-  abbrev start : Start
-  start = (goal.at.After-judge_rows-found found).Start
-
-  covered_is : covered (code start) ≡ c.all_named.result
-  covered_is =
-      let text = start.args.text.now in
-      let cs = start.args.columns in
-      let rs = start.args.rows in
-      let same = (agreement (named_in text cs) (named_in text rs)).0 start.requires.rows_value in
-      ap (λ (n : ℕ). covered (code_of_rows text n rs)) (sym (length_named start.requires.sided.0))
-      ∙ covered_named (named_in text cs) (named_in text rs) start.requires.sided.0.indices start.requires.sided.1.indices same
-      ∙ ap (every (ltb 0)) start.requires.sided.0.lengths ∙ sym c.all_named.ensures
+covered_is : (c : After-all_named) → covered (code (goal.at.After-all_named c).Start) ≡ c.all_named.result
+covered_is c =
+    let cs = c.args.columns.now in
+    let rs = c.args.rows.now in
+    let same = (agreement (named_in cs) (named_in rs)).0 c.requires.same_places in
+    ap (λ (n : ℕ). covered (code_of_rows n rs)) (sym (length_named c.requires.sided.0))
+    ∙ covered_named (named_in cs) (named_in rs) c.requires.sided.0.indices c.requires.sided.1.indices same
+    ∙ ap (every (ltb 0)) c.requires.sided.0.lengths ∙ sym c.all_named.ensures
 
 pub returns-then-not-all_named : goal.returns-then-not-all_named
 returns-then-not-all_named c =
-    let r = found (goal.at.returns-then-not-all_named c).After-all_named in
-    bare_refused (code (start (goal.at.returns-then-not-all_named c).After-all_named)) (bits_fine (goal.at.After-judge_rows-found r).Else-outside) (checks_fine (goal.at.After-judge_rows-found r).Else-outside-2) r.judge_rows-found.ensures (fine (goal.at.returns-then-not-all_named c).After-all_named).if-found-ne0.false
-    (few (goal.at.returns-then-not-all_named c).After-all_named).if-found-gt-MOST_TRIPLES.false (covered_is (goal.at.returns-then-not-all_named c).After-all_named ∙ not-true c.all_named.result c.if-not-all_named.true-raw) c.refused-then-not-all_named.ensures
+    let e = (goal.at.returns-then-not-all_named c).Else-is_outside-2 in
+    let told = (rw c.from-bits.ensures at c.in_ok-found.ensures) in
+    bare_refused (code (start e)) (bits_fine e) (checks_fine e) told c.if-found-gt-MOST_TRIPLES.false
+    (covered_is (goal.at.returns-then-not-all_named c).After-all_named ∙ c.if-not-all_named.true)
 
 pub overflow_add-result : goal.overflow_add-result
 overflow_add-result c =
-    let r = found (goal.at.overflow_add-result c).After-all_named in
-    let checks = (code (start (goal.at.overflow_add-result c).After-all_named)).checks in
-    let told = r.judge_rows-found.ensures in
-    let z = (fine (goal.at.overflow_add-result c).After-all_named).if-found-ne0.false in
-    omega (
-      arith,
-      told.sized z,
-      told.counted z,
-      (few (goal.at.overflow_add-result c).After-all_named).if-found-gt-MOST_TRIPLES.false,
-      records_total checks,
-      places_most checks,
-      within 1 most_checks (length checks) (checks_fine (goal.at.After-judge_rows-found r).Else-outside-2),
-    )
+    let e = (goal.at.overflow_add-result c).Else-is_outside-2 in
+    let checks = (code (start e)).checks in
+    let told = c.in_ok-found.ensures in
+    omega (arith, told.sized, told.counted, c.if-found-gt-MOST_TRIPLES.false, records_total checks, places_most checks, few_checks e)
 
 pub returns : goal.returns
 returns c =
-    let r = found (goal.at.returns c).After-all_named in
-    code_passes (code (start (goal.at.returns c).After-all_named)) (bits_fine (goal.at.After-judge_rows-found r).Else-outside) (checks_fine (goal.at.After-judge_rows-found r).Else-outside-2) r.judge_rows-found.ensures (fine (goal.at.returns c).After-all_named).if-found-ne0.false
-    (few (goal.at.returns c).After-all_named).if-found-gt-MOST_TRIPLES.false (covered_is (goal.at.returns c).After-all_named ∙ not-false c.all_named.result c.if-not-all_named.false-raw)
+    let e = (goal.at.returns c).Else-is_outside-2 in
+    let told = (rw c.from-bits.ensures at c.in_ok-found.ensures) in
+    code_passes (code (start e)) (bits_fine e) (checks_fine e) told c.if-found-gt-MOST_TRIPLES.false
+    (covered_is (goal.at.returns c).After-all_named ∙ c.if-not-all_named.false)

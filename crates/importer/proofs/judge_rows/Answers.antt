@@ -1,59 +1,54 @@
--- `importer::judge_rows` meets its contract: the rows so far are sound, and those that are left decide. Assumes nothing.
-use Rattle.integers.proofs.Prelude.{◌≡◌, List, [], ℕ, ◌<◌, arith, length, get_or}
-use Rattle.importer.specs.Rows.{bits_at, checks_of}
-use Rattle.importer.proofs.Rows.{length_checks, walk_start, walk_indexed, walk_check, walk_next}
+-- The rows so far are sound, and those that are left decide.
+use Rattle.integers.proofs.Prelude.{◌≡◌, [], ◌<◌, arith, length, get_or}
+use Rattle.std.proofs.lemmas.Result.{err_from_is_err_and}
+use Rattle.importer.specs.Rows.{Indexed, bits_at, checks_of}
+use Rattle.importer.proofs.Rows.{length_checks, walk_start, walk_known, walk_indexed, walk_check, walk_next}
 use Rattle.importer.proofs.Judging.{check_sizes, passed_start, passed_next, passed_not, passed_all}
 use Rattle.importer.proofs.judge_rows.Goals as goal
-use Rattle.importer.proofs.judge_rows.Goals.{Start, At-loop-j, After-judge_row-row}
+use Rattle.importer.proofs.judge_rows.Goals.{After-known-degree}
 
-pub loop-j-init : goal.loop-j-init
-loop-j-init c = (walk_start c.requires.0, passed_start _ _)
+pub loop-init : goal.loop-init
+loop-init c = (walk_start c.requires.sided c.again-degrees.ensures c.again-lists.ensures, passed_start _ _)
 
-pub judge_row-row-requires : goal.judge_row-row-requires
-judge_row-row-requires c =
-    walk_indexed c.requires.0 c.loop-j.j c.loop-j-test.true c.loop-j.invariant.0 c.next-degree.ensures
+pub known-degree-requires : goal.known-degree-requires
+known-degree-requires c = walk_known c.requires.sided c.loop.counter c.loop-test.true c.loop.invariant.0
 
--- the row at hand
-module _ (c : After-judge_row-row) where
-  abbrev at_loop : At-loop-j
-  at_loop = (goal.at.After-judge_row-row c).At-loop-j
+-- ---- the row at hand
+module _ (c : After-known-degree) where
+  there : c.loop.counter < length (checks_of c.args.rows.now)
+  there = omega (arith, length_checks c.requires.sided, c.loop-test.true)
 
-  abbrev start : Start
-  start = (goal.at.At-loop-j at_loop).Start
+  here : get_or (checks_of c.args.rows.now) c.loop.counter [] ≡ bits_at c.loop.lists c.known-degree.result
+  here = walk_check c.requires.sided c.loop.counter c.loop-test.true c.loop.invariant.0 c.known-degree.ensures
 
-  abbrev checks : List (List ℕ)
-  checks = checks_of start.args.text.now start.args.rows
+  indexed : Indexed c.loop.lists c.known-degree.result
+  indexed = walk_indexed c.requires.sided c.loop.counter c.loop-test.true c.loop.invariant.0 c.known-degree.ensures
 
-  abbrev j : ℕ
-  j = at_loop.loop-j.j
+pub judge_row-requires : goal.judge_row-requires
+judge_row-requires c = let k = indexed (goal.at.judge_row-requires c).After-known-degree in let e = c.from.ensures in rw e k
 
-  abbrev row : List ℕ
-  row = bits_at start.args.text.now at_loop.loop-j.at c.next-degree.result.value
-
-  there : j < length checks
-  there = omega (arith, length_checks start.requires.0, c.loop-j-test.true)
-
-  here : get_or checks j [] ≡ row
-  here = walk_check start.requires.0 j c.loop-j-test.true at_loop.loop-j.invariant.0 c.next-degree.ensures
-
-pub returns-then-row-ne0 : goal.returns-then-row-ne0
-returns-then-row-ne0 c =
-    passed_not (at_loop (goal.at.returns-then-row-ne0 c).After-judge_row-row).loop-j.invariant.1 (there (goal.at.returns-then-row-ne0 c).After-judge_row-row) (here (goal.at.returns-then-row-ne0 c).After-judge_row-row) c.judge_row-row.ensures c.if-row-ne0.true
+pub returns-in_err-row : goal.returns-in_err-row
+returns-in_err-row c =
+    let k = (goal.at.returns-in_err-row c).After-known-degree in
+    let p = err_from_is_err_and c.from_residual.result c.from_residual.ensures.1 in
+    let told = (rw c.from.ensures at c.in_err-row.ensures) in
+    rw (p.1, p.2) (passed_not c.loop.invariant.1 (there k) (here k) told)
 
 pub overflow_add-triples : goal.overflow_add-triples
 overflow_add-triples c =
-    omega (arith, check_sizes _ _ c.judge_row-row.ensures c.if-row-ne0.false, (at_loop (goal.at.overflow_add-triples c).After-judge_row-row).loop-j.invariant.1.few_triples, there (goal.at.overflow_add-triples c).After-judge_row-row, (start (goal.at.overflow_add-triples c).After-judge_row-row).requires.1)
+    omega (arith, check_sizes _ _ c.in_ok-row.ensures, c.loop.invariant.1.few_triples, c.loop-test.true, c.requires.few)
 
 pub overflow_add-bytes : goal.overflow_add-bytes
 overflow_add-bytes c =
-    omega (arith, check_sizes _ _ c.judge_row-row.ensures c.if-row-ne0.false, (at_loop (goal.at.overflow_add-bytes c).After-judge_row-row).loop-j.invariant.1.few_bytes, there (goal.at.overflow_add-bytes c).After-judge_row-row, (start (goal.at.overflow_add-bytes c).After-judge_row-row).requires.1)
+    omega (arith, check_sizes _ _ c.in_ok-row.ensures, c.loop.invariant.1.few_bytes, c.loop-test.true, c.requires.few)
 
-pub loop-j-preserved : goal.loop-j-preserved
-loop-j-preserved c = (
-  walk_next (start (goal.at.loop-j-preserved c).After-judge_row-row).requires.0 (j (goal.at.loop-j-preserved c).After-judge_row-row) c.loop-j-test.true (at_loop (goal.at.loop-j-preserved c).After-judge_row-row).loop-j.invariant.0 c.next-degree.ensures c.largest-list.ensures,
-  passed_next (at_loop (goal.at.loop-j-preserved c).After-judge_row-row).loop-j.invariant.1 (there (goal.at.loop-j-preserved c).After-judge_row-row) (here (goal.at.loop-j-preserved c).After-judge_row-row) c.judge_row-row.ensures c.if-row-ne0.false,
-)
+pub loop-preserved : goal.loop-preserved
+loop-preserved c =
+    let k = (goal.at.loop-preserved c).After-known-degree in
+    let told = (rw c.from.ensures at c.in_ok-row.ensures) in (
+      walk_next c.requires.sided c.loop.counter c.loop-test.true c.loop.invariant.0 c.known-degree.ensures c.from-most.ensures c.pass.ensures,
+      passed_next c.loop.invariant.1 (there k) (here k) told,
+    )
 
 pub returns : goal.returns
-returns c =
-    passed_all c.loop-j.invariant.1 (omega (arith, length_checks c.requires.0))
+returns c = passed_all c.loop.invariant.1 (omega (arith, length_checks c.requires.sided))

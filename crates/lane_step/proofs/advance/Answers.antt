@@ -21,7 +21,7 @@ module _ (m : After-write_values) where
   p = m.args.walk.now.plan
 
   valued : (l : ℕ) → l < p.lanes → LaneValued p m.args.walk.now.counts.now m.args.settings.ratio m.args.i m.args.work.now m.write_values.new.work l
-  valued l h = rw m.requires.ready.1 at (m.write_values.ensures.valued l h)
+  valued l h = rw m.requires.ratio at (m.write_values.ensures.valued l h)
 
   half : Halves p (cond (some_run m.args.running.now 0) 0 4) (cond (some_run m.args.running.now 4) 8 4)
   half = halves p m.args.running.now m.requires.fits.0.lanes m.requires.below m.requires.one_runs.0 m.requires.one_runs.1

@@ -95,7 +95,7 @@ short_2 c = omega (arith, short_1 (second c), c.give-2.auto.work)
 pub give_third-requires : goal.give_third-requires
 give_third-requires c =
     let r = first (second (goal.at.give_third-requires c).After-give-2) in
-    (λ some. ((start (loaded r)).requires.u_in_bounds.2 some, asked r 2 (omega arith) some (two (goal.at.give_third-requires c).After-give-2)), short_2 (goal.at.give_third-requires c).After-give-2)
+    (λ some. ((start (loaded r)).requires.variables_counted.2 some, asked r 2 (omega arith) some (two (goal.at.give_third-requires c).After-give-2)), short_2 (goal.at.give_third-requires c).After-give-2)
 
 pub returns : goal.returns
 returns c =
@@ -140,7 +140,7 @@ pub overflow_add-first-2 : goal.overflow_add-first-2
 overflow_add-first-2 c = let s = start (loaded (goal.at.overflow_add-first-2 c).After-renew_four-x) in omega (arith, first_low s, s.requires.w_bound)
 
 pub is_wide-requires : goal.is_wide-requires
-is_wide-requires c = (start (loaded (goal.at.is_wide-requires c).After-renew_four-x)).requires.u_in_bounds.0
+is_wide-requires c = (start (loaded (goal.at.is_wide-requires c).After-renew_four-x)).requires.variables_counted.0
 
 pub overflow_mul-second : goal.overflow_mul-second
 overflow_mul-second c = omega (arith, second_low (start (loaded (first (goal.at.overflow_mul-second c).After-give))))
@@ -152,7 +152,7 @@ pub overflow_add-second-2 : goal.overflow_add-second-2
 overflow_add-second-2 c = let s = start (loaded (first (goal.at.overflow_add-second-2 c).After-give)) in omega (arith, second_low s, s.requires.w_bound)
 
 pub is_wide-requires-2 : goal.is_wide-requires-2
-is_wide-requires-2 c = (start (loaded (first (goal.at.is_wide-requires-2 c).After-give))).requires.u_in_bounds.1
+is_wide-requires-2 c = (start (loaded (first (goal.at.is_wide-requires-2 c).After-give))).requires.variables_counted.1
 
 pub overflow_mul-last : goal.overflow_mul-last
 overflow_mul-last c = let s = start (loaded (first (second (goal.at.overflow_mul-last c).After-give-2))) in omega (arith, s.requires.w_bound)

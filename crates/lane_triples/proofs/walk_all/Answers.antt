@@ -1,38 +1,22 @@
 -- `lane_triples::walk_all` meets its contract: the triples before i are done. Assumes nothing.
 use Rattle.integers.proofs.Prelude.{◌≡◌, subst, ℕ, arith}
 use Rattle.lane_triples.specs.Walk.{InWalk}
-use Rattle.lane_triples.proofs.Walks.{at_begin, next_triple}
+use Rattle.lane_triples.proofs.Walks.{next_triple}
 use Rattle.lane_triples.proofs.walk_all.Goals as goal
-use Rattle.lane_triples.proofs.walk_all.Goals.{Start, At-loop-i}
 
-abbrev start : At-loop-i → Start
-start l = (goal.at.At-loop-i l).Start
-
-pub walk_any-requires : goal.walk_any-requires
-walk_any-requires c =
-    let s = start (goal.at.walk_any-requires c).At-loop-i in
-    record { fits = (c.loop-i.invariant.0.fits, s.requires.fits.1, omega (arith, s.requires.fits, c.loop-i-test.true)); begun = (s.requires.begun.0, s.requires.begun.1, s.requires.begun.2, c.loop-i.invariant.1 s.requires.begun.0 s.requires.begun.1 s.requires.begun.2 s.requires.begun.3) }
+pub walk-requires-clause-begun : goal.walk-requires-clause-begun
+walk-requires-clause-begun g c =
+    let b = c.requires.begun in
+    (b.0, b.1, b.2, c.loop-i.invariant.1 b.0 b.1 b.2 b.3)
 
 pub loop-i-preserved : goal.loop-i-preserved
-loop-i-preserved c = (
-  next_triple c.loop-i.invariant.0 c.loop-i-test.true c.walk_any.auto.work c.walk_any.ensures.same_beside,
-  λ i w k begin. c.walk_any.ensures.walks i w k (c.loop-i.invariant.1 i w k begin),
+loop-i-preserved g c = (
+  next_triple c.loop-i.invariant.0 c.loop-i-test.true c.walk.auto.work c.walk.ensures.same_beside,
+  λ i w k begin. c.walk.ensures.walks i w k (c.loop-i.invariant.1 i w k begin),
 )
 
-pub returns : goal.returns
-returns c =
-    let a = (start (goal.at.returns c).At-loop-i).args in
+pub returns-clause-walks : goal.returns-clause-walks
+returns-clause-walks g c i w k begin =
+    let a = c.args in
     let e : c.loop-i.i ≡ a.end = omega (arith, c.loop-i.invariant.0.last, c.loop-i-test.false) in
-    record { walks = λ i w k begin. subst (λ (u : ℕ). InWalk a.p a.triples.now a.counts.now i w a.from a.to u c.loop-i.work) e (c.loop-i.invariant.1 i w k begin); same_beside = c.loop-i.invariant.0.beside }
-
-pub loop-i-init : goal.loop-i-init
-loop-i-init c = (at_begin c.requires.fits.0 c.requires.fits.2, λ i w k begin. begin)
-
-pub overflow_step-i : goal.overflow_step-i
-overflow_step-i c = omega (arith, c.loop-i-test.true)
-
-pub loop-i-smaller : goal.loop-i-smaller
-loop-i-smaller c = omega (arith, c.loop-i-test.true)
-
-pub shape_of-work : goal.shape_of-work
-shape_of-work c = c.loop-i.invariant.0.long
+    subst (λ (u : ℕ). InWalk a.p a.triples.now a.counts.now i w a.from a.to u c.loop-i.work) e (c.loop-i.invariant.1 i w k begin)

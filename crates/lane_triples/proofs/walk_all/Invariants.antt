@@ -5,7 +5,7 @@ use Rattle.lane_triples.proofs.Walks.{AtTriple}
 use Rattle.lane_triples.proofs.walk_all.Given as goal
 
 abbrev pub invariant-loop-i : goal.invariant-loop-i
-invariant-loop-i l = AtTriple l.p l.from l.to l.t l.end l.i l.initial.work l.work × Walks l.p l.triples l.counts l.values l.next l.from l.to l.t l.i l.initial.work l.work
+invariant-loop-i g l = AtTriple l.p l.from l.to l.t l.end l.i l.initial.work l.work × Walks l.p l.triples l.counts l.values l.next l.from l.to l.t l.i l.initial.work l.work
 
 abbrev pub decreases-loop-i : goal.decreases-loop-i
-decreases-loop-i l = l.end - l.i
+decreases-loop-i g l = l.end - l.i

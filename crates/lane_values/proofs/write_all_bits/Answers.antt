@@ -12,18 +12,16 @@ abbrev turn : After-same_until-end → At-loop-v
 turn c = (goal.at.After-same_until-end c).At-loop-v
 
 pub same_until-end-requires : goal.same_until-end-requires
-same_until-end-requires c = let s = start (goal.at.same_until-end-requires c).At-loop-v in (c.loop-v-test.true, omega (arith, s.requires.fits.3.long, s.requires.fits.0.bits))
+same_until-end-requires c = let s = start (goal.at.same_until-end-requires c).At-loop-v in (c.loop-v-test.true, omega (arith, s.requires.fits.2.long, s.requires.fits.0.bits))
 
 pub write_bits-requires : goal.write_bits-requires
 write_bits-requires c =
     let l = turn (goal.at.write_bits-requires c).After-same_until-end in
     let a = (start l).args in
     let fits = (start l).requires.fits.0 in record {
-      fits = (still_fits fits l.loop-v.invariant.1.long, (start l).requires.fits.1, (start l).requires.fits.2, (start l).requires.fits.3);
-      limits32_len = (start l).requires.limits32_len;
-      narrow_tables = (start l).requires.narrow_tables;
+      fits = (still_fits fits l.loop-v.invariant.1.long, (start l).requires.fits.1, (start l).requires.fits.2);
       v_lt_end = c.same_until-end.ensures;
-      entries = entries_later a.counts.now a.ratio l.loop-v.v fits (start l).requires.fits.1 l.loop-v.invariant.1 c.same_until-end.ensures.1 (start l).requires.entries;
+      entries = entries_later a.counts.now a.divisors.now.any l.loop-v.v fits (start l).requires.fits.1 l.loop-v.invariant.1 c.same_until-end.ensures.1 (start l).requires.entries;
     }
 
 pub loop-v-preserved : goal.loop-v-preserved
@@ -31,7 +29,7 @@ loop-v-preserved c =
     let l = turn (goal.at.loop-v-preserved c).After-same_until-end in
     let a = (start l).args in (
       c.same_until-end.ensures.1,
-      bits_next a.counts.now a.ratio l.loop-v.v (start l).requires.fits.0 (start l).requires.fits.1 l.loop-v.invariant.1 c.same_until-end.ensures.1 (omega (arith, c.same_until-end.ensures.0))
+      bits_next a.counts.now a.divisors.now.any l.loop-v.v (start l).requires.fits.0 (start l).requires.fits.1 l.loop-v.invariant.1 c.same_until-end.ensures.1 (omega (arith, c.same_until-end.ensures.0))
           c.write_bits.ensures,
     )
 

@@ -1,14 +1,12 @@
 -- `lane_values::write_narrow` meets its contract: the entries below i are stored. Assumes nothing.
-use Rattle.integers.proofs.Prelude.{[], ◌∷◌, ◌-◌, ◌≤◌, ℤ}
-use Rattle.quotient.specs.Narrowed.{Narrowed}
+use Rattle.integers.proofs.Prelude.{[], ◌∷◌, ◌-◌, ◌≤◌}
 use Rattle.lane_values.specs.Stored.{Stored}
 use Rattle.lane_values.specs.Places.{narrow_value}
 use Rattle.lane_values.proofs.write_narrow.Given as goal
 
 abbrev pub invariant-loop-i : goal.invariant-loop-i
 invariant-loop-i l = (l.from ≤ l.i) × (l.i ≤ l.to)
-    × ((den : ℤ) → Narrowed den l.limit l.inverse l.raise
-    → Stored 2 (l.values ∷ l.next ∷ l.sums ∷ l.weighed ∷ []) (narrow_value l.initial.work l.sums l.weighed den) l.from l.i l.initial.work l.work)
+    × Stored 2 (l.values ∷ l.next ∷ l.sums ∷ l.weighed ∷ []) (narrow_value l.initial.work l.sums l.weighed l.narrow) l.from l.i l.initial.work l.work
 
 abbrev pub decreases-loop-i : goal.decreases-loop-i
 decreases-loop-i l = l.to - l.i

@@ -12,14 +12,14 @@ write_all_bits-requires-clause-entries c = bit_entries c.args.i c.requires.fits.
 pub write_all_auxiliaries-requires-clause-fits : goal.write_all_auxiliaries-requires-clause-fits
 write_all_auxiliaries-requires-clause-fits c = (still_fits c.requires.fits.0 c.write_all_bits.ensures.long, c.requires.fits.1, c.requires.fits.2)
 
-pub write_all_auxiliaries-requires-clause-by_index_2 : goal.write_all_auxiliaries-requires-clause-by_index_2
-write_all_auxiliaries-requires-clause-by_index_2 c k l m =
-    sums_left c.args.counts.now c.args.divisors.now.ratio c.requires.fits.0 c.requires.fits.1 c.write_all_bits.ensures (2 ^ 31 - 2 ^ 24) k m
+pub write_all_auxiliaries-requires-clause-in_range : goal.write_all_auxiliaries-requires-clause-in_range
+write_all_auxiliaries-requires-clause-in_range c k l m =
+    sums_left c.args.counts.now c.args.divisors.now.any c.requires.fits.0 c.requires.fits.1 c.write_all_bits.ensures (2 ^ 31 - 2 ^ 24) k m
     (auxiliary_within c.args.i c.requires.fits.0 c.requires.fits.1 c.requires.fits.2 c.requires.within k l m)
 
 pub returns : goal.returns
 returns c =
-    let a = c.args.divisors.now.ratio in
+    let a = c.args.divisors.now.any in
     let bits = c.write_all_bits.ensures in
-    let others = c.write_all_auxiliaries.ensures a c.requires.fits.3.narrow in
+    let others = c.write_all_auxiliaries.ensures in
     record { fits = still_fits c.requires.fits.0 (others.long ∙ bits.long); valued = λ l h. lane_valued a c.requires.fits.0 c.requires.fits.1 c.requires.fits.2 bits others l h }

@@ -56,7 +56,7 @@ module _ (c : After-weighed_whole-x) where
 pub divide-requires : goal.divide-requires
 divide-requires c =
     let l = turn (now c) in
-    rw (x_is c) (record { x_bound = ((start l).requires.by_index l.loop-i.i l.loop-i.invariant.0 (now c).loop-i-test.true, (start l).requires.le_count.0, (start l).requires.le_count.1, (start l).requires.le_count.2); tables = (start l).requires.le_count.3 })
+    rw (x_is c) ((start l).requires.in_range l.loop-i.i l.loop-i.invariant.0 (now c).loop-i-test.true, (start l).requires.count.0, (start l).requires.count.1)
 
 abbrev last : After-raised → In-loop-i
 last c = now (goal.at.After-raised c).After-weighed_whole-x
@@ -65,7 +65,7 @@ pub loop-i-preserved : goal.loop-i-preserved
 loop-i-preserved c =
     let l = turn (last c) in
     let a = (start l).args in
-    let d = divisor (4 * a.count) a.ratio in
+    let d = divisor (4 * a.count) a.divisors.now in
     let value = read_back w16 c.divide.type_inv (c.divide.ensures ∙ ap (λ (x : ℤ). quotient (neg_ℤ x) d) (x_is (goal.at.loop-i-preserved c).After-weighed_whole-x)) in (
       omega arith,
       omega arith,

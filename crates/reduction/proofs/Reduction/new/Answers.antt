@@ -4,4 +4,4 @@ use Rattle.reduction.proofs.Table.{length_columns}
 use Rattle.reduction.proofs.Reduction.new.Goals as goal
 
 pub returns-clause-width : goal.returns-clause-width
-returns-clause-width c = length_columns c.bits.result c.reduce.new.rows ∙ c.bits.ensures.value
+returns-clause-width c = length_columns c.bits-bits.result c.reduce.new.rows ∙ c.bits-bits.ensures.value
