@@ -248,9 +248,12 @@ fn renew_rest(
     requires known { Known known triples.now }
     ensures { rows.new ≡ renewed_from count triples.now values.now from rows.old }
 {
-    for t in (from..count).step_by(4) {
+    // A `while`: with `step_by` the compiler keeps the tests of a blank in the loop where none is known, 96 instructions in the place of 66.
+    let mut t = from;
+    while t < count {
         let c = thirds(triples, values, t, known);
         let _four = renew_four(triples, values, c, rows, t);
+        t += 4;
     }
 }
 

@@ -1,5 +1,5 @@
 -- `lane_triples::walk` meets its contract: the lanes before l have the triple done, those from l on have not. Assumes nothing.
-use Rattle.integers.proofs.Prelude.{◌≡◌, ap, subst, ◌∙◌, false, ℕ, suc, ◌+◌, ◌<◌, arith, add-one, eqb-false, ne_eqb, eqb, length, not, true, refl}
+use Rattle.integers.proofs.Prelude.{◌≡◌, ap, subst, ◌∙◌, ℕ, suc, ◌+◌, arith, add-one, eqb-false, ne_eqb, eqb, length, not, true, refl}
 use Rattle.lists.proofs.Tabulated.{length_tab}
 use Rattle.model.specs.Splitting.{blank}
 use Rattle.model.specs.Iteration.{occurrences}
