@@ -1,5 +1,5 @@
 -- One iteration in lanes. Definitions only.
-use Rattle.std.specs.Prelude.{Bool, false, ◌||◌, List, ◌≡◌, ℕ, ◌+◌, ◌*◌, ◌≤◌, ◌<◌, ℤ, pos, nat_abs, ◌*ℤ◌, get_or, ◌≤ℤ◌}
+use Rattle.std.specs.Prelude.{Bool, false, ◌||◌, List, ◌≡◌, ℕ, ◌+◌, ℤ, pos, ◌*ℤ◌, get_or}
 use Rattle.lists.specs.Tabulated.{tab}
 use Rattle.model.specs.Code.{Code}
 use Rattle.model.specs.Splitting.{System}

@@ -1,5 +1,5 @@
 -- The divisors of 2 to 8 triples. Assumes nothing.
-use Rattle.integers.proofs.Prelude.{◌≡◌, ◌∙◌, ℕ, ◌+◌, ◌*◌, ◌≤◌, ◌<◌, arith, List, ℤ, pos, ◌≤ℤ◌, length, get_or}
+use Rattle.integers.proofs.Prelude.{◌≡◌, ◌∙◌, ℕ, ◌*◌, ◌≤◌, arith, List, ℤ, pos, ◌≤ℤ◌, length, get_or}
 use Rattle.integers.proofs.Linear.{to_ℕ}
 use Rattle.quotient.specs.Quotient.{least_narrow, most_narrow}
 use Rattle.model.specs.Limits.{most_ratio}

@@ -1,7 +1,7 @@
 -- `lane_values::write_all_auxiliaries` meets its contract. Assumes nothing.
-use Rattle.integers.proofs.Prelude.{◌≡◌, refl, ◌∙◌, ℕ, ◌*◌, arith, rules}
+use Rattle.integers.proofs.Prelude.{◌≡◌, refl, ◌∙◌, ◌*◌, arith, rules}
 use native.Mathlib.Nat.{mul-le-mul_left}
-use Rattle.model.specs.Iteration.{at, divisor}
+use Rattle.model.specs.Iteration.{divisor}
 use Rattle.lane_values.proofs.Valued.{handed_auxiliaries, stored_auxiliaries}
 use Rattle.lane_values.proofs.Tables.{entry_is}
 use Rattle.lane_values.proofs.write_all_auxiliaries.Goals as goal

@@ -1,5 +1,5 @@
 -- `lane_values::write_auxiliaries` meets its contract: the entries below i are stored. Assumes nothing.
-use Rattle.integers.proofs.Prelude.{◌≡◌, ap, ◌∙◌, ◌+◌, ◌<◌, arith, ℤ, pos, neg_ℤ, ◌+ℤ◌, ◌*ℤ◌, w32, to_z, of_z}
+use Rattle.integers.proofs.Prelude.{◌≡◌, ap, ◌∙◌, ◌+◌, arith, ℤ, pos, neg_ℤ, ◌+ℤ◌, ◌*ℤ◌, w32, to_z, of_z}
 use Rattle.integers.proofs.Machine.{kept, read_back}
 use Rattle.quotient.specs.Quotient.{unit, quotient}
 use Rattle.model.specs.Iteration.{at}

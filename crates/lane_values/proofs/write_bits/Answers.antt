@@ -1,8 +1,7 @@
 -- `lane_values::write_bits` meets its contract: what is handed on are the parts of the bits. Assumes nothing.
-use Rattle.integers.proofs.Prelude.{refl, ℕ, ◌*◌, ◌≤◌, arith, rules, ltb-true, leb-true, ltb, leb, get_or}
+use Rattle.integers.proofs.Prelude.{refl, ◌*◌, ◌≤◌, arith, rules, ltb-true, leb-true, ltb, leb}
 use native.Mathlib.Nat.{mul-le-mul_left}
 use Rattle.lists.proofs.Tests.{and_left, and_right}
-use Rattle.model.specs.Iteration.{divisor}
 use Rattle.lanes.specs.Lanes.{most_narrow}
 use Rattle.lane_values.proofs.Tables.{entry_is}
 use Rattle.lane_values.proofs.Bits.{whole_within, narrow_parts}
