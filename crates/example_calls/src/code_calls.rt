@@ -86,7 +86,10 @@ pub fn extending(code: &[u8], word: &[u8], rooms: &[u8]) {
     let n = room(rooms);
     let mut point = [9u8; 16];
     verdict(b" test", codeword::test(code, word));
-    verdict(b", extension", codeword::extend(code, word, &mut point[..n]));
+    verdict(
+        b", extension",
+        codeword::extend(code, word, &mut point[..n]),
+    );
     list(b", point", &point[..n]);
 }
 

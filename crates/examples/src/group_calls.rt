@@ -47,10 +47,9 @@ fn answer(decoded: Result<[DecodeAnswer; 8], Cause>) {
 // Lists of up to 16 entries, and a work list of up to 128: how many frames are told, and the room of each list.
 pub fn grouping(given: &[u8], frames: &[u8], sizes: &[u8]) {
     let mut costs = [0i16; 24];
-    let mut n = 0;
-    for frame in frames.iter().take(8) {
-        costs[n..n + 3].copy_from_slice(&costs_of(*frame));
-        n += 3;
+    let n = 3 * frames.len().min(8);
+    for i in 0..n {
+        costs[i] = costs_of(frames[i / 3])[i % 3];
     }
     let sizes = Numbers::read(sizes, 10).values;
     let [told, ..] = sizes;
@@ -71,6 +70,13 @@ pub fn grouping(given: &[u8], frames: &[u8], sizes: &[u8]) {
         rows: &mut rows[..r],
         word: &mut word[..w],
     };
-    answer(group::decode(&CODE, settings(given), told, &costs[..n], &mut lists, &mut work[..a]));
+    answer(group::decode(
+        &CODE,
+        settings(given),
+        told,
+        &costs[..n],
+        &mut lists,
+        &mut work[..a],
+    ));
     each_list(&lists);
 }

@@ -170,7 +170,7 @@ pub struct Lists<'a> {
 
 // What is told of a run: a number, a bit or a check, the iterations, and whether the frame settled.
 #[repr(C)]
-#[derive(Clone, Copy)]
+#[derive(Clone, Copy, Default)]
 pub struct DecodeAnswer {
     pub number: u32,
     pub place: usize,
@@ -213,4 +213,22 @@ impl From<Result<Decoding, Cause>> for DecodeAnswer {
 pub struct GroupAnswer {
     pub number: u32,
     pub frames: [DecodeAnswer; 8],
+}
+
+impl From<Result<[DecodeAnswer; 8], Cause>> for GroupAnswer {
+    ghost use Rattle.std.specs.Prelude.{map, replicate, MatchResult};
+    ghost use Rattle.model.specs.Causes.{number_of};
+
+    ghost from_gives = { λ decoded answer. (answer.number ≡ number_of decoded) × MatchResult decoded (λ frames. answer.frames ≡ frames)
+        (λ cause. map run_told answer.frames ≡ replicate 8 (record { number = 0; place = 0; k = 0; settled = 0 })) };
+
+    fn from(decoded: Result<[DecodeAnswer; 8], Cause>) -> GroupAnswer {
+        match decoded {
+            Ok(frames) => GroupAnswer { number: 0, frames },
+            Err(cause) => GroupAnswer {
+                number: cause.number(),
+                frames: [DecodeAnswer::default(); 8],
+            },
+        }
+    }
 }

@@ -1,9 +1,0 @@
--- `examples::table::each` meets its contract. Assumes nothing.
-use Rattle.integers.proofs.Prelude.{◌-◌, length}
-use Rattle.examples.proofs.table.each.Given as goal
-
-abbrev pub invariant-loop-at : goal.invariant-loop-at
-invariant-loop-at l = Unit {0}
-
-abbrev pub decreases-loop-at : goal.decreases-loop-at
-decreases-loop-at l = length l.s - l.at
