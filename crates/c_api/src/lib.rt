@@ -4,6 +4,7 @@
 
 ghost use Rattle.std.specs.Prelude.{◌≡◌};
 ghost use Rattle.model.specs.declared.Settings.{Settings};
+ghost use Rattle.model.specs.Causes.{number_of, count_of};
 ghost use Rattle.model.specs.Calls.{reading_told, verdict_told, lists_of, run_told};
 ghost use Rattle.model.specs.Group.{group_told};
 ghost use Rattle.model.specs.Promises.{ReaderCall, SplitterCall, FrontCall, ReflectorCall, AdderCall, TestCall, ExtensionCall, DecoderCall};
@@ -12,9 +13,7 @@ ghost use Rattle.model.specs.GroupPromises.{GroupCall};
 ghost use Rattle.model.specs.AlistPromises.{ImportCall, ExportCall, SizeCall};
 ghost use Rattle.c_api.specs.Answers.{code_answer, word_answer};
 
-use model::{
-    Channel, DecodeAnswer, Erasure, GroupAnswer, Length, Reading, Settings, Verdict, Written,
-};
+use model::{Cause, Channel, DecodeAnswer, Erasure, GroupAnswer, Lists, Settings, Sizes, Verdict};
 
 // ---- the answers
 
@@ -28,12 +27,46 @@ pub struct CodeAnswer {
     pub triples: usize,
 }
 
+impl From<Result<Sizes, Cause>> for CodeAnswer {
+    ghost from_gives = { λ read told. code_answer told ≡ reading_told read };
+
+    fn from(read: Result<Sizes, Cause>) -> CodeAnswer {
+        match read {
+            Ok(sizes) => CodeAnswer {
+                number: 0,
+                bits: sizes.bits,
+                checks: sizes.checks,
+                triples: sizes.triples,
+            },
+            Err(cause) => CodeAnswer {
+                number: cause.number(),
+                bits: 0,
+                checks: 0,
+                triples: 0,
+            },
+        }
+    }
+}
+
 // The answer about a word; the place is a check.
 #[repr(C)]
 #[derive(Drop)]
 pub struct WordAnswer {
     pub number: u32,
     pub place: usize,
+}
+
+impl From<Result<Verdict, Cause>> for WordAnswer {
+    ghost from_gives = { λ judged told. word_answer told ≡ verdict_told judged };
+
+    fn from(judged: Result<Verdict, Cause>) -> WordAnswer {
+        let (number, place) = match judged {
+            Ok(Verdict::Codeword) => (0, 0),
+            Ok(Verdict::Odd(check)) => (17, check),
+            Err(cause) => (cause.number(), 0),
+        };
+        WordAnswer { number, place }
+    }
 }
 
 // The answer of what writes text or records; how many bytes.
@@ -44,6 +77,20 @@ pub struct BytesAnswer {
     pub bytes: usize,
 }
 
+impl From<Result<usize, Cause>> for BytesAnswer {
+    ghost from_gives = { λ counted told. (told.number ≡ number_of counted) × (told.bytes ≡ count_of counted) };
+
+    fn from(counted: Result<usize, Cause>) -> BytesAnswer {
+        match counted {
+            Ok(bytes) => BytesAnswer { number: 0, bytes },
+            Err(cause) => BytesAnswer {
+                number: cause.number(),
+                bytes: 0,
+            },
+        }
+    }
+}
+
 // How long a message is.
 #[repr(C)]
 #[derive(Drop)]
@@ -52,57 +99,27 @@ pub struct LengthAnswer {
     pub length: usize,
 }
 
-fn code_answer(reading: Reading) -> CodeAnswer
-    ensures { code_answer result ≡ reading_told reading }
-{
-    match reading {
-        Reading::Code {
-            bits,
-            checks,
-            triples,
-        } => CodeAnswer {
-            number: 0,
-            bits,
-            checks,
-            triples,
-        },
-        Reading::Refused(number) => CodeAnswer {
-            number,
-            bits: 0,
-            checks: 0,
-            triples: 0,
-        },
+impl From<Result<usize, Cause>> for LengthAnswer {
+    ghost from_gives = { λ counted told. (told.number ≡ number_of counted) × (told.length ≡ count_of counted) };
+
+    fn from(counted: Result<usize, Cause>) -> LengthAnswer {
+        match counted {
+            Ok(length) => LengthAnswer { number: 0, length },
+            Err(cause) => LengthAnswer {
+                number: cause.number(),
+                length: 0,
+            },
+        }
     }
 }
 
-fn word_answer(verdict: Verdict) -> WordAnswer
-    ensures { word_answer result ≡ verdict_told verdict }
+// The number of a call: 0 where it is done.
+fn number(outcome: Result<(), Cause>) -> u32
+    ensures { result ≡ number_of outcome }
 {
-    match verdict {
-        Verdict::Codeword => WordAnswer {
-            number: 0,
-            place: 0,
-        },
-        Verdict::Odd(place) => WordAnswer { number: 17, place },
-        Verdict::Refused(number) => WordAnswer { number, place: 0 },
-    }
-}
-
-fn bytes_answer(written: Written) -> BytesAnswer
-    ensures { (result.number ≡ written.number) × (result.bytes ≡ written.bytes) }
-{
-    BytesAnswer {
-        number: written.number,
-        bytes: written.bytes,
-    }
-}
-
-fn length_answer(told: Length) -> LengthAnswer
-    ensures { (result.number ≡ told.number) × (result.length ≡ told.length) }
-{
-    LengthAnswer {
-        number: told.number,
-        length: told.length,
+    match outcome {
+        Ok(()) => 0,
+        Err(cause) => cause.number(),
     }
 }
 
@@ -112,7 +129,7 @@ fn length_answer(told: Length) -> LengthAnswer
 pub extern "C" fn widagbe_read(code: &[u8]) -> CodeAnswer
     ensures { ReaderCall code.now (code_answer result) }
 {
-    code_answer(reader::read(code))
+    CodeAnswer::from(reader::read(code))
 }
 
 #[unsafe(no_mangle)]
@@ -120,7 +137,7 @@ pub extern "C" fn widagbe_split(code: &[u8], triples: &mut [u16], counts: &mut [
     ensures { SplitterCall code.now triples.old counts.old
         (record { number = result; triples = triples.new; counts = counts.new }) }
 {
-    triples::split(code, triples, counts)
+    number(triples::split(code, triples, counts))
 }
 
 // ---- codes as alist text
@@ -129,21 +146,21 @@ pub extern "C" fn widagbe_split(code: &[u8], triples: &mut [u16], counts: &mut [
 pub extern "C" fn widagbe_import(text: &[u8], code: &mut [u8]) -> BytesAnswer
     ensures { ImportCall text.now code.old (record { number = result.number; bytes = result.bytes; list = code.new }) }
 {
-    bytes_answer(importer::import(text, code))
+    BytesAnswer::from(importer::import(text, code))
 }
 
 #[unsafe(no_mangle)]
 pub extern "C" fn widagbe_export(code: &[u8], text: &mut [u8]) -> BytesAnswer
     ensures { ExportCall code.now text.old (record { number = result.number; bytes = result.bytes; list = text.new }) }
 {
-    bytes_answer(exporter::export(code, text))
+    BytesAnswer::from(exporter::export(code, text))
 }
 
 #[unsafe(no_mangle)]
 pub extern "C" fn widagbe_export_size(code: &[u8]) -> BytesAnswer
     ensures { SizeCall code.now (record { number = result.number; bytes = result.bytes }) }
 {
-    bytes_answer(exporter::export_size(code))
+    BytesAnswer::from(exporter::export_size(code))
 }
 
 // ---- costs
@@ -153,7 +170,7 @@ pub extern "C" fn widagbe_channel_gaussian(scale: f32, samples: &[f32], costs: &
     ensures { FrontCall (Channel.Gaussian scale) samples.now costs.old
         (record { number = result; costs = costs.new }) }
 {
-    channel::front(Channel::Gaussian(scale), samples, costs)
+    number(channel::front(Channel::Gaussian(scale), samples, costs))
 }
 
 #[unsafe(no_mangle)]
@@ -161,7 +178,7 @@ pub extern "C" fn widagbe_channel_hard(weight: f32, samples: &[f32], costs: &mut
     ensures { FrontCall (Channel.Hard weight) samples.now costs.old
         (record { number = result; costs = costs.new }) }
 {
-    channel::front(Channel::Hard(weight), samples, costs)
+    number(channel::front(Channel::Hard(weight), samples, costs))
 }
 
 #[unsafe(no_mangle)]
@@ -174,14 +191,14 @@ pub extern "C" fn widagbe_channel_erasing(
     ensures { FrontCall (Channel.Erasing (record { floor = floor; weight = weight })) samples.now costs.old
         (record { number = result; costs = costs.new }) }
 {
-    channel::front(Channel::Erasing(Erasure { floor, weight }), samples, costs)
+    number(channel::front(Channel::Erasing(Erasure { floor, weight }), samples, costs))
 }
 
 #[unsafe(no_mangle)]
-pub extern "C" fn widagbe_reflect(costs: &[i16], word: &[u8], res: &mut [i16]) -> u32
-    ensures { ReflectorCall costs.now word.now res.old (record { number = result; costs = res.new }) }
+pub extern "C" fn widagbe_reflect(costs: &[i16], word: &[u8], reflected: &mut [i16]) -> u32
+    ensures { ReflectorCall costs.now word.now reflected.old (record { number = result; costs = reflected.new }) }
 {
-    reflector::reflect(costs, word, res)
+    number(reflector::reflect(costs, word, reflected))
 }
 
 // ---- words
@@ -190,14 +207,14 @@ pub extern "C" fn widagbe_reflect(costs: &[i16], word: &[u8], res: &mut [i16]) -
 pub extern "C" fn widagbe_add_words(word: &[u8], other: &[u8], sum: &mut [u8]) -> u32
     ensures { AdderCall word.now other.now sum.old (record { number = result; word = sum.new }) }
 {
-    adder::add(word, other, sum)
+    number(adder::add(word, other, sum))
 }
 
 #[unsafe(no_mangle)]
 pub extern "C" fn widagbe_test(code: &[u8], word: &[u8]) -> WordAnswer
     ensures { TestCall code.now word.now (word_answer result) }
 {
-    word_answer(codeword::test(code, word))
+    WordAnswer::from(codeword::test(code, word))
 }
 
 #[unsafe(no_mangle)]
@@ -205,7 +222,7 @@ pub extern "C" fn widagbe_extend(code: &[u8], word: &[u8], point: &mut [u8]) -> 
     ensures { ExtensionCall code.now word.now point.old
         (record { outcome = word_answer result; point = point.new }) }
 {
-    word_answer(codeword::extend(code, word, point))
+    WordAnswer::from(codeword::extend(code, word, point))
 }
 
 // ---- the encoder
@@ -214,14 +231,14 @@ pub extern "C" fn widagbe_extend(code: &[u8], word: &[u8], point: &mut [u8]) -> 
 pub extern "C" fn widagbe_message_length(code: &[u8]) -> LengthAnswer
     ensures { LengthCall code.now (record { number = result.number; length = result.length }) }
 {
-    length_answer(encoder::message_length(code))
+    LengthAnswer::from(encoder::message_length(code))
 }
 
 #[unsafe(no_mangle)]
 pub extern "C" fn widagbe_encode(code: &[u8], message: &[u8], word: &mut [u8]) -> u32
     ensures { EncoderCall code.now message.now word.old (record { number = result; words = word.new }) }
 {
-    encoder::encode(code, message, word)
+    number(encoder::encode(code, message, word))
 }
 
 #[unsafe(no_mangle)]
@@ -233,7 +250,7 @@ pub extern "C" fn widagbe_encode_frames(
 ) -> u32
     ensures { FramesCall code.now frames messages.now words.old (record { number = result; words = words.new }) }
 {
-    encoder::encode_frames(code, frames, messages, words)
+    number(encoder::encode_frames(code, frames, messages, words))
 }
 
 #[unsafe(no_mangle)]
@@ -241,7 +258,7 @@ pub extern "C" fn widagbe_read_message(code: &[u8], word: &[u8], message: &mut [
     ensures { MessageCall code.now word.now message.old
         (record { outcome = word_answer result; message = message.new }) }
 {
-    word_answer(encoder::read_message(code, word, message))
+    WordAnswer::from(encoder::read_message(code, word, message))
 }
 
 // ---- the decoder
@@ -267,22 +284,21 @@ pub extern "C" fn widagbe_decode(
         let after = lists_of triples.new counts.new sums.new values.new rows.new word.new in
         DecoderCall code.now settings costs.now before (record { answer = run_told result; lists = after })) }
 {
-    outcome::answer(decoder::decode(
-        code,
-        Settings {
-            weight,
-            ratio,
-            limit,
-            tolerance,
-        },
-        costs,
+    let settings = Settings {
+        weight,
+        ratio,
+        limit,
+        tolerance,
+    };
+    let mut lists = Lists {
         triples,
         counts,
         sums,
         values,
         rows,
         word,
-    ))
+    };
+    DecodeAnswer::from(decoder::decode(code, settings, costs, &mut lists))
 }
 
 #[unsafe(no_mangle)]
@@ -308,22 +324,19 @@ pub extern "C" fn widagbe_decode_group(
         let after = lists_of triples.new counts.new sums.new values.new rows.new word.new in
         GroupCall code.now settings frames costs.now before work.old (group_told result after) work.new) }
 {
-    group::decode(
-        code,
-        Settings {
-            weight,
-            ratio,
-            limit,
-            tolerance,
-        },
-        frames,
-        costs,
+    let settings = Settings {
+        weight,
+        ratio,
+        limit,
+        tolerance,
+    };
+    let mut lists = Lists {
         triples,
         counts,
         sums,
         values,
         rows,
         word,
-        work,
-    )
+    };
+    GroupAnswer::from(group::decode(code, settings, frames, costs, &mut lists, work))
 }

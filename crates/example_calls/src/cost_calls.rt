@@ -1,25 +1,16 @@
 // Examples of calls with samples, costs and words: the channel front, the reflector, the sum of two words, chains.
-ghost use Rattle.std.specs.Prelude.{◌≤◌};
+ghost use Rattle.std.specs.Prelude.{◌≤◌, length};
 
-use crate::fields::{numbers, room};
-use crate::show::{Which, list, nines, number, text};
+use crate::fields::{Numbers, room};
+use crate::show::{list, text, told};
 use model::{Channel, Erasure};
 
 // ---- channel front and reflector
 
-// The number, and the costs after it.
-fn written(cause: u32, costs: [i16; 16], n: usize) {
-    let mut lists = nines();
-    lists.values = costs;
-    number(cause as usize);
-    list(b", costs", lists, Which::Values, n);
-}
-
 // The float with these bits, whose sign is 0.
 fn size(x: usize) -> f32 {
-    let zero = 0.0f32;
     if 0x7f80_0000 < x {
-        return zero / zero;
+        return f32::NAN;
     }
     f32::from_bits(x as u32)
 }
@@ -30,42 +21,25 @@ fn real(x: usize) -> f32 {
     if x < 0x8000_0000 { size } else { -size }
 }
 
-pub fn first_real(s: &[u8]) -> f32 {
-    let mut x = [0usize; 8];
-    numbers(s, 16, &mut x);
-    real(x[0])
+pub fn first_real(field: &[u8]) -> f32 {
+    real(Numbers::read(field, 16).values[0])
 }
 
-pub fn erasure(s: &[u8]) -> Erasure {
-    let mut x = [0usize; 8];
-    numbers(s, 16, &mut x);
+pub fn erasure(field: &[u8]) -> Erasure {
+    let [floor, weight, ..] = Numbers::read(field, 16).values;
     Erasure {
-        floor: real(x[0]),
-        weight: real(x[1]),
+        floor: real(floor),
+        weight: real(weight),
     }
 }
 
-fn reals(x: [usize; 8]) -> [f32; 8] {
-    [
-        real(x[0]),
-        real(x[1]),
-        real(x[2]),
-        real(x[3]),
-        real(x[4]),
-        real(x[5]),
-        real(x[6]),
-        real(x[7]),
-    ]
-}
-
 pub fn front(setting: Channel, samples: &[u8], rooms: &[u8]) {
-    let mut x = [0usize; 8];
-    let n = numbers(samples, 16, &mut x);
-    let floats = reals(x);
+    let given = Numbers::read(samples, 16);
+    let samples = given.values.map(real);
     let m = room(rooms);
     let mut costs = [9i16; 16];
-    let cause = channel::front(setting, &floats[0..n], &mut costs[0..m]);
-    written(cause, costs, m);
+    told(channel::front(setting, &samples[..given.count], &mut costs[..m]));
+    list(b", costs", &costs[..m]);
 }
 
 // A two-byte number as two's complement.
@@ -73,43 +47,24 @@ fn cost(x: usize) -> i16 {
     stream::twos_complement(x % 65536)
 }
 
-// Eight costs, and nines behind them.
-pub fn costs(x: [usize; 8]) -> [i16; 16] {
-    [
-        cost(x[0]),
-        cost(x[1]),
-        cost(x[2]),
-        cost(x[3]),
-        cost(x[4]),
-        cost(x[5]),
-        cost(x[6]),
-        cost(x[7]),
-        9,
-        9,
-        9,
-        9,
-        9,
-        9,
-        9,
-        9,
-    ]
+// Eight costs.
+pub fn costs(given: Numbers) -> [i16; 8] {
+    given.values.map(cost)
 }
 
-// Reflects the first `n` costs to a list of `m` entries; the list.
-fn reflected(costs: [i16; 16], n: usize, word: &[u8], m: usize) -> [i16; 16]
-    requires n_bound { n ≤ 16 }
-    requires m_bound { m ≤ 16 }
+// Reflects the costs to a list of `m` entries; the list.
+fn reflected(costs: &[i16], word: &[u8], m: usize) -> [i16; 16]
+    requires { m ≤ 16 }
 {
-    let mut result = [9i16; 16];
-    let cause = reflector::reflect(&costs[0..n], word, &mut result[0..m]);
-    written(cause, result, m);
-    result
+    let mut reflected = [9i16; 16];
+    told(reflector::reflect(costs, word, &mut reflected[..m]));
+    list(b", costs", &reflected[..m]);
+    reflected
 }
 
 pub fn reflecting(given: &[u8], word: &[u8], rooms: &[u8]) {
-    let mut x = [0usize; 8];
-    let n = numbers(given, 10, &mut x);
-    reflected(costs(x), n, word, room(rooms));
+    let given = Numbers::read(given, 10);
+    reflected(&costs(given)[..given.count], word, room(rooms));
 }
 
 // ---- sums of words, and chains
@@ -119,11 +74,8 @@ fn added(word: &[u8], other: &[u8], m: usize) -> [u8; 16]
     requires { m ≤ 16 }
 {
     let mut sum = [9u8; 16];
-    let cause = adder::add(word, other, &mut sum[0..m]);
-    let mut lists = nines();
-    lists.word = sum;
-    number(cause as usize);
-    list(b", word", lists, Which::Word, m);
+    told(adder::add(word, other, &mut sum[..m]));
+    list(b", word", &sum[..m]);
     sum
 }
 
@@ -132,14 +84,15 @@ pub fn adding(word: &[u8], other: &[u8], rooms: &[u8]) {
 }
 
 pub fn chaining(given: &[u8], word: &[u8], other: &[u8]) {
-    let mut x = [0usize; 8];
-    let n = numbers(given, 10, &mut x);
+    let given = Numbers::read(given, 10);
+    let n = given.count;
+    let costs = costs(given);
     text(b" first");
-    let first = reflected(costs(x), n, word, n);
+    let first = reflected(&costs[..n], word, n);
     text(b"; second");
-    reflected(first, n, other, n);
+    reflected(&first[..n], other, n);
     text(b"; sum");
     let sum = added(word, other, n);
     text(b"; by the sum");
-    reflected(costs(x), n, &sum[0..n], n);
+    reflected(&costs[..n], &sum[..n], n);
 }

@@ -1,47 +1,37 @@
 // Examples of calls of the decoder.
 use crate::cost_calls::costs;
-use crate::fields::numbers;
-use crate::show::{Lists, Which, ends, index, lent, list, nines, number, placed, text, wide};
-use model::{Decoding, Ending, Settings};
+use crate::fields::Numbers;
+use crate::show::{ends, lent, list, number, placed, refused, text};
+use model::{Cause, Conclusion, Decoding, Lists, Settings};
 
 fn setting(x: usize) -> u32 {
     (x % 4294967296) as u32
 }
 
-pub fn settings(s: &[u8]) -> Settings {
-    let mut x = [0usize; 8];
-    numbers(s, 10, &mut x);
+pub fn settings(field: &[u8]) -> Settings {
+    let [weight, ratio, limit, tolerance, ..] = Numbers::read(field, 10).values;
     Settings {
-        weight: setting(x[0]),
-        ratio: setting(x[1]),
-        limit: setting(x[2]),
-        tolerance: setting(x[3]),
+        weight: setting(weight),
+        ratio: setting(ratio),
+        limit: setting(limit),
+        tolerance: setting(tolerance),
     }
 }
 
-fn outcome(cause: usize, place: usize, ending: Ending) {
-    placed(cause, place);
+fn answer(decoded: Result<Decoding, Cause>) {
+    let Decoding { conclusion, ending } = match decoded {
+        Ok(decoding) => decoding,
+        Err(cause) => return refused(cause),
+    };
+    match conclusion {
+        Conclusion::Word => placed(0, 0),
+        Conclusion::Undecided(bit) => placed(16, bit),
+        Conclusion::Odd(check) => placed(17, check),
+    }
     text(b", k");
     number(ending.k as usize);
     text(b", settled");
-    number(ending.settled as usize);
-}
-
-fn answer(decoding: Decoding) {
-    match decoding {
-        Decoding::Word(ending) => {
-            outcome(0, 0, ending);
-        }
-        Decoding::Undecided(bit, ending) => {
-            outcome(16, bit, ending);
-        }
-        Decoding::Odd(check, ending) => {
-            outcome(17, check, ending);
-        }
-        Decoding::Refused(cause) => {
-            number(cause as usize);
-        }
-    }
+    number(usize::from(ending.settled));
 }
 
 // On the code of three bits with the check (0,1,2), whose record has L and `mark` for its mark.
@@ -52,104 +42,59 @@ pub fn decoding(given: &[u8], frame: &[u8], rooms: &[u8], mark: u8) {
 }
 
 pub fn decoding_code(code: &[u8], given: &[u8], frame: &[u8], rooms: &[u8]) {
-    let mut x = [0usize; 8];
-    let n = numbers(frame, 10, &mut x);
-    let all = costs(x);
-    let mut room = [0usize; 8];
-    numbers(rooms, 10, &mut room);
-    decode(code, settings(given), &all[0..n], room);
-}
-
-// The last of the counts, of S and of c stands at the blank's index.
-pub fn decoding_long(code: &[u8], given: &[u8], frame: &[u8]) {
-    let mut x = [0usize; 8];
-    let n = numbers(frame, 10, &mut x);
-    let all = costs(x);
-    let mut triples = [9u16; 16];
-    let mut counts = [9u16; 65536];
-    let mut sums = [9i64; 65536];
-    let mut values = [9i16; 65536];
-    let mut rows = [9i32; 16];
-    let mut word = [9u8; 16];
-    let decoding = decoder::decode(
-        code,
-        settings(given),
-        &all[0..n],
-        &mut triples,
-        &mut counts,
-        &mut sums,
-        &mut values,
-        &mut rows,
-        &mut word,
-    );
-    answer(decoding);
-    let mut lists = nines();
-    lists.triples = triples;
-    lists.rows = rows;
-    lists.word = word;
-    list(b", triples", lists, Which::Triples, 8);
-    ends(
-        b", counts",
-        index(counts[0]),
-        index(counts[1]),
-        index(counts[2]),
-        index(counts[3]),
-        index(counts[65535]),
-    );
-    ends(b", S", sums[0], sums[1], sums[2], sums[3], sums[65535]);
-    ends(
-        b", c",
-        wide(values[0]),
-        wide(values[1]),
-        wide(values[2]),
-        wide(values[3]),
-        wide(values[65535]),
-    );
-    list(b", s", lists, Which::Rows, 10);
-    list(b", word", lists, Which::Word, 4);
-}
-
-fn decode(code: &[u8], settings: Settings, costs: &[i16], room: [usize; 8]) {
-    let t = lent(room[0]);
-    let e = lent(room[1]);
-    let s = lent(room[2]);
-    let c = lent(room[3]);
-    let r = lent(room[4]);
-    let w = lent(room[5]);
+    let frame = Numbers::read(frame, 10);
+    let costs = costs(frame);
+    let [t, e, s, c, r, w, ..] = Numbers::read(rooms, 10).values.map(lent);
     let mut triples = [9u16; 16];
     let mut counts = [9u16; 16];
     let mut sums = [9i64; 16];
     let mut values = [9i16; 16];
     let mut rows = [9i32; 16];
     let mut word = [9u8; 16];
-    let decoding = decoder::decode(
-        code,
-        settings,
-        costs,
-        &mut triples[0..t],
-        &mut counts[0..e],
-        &mut sums[0..s],
-        &mut values[0..c],
-        &mut rows[0..r],
-        &mut word[0..w],
-    );
-    let lists = Lists {
-        triples,
-        counts,
-        sums,
-        values,
-        rows,
-        word,
+    let mut lists = Lists {
+        triples: &mut triples[..t],
+        counts: &mut counts[..e],
+        sums: &mut sums[..s],
+        values: &mut values[..c],
+        rows: &mut rows[..r],
+        word: &mut word[..w],
     };
-    answer(decoding);
-    each_list(lists, room);
+    answer(decoder::decode(code, settings(given), &costs[..frame.count], &mut lists));
+    each_list(&lists);
 }
 
-pub fn each_list(lists: Lists, room: [usize; 8]) {
-    list(b", triples", lists, Which::Triples, room[0]);
-    list(b", counts", lists, Which::Counts, room[1]);
-    list(b", S", lists, Which::Sums, room[2]);
-    list(b", c", lists, Which::Values, room[3]);
-    list(b", s", lists, Which::Rows, room[4]);
-    list(b", word", lists, Which::Word, room[5]);
+// The last of the counts, of S and of c stands at the blank's index.
+pub fn decoding_long(code: &[u8], given: &[u8], frame: &[u8]) {
+    let frame = Numbers::read(frame, 10);
+    let costs = costs(frame);
+    let mut triples = [9u16; 16];
+    let mut counts = [9u16; 65536];
+    let mut sums = [9i64; 65536];
+    let mut values = [9i16; 65536];
+    let mut rows = [9i32; 16];
+    let mut word = [9u8; 16];
+    let mut lists = Lists {
+        triples: &mut triples,
+        counts: &mut counts,
+        sums: &mut sums,
+        values: &mut values,
+        rows: &mut rows,
+        word: &mut word,
+    };
+    answer(decoder::decode(code, settings(given), &costs[..frame.count], &mut lists));
+    list(b", triples", &triples[..8]);
+    ends(b", counts", &counts);
+    ends(b", S", &sums);
+    ends(b", c", &values);
+    list(b", s", &rows[..10]);
+    list(b", word", &word[..4]);
+}
+
+pub fn each_list(lists: &Lists) {
+    list(b", triples", &*lists.triples);
+    list(b", counts", &*lists.counts);
+    list(b", S", &*lists.sums);
+    list(b", c", &*lists.values);
+    list(b", s", &*lists.rows);
+    list(b", word", &*lists.word);
 }

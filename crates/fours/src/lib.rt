@@ -1,4 +1,5 @@
 // Four numbers side by side, one of each of four frames: what `rows` does for one triple, for four frames at once. The compiler puts the four in one register.
+// Not through `rows`, frame by frame: the compiler then loses the lanes, and a group takes 1.5 to 2.3 times as long.
 #![tactic(auto)]
 
 ghost use Rattle.std.specs.Prelude.{◌≡◌, ℕ, ◌+◌, ◌*◌, ◌^◌, ◌≤◌, ◌<◌, pos, nat_abs, ◌+ℤ◌, ◌-ℤ◌, ◌*ℤ◌, length};
@@ -54,17 +55,11 @@ fn sub(a: [i32; 4], b: [i32; 4]) -> [i32; 4]
 // To entries i to i + 3.
 pub fn add_to(l: &mut [i32], i: usize, q: [i32; 4])
     requires i_in_bounds { (i + 3 < length l.old) × (length l.old < 2 ^ 32) }
-    requires by_index { (k : ℕ) → k < 4 → nat_abs (at l.old (i + k)) + nat_abs (at q k) < 2 ^ 31 }
+    requires sums_fit { (k : ℕ) → k < 4 → nat_abs (at l.old (i + k)) + nat_abs (at q k) < 2 ^ 31 }
     ensures { l.new ≡ sets l.old i (tab 4 (λ k. at l.old (i + k) +ℤ at q k)) }
 {
     let old = load(l, i);
     store(l, i, add(old, q));
-}
-
-fn positive(x: i32) -> i32
-    ensures { result ≡ pos (multiplier x) }
-{
-    if x < 0 { 0 } else { x }
 }
 
 fn positives(a: [i32; 4]) -> [i32; 4]
@@ -72,26 +67,23 @@ fn positives(a: [i32; 4]) -> [i32; 4]
     ensures { result ≡ tab 4 (λ k. pos (multiplier (at a k))) }
 {
     [
-        positive(a[0]),
-        positive(a[1]),
-        positive(a[2]),
-        positive(a[3]),
+        rows::positive(a[0]),
+        rows::positive(a[1]),
+        rows::positive(a[2]),
+        rows::positive(a[3]),
     ]
-}
-
-// z + p of a row, its magnitude.
-fn size(x: i32) -> i32
-    requires { nat_abs x < 2 ^ 31 }
-    ensures { result ≡ pos (slack x + multiplier x) }
-{
-    if x < 0 { -x } else { x }
 }
 
 fn sizes(a: [i32; 4]) -> [i32; 4]
     requires { (k : ℕ) → nat_abs (at a k) < 2 ^ 31 }
     ensures { result ≡ tab 4 (λ k. pos (slack (at a k) + multiplier (at a k))) }
 {
-    [size(a[0]), size(a[1]), size(a[2]), size(a[3])]
+    [
+        rows::size(a[0]),
+        rows::size(a[1]),
+        rows::size(a[2]),
+        rows::size(a[3]),
+    ]
 }
 
 fn lowered(a: [i32; 4]) -> [i32; 4]
@@ -106,7 +98,7 @@ fn lowered(a: [i32; 4]) -> [i32; 4]
 // "s becomes p + sum − U": the four rows, with c of the three variables, each raised by U. So U is in three of the sums already.
 pub fn renewed(s: [[i32; 4]; 4], a: [i32; 4], b: [i32; 4], c: [i32; 4]) -> [[i32; 4]; 4]
     requires fours { Fours s }
-    requires by_index { (k : ℕ) → (nat_abs (at a k) ≤ 2 * unit) × (nat_abs (at b k) ≤ 2 * unit) × (nat_abs (at c k) ≤ 2 * unit) }
+    requires raised { (k : ℕ) → (nat_abs (at a k) ≤ 2 * unit) × (nat_abs (at b k) ≤ 2 * unit) × (nat_abs (at c k) ≤ 2 * unit) }
     ensures { result ≡ tab 4 (λ r. tab 4 (λ k. Iteration.renewed (cell s r k)
         (row_sum r (at a k -ℤ pos unit) (at b k -ℤ pos unit) (at c k -ℤ pos unit)))) }
 {
@@ -124,7 +116,7 @@ pub fn renewed(s: [[i32; 4]; 4], a: [i32; 4], b: [i32; 4], c: [i32; 4]) -> [[i32
 pub fn shares(s: [[i32; 4]; 4]) -> [[i32; 4]; 3]
     requires { Fours s }
     ensures value { result ≡ tab 3 (λ p. tab 4 (λ k. sum_ℤ 4 (λ r. sign r p *ℤ pos (slack (cell s r k) + multiplier (cell s r k))))) }
-    ensures by_index { (p k : ℕ) → nat_abs (cell result p k) ≤ 2 * most_row }
+    ensures shares_bound { (p k : ℕ) → nat_abs (cell result p k) ≤ 2 * most_row }
 {
     let a = sizes(s[0]);
     let b = sizes(s[1]);

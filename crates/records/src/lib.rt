@@ -10,9 +10,8 @@ ghost use Rattle.records.specs.Whole.{Whole};
 
 pub mod writer;
 
-pub use writer::{write_check, write_header, write_two_bytes};
-
 use model::{Cause, LEAST_DEGREE, MOST_BITS, MOST_CHECKS, MOST_DEGREE};
+pub use writer::{write_check, write_header, write_two_bytes};
 
 // The marks that a header and a check begin with.
 const HEADER_MARK: usize = 0x4c48;

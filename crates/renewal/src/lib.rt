@@ -222,6 +222,7 @@ fn renew_counted(
         0 result.totals.multipliers 0 result.totals.slacks }
 {
     let mut totals = renew_first(triples, values, rows, count);
+    // A `while`: it also ends where a total exceeds the tolerance, and tells where.
     let mut t = count % 4;
     while (t < count) & (totals.multipliers <= tolerance) & (totals.slacks <= tolerance) {
         let c = thirds(triples, values, t, known);

@@ -48,11 +48,11 @@ pub fn row_sums(a: i32, b: i32, c: i32) -> [i32; 4]
 // ---- the share of S
 
 // z + p of a row, its magnitude.
-fn size(s: i32) -> i32
-    requires { nat_abs s ≤ most_row }
+pub fn size(s: i32) -> i32
+    requires { nat_abs s < 2 ^ 31 }
     ensures { result ≡ pos (slack s + multiplier s) }
 {
-    if s < 0 { -s } else { s }
+    s.abs()
 }
 
 // Of row r.
@@ -98,10 +98,10 @@ pub fn shares(s: [i32; 4]) -> [i32; 3]
 // ---- the renewal
 
 // The larger of 0 and x.
-fn positive(x: i32) -> i32
+pub fn positive(x: i32) -> i32
     ensures { result ≡ pos (multiplier x) }
 {
-    if x < 0 { 0 } else { x }
+    x.max(0)
 }
 
 // "s becomes p + sum − U": row r.
@@ -131,7 +131,7 @@ fn square(x: i32) -> u64
     requires { nat_abs x ≤ most_row }
     ensures { result ≡ nat_abs x * nat_abs x }
 {
-    let magnitude = size(x) as u64;
+    let magnitude = u64::from(x.unsigned_abs());
     magnitude * magnitude
 }
 

@@ -17,46 +17,57 @@ ghost use Rattle.run.specs.States.{state_in};
 use model::{Ending, Settings};
 use values::Divisors;
 
+// What a run reads: its settings, the members of the triples, in how many triples each variable is, the costs of the bits, and how many triples there are.
+#[derive(Drop)]
+struct System<'a> {
+    settings: Settings,
+    triples: &'a [u16],
+    counts: &'a [u16],
+    costs: &'a [i16],
+    count: usize,
+}
+
 // One iteration: S and c of each variable, then the four rows of each triple. It answers whether the run then settles. It may be known that no triple has the blank.
 fn iterate(
-    settings: Settings,
-    triples: &[u16],
-    counts: &[u16],
-    costs: &[i16],
-    count: usize,
+    system: &System,
     divisors: &Divisors,
     known: bool,
     sums: &mut [i64],
     values: &mut [i16],
     rows: &mut [i32],
 ) -> bool
-    requires lent { Lent settings triples.now counts.now costs.now count sums.old values.old rows.old }
-    requires rows_within { (RowsWithin most_done (straight count rows.old)) × (divisors.now ≡ settings.ratio) × (Known known triples.now) }
-    ensures next_state { (k : Code) → let g = system_in k triples.now count values.old in
-        let a = state_in count sums.old values.old rows.old in
-        let b = state_in count sums.new values.new rows.new in
-        (b ≡ Iteration.iterate quotient g settings costs.now a) × ((1 if result) ≡ Run.stop g settings a b) }
-    ensures rows_len { length rows.new ≡ 4 * count }
+    requires lent { Lent system.now.settings system.now.triples.now system.now.counts.now system.now.costs.now system.now.count sums.old values.old rows.old }
+    requires rows_within { RowsWithin most_done (straight system.now.count rows.old) }
+    requires divisors { divisors.now ≡ system.now.settings.ratio }
+    requires known { Known known system.now.triples.now }
+    ensures next_state { (k : Code) → let g = system_in k system.now.triples.now system.now.count values.old in
+        let a = state_in system.now.count sums.old values.old rows.old in
+        let b = state_in system.now.count sums.new values.new rows.new in
+        (b ≡ Iteration.iterate quotient g system.now.settings system.now.costs.now a) × ((1 if result) ≡ Run.stop g system.now.settings a b) }
+    ensures rows_long { length rows.new ≡ 4 * system.now.count }
 {
-    sums::gather(triples, rows, count, sums);
-    values::write_values(sums, counts, costs, settings.weight, divisors, values);
+    sums::gather(system.triples, rows, system.count, sums);
+    values::write_values(
+        sums,
+        system.counts,
+        system.costs,
+        system.settings.weight,
+        divisors,
+        values,
+    );
     renewal::renew_rows(
-        triples,
+        system.triples,
         values,
         known,
         rows,
-        count,
-        u64::from(settings.tolerance),
+        system.count,
+        u64::from(system.settings.tolerance),
     )
 }
 
 // Iterations from the state in the lists, `done` being done, until one stops the run or K are done. The rows stay transposed.
 fn iterations(
-    settings: Settings,
-    triples: &[u16],
-    counts: &[u16],
-    costs: &[i16],
-    count: usize,
+    system: &System,
     divisors: &Divisors,
     known: bool,
     done: u32,
@@ -64,25 +75,25 @@ fn iterations(
     values: &mut [i16],
     rows: &mut [i32],
 ) -> Ending
-    requires lent { Lent settings triples.now counts.now costs.now count sums.old values.old rows.old }
-    requires rows_within { (RowsWithin done (straight count rows.old)) × (divisors.now ≡ settings.ratio) × (Known known triples.now) }
-    requires done_le_limit { (done ≤ settings.limit) × (settings.limit ≤ most_iterations) }
-    ensures run_on { (k : Code) → let g = system_in k triples.now count values.old in
-        let first = state_in count sums.old values.old rows.old in
-        let last = state_in count sums.new values.new rows.new in
-        record { k = result.k; settled = 1 if result.settled; last = last } ≡ Run.run_from quotient g settings costs.now (settings.limit - done) done first }
-    ensures rows_kept { (RowsWithin settings.limit rows.new) × (length rows.new ≡ 4 * count) }
+    requires lent { Lent system.now.settings system.now.triples.now system.now.counts.now system.now.costs.now system.now.count sums.old values.old rows.old }
+    requires rows_within { RowsWithin done (straight system.now.count rows.old) }
+    requires divisors { divisors.now ≡ system.now.settings.ratio }
+    requires known { Known known system.now.triples.now }
+    requires done_le_limit { (done ≤ system.now.settings.limit) × (system.now.settings.limit ≤ most_iterations) }
+    ensures run_on { (k : Code) → let g = system_in k system.now.triples.now system.now.count values.old in
+        let first = state_in system.now.count sums.old values.old rows.old in
+        let last = state_in system.now.count sums.new values.new rows.new in
+        record { k = result.k; settled = 1 if result.settled; last = last } ≡ Run.run_from quotient g system.now.settings system.now.costs.now (system.now.settings.limit - done) done first }
+    ensures rows_kept { (RowsWithin system.now.settings.limit rows.new) × (length rows.new ≡ 4 * system.now.count) }
 {
-    for k in done..settings.limit {
-        let settled = iterate(
-            settings, triples, counts, costs, count, divisors, known, sums, values, rows,
-        );
+    for k in done..system.settings.limit {
+        let settled = iterate(system, divisors, known, sums, values, rows);
         if settled {
             return Ending { k: k + 1, settled };
         }
     }
     Ending {
-        k: settings.limit,
+        k: system.settings.limit,
         settled: false,
     }
 }
@@ -90,30 +101,24 @@ fn iterations(
 // The run from the state in the lists, whose rows are transposed and are told as a caller reads them. The divisors of variables in up to 31
 // triples are prepared, and whether some triple has the blank is found.
 fn run_from(
-    settings: Settings,
-    triples: &[u16],
-    counts: &[u16],
-    costs: &[i16],
-    count: usize,
+    system: &System,
     done: u32,
     sums: &mut [i64],
     values: &mut [i16],
     rows: &mut [i32],
 ) -> Ending
-    requires lent { Lent settings triples.now counts.now costs.now count sums.old values.old rows.old }
-    requires rows_within { RowsWithin done (straight count rows.old) }
-    requires done_le_limit { (done ≤ settings.limit) × (settings.limit ≤ most_iterations) }
-    ensures { ((k : Code) → let g = system_in k triples.now count values.old in
-        let first = state_in count sums.old values.old rows.old in
+    requires lent { Lent system.now.settings system.now.triples.now system.now.counts.now system.now.costs.now system.now.count sums.old values.old rows.old }
+    requires rows_within { RowsWithin done (straight system.now.count rows.old) }
+    requires done_le_limit { (done ≤ system.now.settings.limit) × (system.now.settings.limit ≤ most_iterations) }
+    ensures { ((k : Code) → let g = system_in k system.now.triples.now system.now.count values.old in
+        let first = state_in system.now.count sums.old values.old rows.old in
         let last : State = record { sums = sums.new; values = values.new; rows = rows.new } in
-        record { k = result.k; settled = 1 if result.settled; last = last } ≡ Run.run_from quotient g settings costs.now (settings.limit - done) done first) }
+        record { k = result.k; settled = 1 if result.settled; last = last } ≡ Run.run_from quotient g system.now.settings system.now.costs.now (system.now.settings.limit - done) done first) }
 {
-    let divisors = Divisors::new(settings.ratio);
-    let known = renewal::without_blank(triples, count);
-    let ending = iterations(
-        settings, triples, counts, costs, count, &divisors, known, done, sums, values, rows,
-    );
-    layout::straighten(rows, count);
+    let divisors = Divisors::new(system.settings.ratio);
+    let known = renewal::without_blank(system.triples, system.count);
+    let ending = iterations(system, &divisors, known, done, sums, values, rows);
+    layout::straighten(rows, system.count);
     ending
 }
 
@@ -135,9 +140,14 @@ pub fn run(
         record { k = result.k; settled = 1 if result.settled; last = last } ≡ Run.run quotient g settings costs.now) }
 {
     rows.fill(0);
-    run_from(
-        settings, triples, counts, costs, count, 0, sums, values, rows,
-    )
+    let system = System {
+        settings,
+        triples,
+        counts,
+        costs,
+        count,
+    };
+    run_from(&system, 0, sums, values, rows)
 }
 
 // The run goes on, `done` iterations being done: from the state in the lists, or from the start where none is.
@@ -146,26 +156,31 @@ pub fn go_on(
     triples: &[u16],
     counts: &[u16],
     costs: &[i16],
-    total: usize,
+    count: usize,
     done: u32,
     sums: &mut [i64],
     values: &mut [i16],
     rows: &mut [i32],
 ) -> Ending
-    requires lent { Lent settings triples.now counts.now costs.now total sums.old values.old rows.old }
+    requires lent { Lent settings triples.now counts.now costs.now count sums.old values.old rows.old }
     requires rows_within { eqb done 0 ≡ false → RowsWithin done rows.old }
     requires le_limit { (1 ≤ settings.limit) × (done ≤ settings.limit) × (settings.limit ≤ most_iterations) }
-    ensures { ((k : Code) → let g = system_in k triples.now total values.old in
+    ensures { ((k : Code) → let g = system_in k triples.now count values.old in
         let first : State = record { sums = sums.old; values = values.old; rows = rows.old } in
         let last : State = record { sums = sums.new; values = values.new; rows = rows.new } in
         record { k = result.k; settled = 1 if result.settled; last = last } ≡ cond (eqb done 0) (Run.run quotient g settings costs.now)
         (Run.run_from quotient g settings costs.now (settings.limit - done) done first)) }
 {
     if done == 0 {
-        return run(settings, triples, counts, costs, total, sums, values, rows);
+        return run(settings, triples, counts, costs, count, sums, values, rows);
     }
-    layout::straighten(rows, total);
-    run_from(
-        settings, triples, counts, costs, total, done, sums, values, rows,
-    )
+    layout::straighten(rows, count);
+    let system = System {
+        settings,
+        triples,
+        counts,
+        costs,
+        count,
+    };
+    run_from(&system, done, sums, values, rows)
 }

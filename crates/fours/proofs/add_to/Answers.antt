@@ -10,7 +10,7 @@ use Rattle.fours.proofs.add_to.Goals.{After-load-old}
 
 fit : (c : After-load-old) (k : ℕ) → nat_abs (at c.load-old.result k) + nat_abs (at c.args.q k) < 2 ^ 31
 fit c =
-    room_of c.args.q (λ k. at c.args.l.now (c.args.i + k)) c.load-old.ensures c.well_formed.1.1.0 c.requires.by_index
+    room_of c.args.q (λ k. at c.args.l.now (c.args.i + k)) c.load-old.ensures c.well_formed.1.1.0 c.requires.sums_fit
 
 pub store-requires : goal.store-requires
 store-requires c =

@@ -15,13 +15,13 @@ use Rattle.fours.proofs.renewed.Goals.{Start, After-sub-minus, After-positives, 
 
 module _ (s : Start) where
   a : Lanes s.args.a (at s.args.a) (2 * unit)
-  a = given s.args.a (2 * unit) s.well_formed.1.0 (λ k. (s.requires.by_index k).0)
+  a = given s.args.a (2 * unit) s.well_formed.1.0 (λ k. (s.requires.raised k).0)
 
   b : Lanes s.args.b (at s.args.b) (2 * unit)
-  b = given s.args.b (2 * unit) s.well_formed.1.1.0 (λ k. (s.requires.by_index k).1)
+  b = given s.args.b (2 * unit) s.well_formed.1.1.0 (λ k. (s.requires.raised k).1)
 
   c : Lanes s.args.c (at s.args.c) (2 * unit)
-  c = given s.args.c (2 * unit) s.well_formed.1.1.1.0 (λ k. (s.requires.by_index k).2)
+  c = given s.args.c (2 * unit) s.well_formed.1.1.1.0 (λ k. (s.requires.raised k).2)
 
   -- the multiplier of row r
   abbrev p : ℕ → ℕ → ℤ
@@ -83,7 +83,7 @@ lowered : (c : After-lowered) → let s = start (at_3 (goal.at.After-lowered c).
 lowered d =
     let s = start (at_3 (goal.at.After-lowered d).After-positives-4) in
     told (λ k. at s.args.c k -ℤ pos (4 * unit)) (6 * unit) d.lowered.ensures
-    (λ k. omega (arith, abs_sub (at s.args.c k) (pos (4 * unit)), (s.requires.by_index k).2))
+    (λ k. omega (arith, abs_sub (at s.args.c k) (pos (4 * unit)), (s.requires.raised k).2))
 
 pub returns : goal.returns
 returns d =
@@ -134,7 +134,7 @@ pub add-requires-3 : goal.add-requires-3
 add-requires-3 d = room (row (start (at_3 d)) 3 d.positives-4.ensures) (plus (at_3 d)) tt
 
 pub lowered-requires : goal.lowered-requires
-lowered-requires d k = ((start (at_3 (goal.at.lowered-requires d).After-positives-4)).requires.by_index k).2
+lowered-requires d k = ((start (at_3 (goal.at.lowered-requires d).After-positives-4)).requires.raised k).2
 
 pub add-requires-4 : goal.add-requires-4
 add-requires-4 d = room (begun_3 (goal.at.add-requires-4 d).After-add-3) (lowered d) tt

@@ -67,7 +67,7 @@ returns c =
     ((difference (outer (goal.at.returns c).After-sub-inner_change) (inner (goal.at.returns c).After-sub-inner_change) c.sub.ensures).is ∙ tab_same 4 _ (of 0) (λ k _. share_0 (n t k)))
     ((sum (outer_change (goal.at.returns c).After-sub-inner_change) (inner_change (goal.at.returns c).After-sub-inner_change) c.add.ensures).is ∙ tab_same 4 _ (of 1) (λ k _. share_1 (n t k)))
     ((difference (outer_change (goal.at.returns c).After-sub-inner_change) (inner_change (goal.at.returns c).After-sub-inner_change) c.sub-2.ensures).is ∙ tab_same 4 _ (of 2) (λ k _. share_2 (n t k))) in
-    record { value = e; by_index = cells_small 3 (2 * most_row) of e (λ p k h _. share_small (n t k) most_row (small t k) p h) }
+    record { value = e; shares_bound = cells_small 3 (2 * most_row) of e (λ p k h _. share_small (n t k) most_row (small t k) p h) }
 
 pub sizes-a-requires : goal.sizes-a-requires
 sizes-a-requires c = asked (goal.at.sizes-a-requires c).Start 0

@@ -101,9 +101,10 @@ returns-clause-ran_before c f r =
     let y = c.take_out_all.new.frames in
     let inv = c.loop-settings.invariant in
     let on : going c.loop-settings.frames.stages f ≡ true = ap (λ (l : List Stage). going l f) (sym c.take_out_all.ensures.stages) ∙ r in
-    let less : f < x₀.count = omega (arith, c.loop-settings.frames.marked.below f on, inv.kept.count) in
-    (inv.stepped.ran f on,
-    rows_done x₀.walk.plan a.settings x₀.walk.triples.now x₀.walk.counts.now x₀.count inv.stepped (ne_eqb c.loop-settings.k 0 (some d)) y.sums.now y.values.now y.rows.now (out d) f less (omega (arith, less, x₀.room)) on)
+    let less : f < x₀.count = omega (arith, c.loop-settings.frames.marked.below f on, inv.kept.count) in (
+      inv.stepped.ran f on,
+      rows_done x₀.walk.plan a.settings x₀.walk.triples.now x₀.walk.counts.now x₀.count inv.stepped (ne_eqb c.loop-settings.k 0 (some d)) y.sums.now y.values.now y.rows.now (out d) f less (omega (arith, less, x₀.room)) on,
+    )
 
 pub returns-clause-ends : goal.returns-clause-ends
 returns-clause-ends c f h code costs own =

@@ -33,7 +33,7 @@ module _ (s : Start) where
 pub renewed-new-requires : goal.renewed-new-requires
 renewed-new-requires c =
     let may = c.requires.0 in
-    record { fours = rw c.load_rows-old.ensures (old_small (goal.at.renewed-new-requires c).Start); by_index = λ k. (raised (at c.args.a k) (may.first k), raised (at c.args.b k) (may.second k), raised (at c.args.c k) (may.third k)) }
+    record { fours = rw c.load_rows-old.ensures (old_small (goal.at.renewed-new-requires c).Start); raised = λ k. (raised (at c.args.a k) (may.first k), raised (at c.args.b k) (may.second k), raised (at c.args.c k) (may.third k)) }
 
 new_is : (c : After-renewed-new) → c.renewed-new.result ≡ tab 4 (λ r. tab 4 (new (goal.at.After-renewed-new c).Start r))
 new_is c =

@@ -1,9 +1,9 @@
 -- `check_row` meets its contract: the bits so far have their 1. Assumes nothing.
-use Rattle.integers.proofs.Prelude.{refl, sym, ◌∙◌, ℕ, arith, add-one, take, length-set, take_all, take-suc}
+use Rattle.integers.proofs.Prelude.{refl, sym, ◌∙◌, ℕ, arith, take_all}
 use lib.ListN.{get_or-replicate}
 use Rattle.model.specs.Limits.{most_encoded_bits}
 use Rattle.model.proofs.Sound.{rising_below}
-use Rattle.reduction.proofs.Table.{row_next, row_taken}
+use Rattle.reduction.proofs.Table.{row_taken}
 use Rattle.reduction.proofs.check_row.Goals as goal
 
 pub loop-i-init : goal.loop-i-init
@@ -12,17 +12,6 @@ loop-i-init c = (refl, λ b h. get_or-replicate {A = ℕ} most_encoded_bits b 0 
 pub bounds-row-bit : goal.bounds-row-bit
 bounds-row-bit c =
     omega (arith, rising_below most_encoded_bits 0 c.args.check.now c.requires c.loop-i.i (omega (arith, c.degree-i-end.ensures.value, c.loop-i-test.true)), c.bit.ensures.value)
-
-pub loop-i-preserved : goal.loop-i-preserved
-loop-i-preserved c =
-    let r = c.loop-i.row in
-    let x = c.bit.result in
-    let k = c.args.check.now in (
-      length-set r x 1 ∙ c.loop-i.invariant.0,
-      λ b h.
-          rw (add-one c.loop-i.i, take-suc k c.loop-i.i 0 (omega (arith, c.degree-i-end.ensures.value, c.loop-i-test.true)), ← c.bit.ensures.value)
-          (row_next (take c.loop-i.i k) r x b (omega (arith, c.loop-i.invariant.0)) (c.loop-i.invariant.1 b h)),
-    )
 
 pub returns : goal.returns
 returns c =

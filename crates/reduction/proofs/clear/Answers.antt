@@ -1,14 +1,9 @@
 -- `reduction::clear` meets its contract: the columns before j, and what the row makes of the others, are the whole. Assumes nothing.
-use Rattle.integers.proofs.Prelude.{◌≡◌, refl, sym, ap, ◌∙◌, ◌≤◌, arith, not-true, length}
+use Rattle.integers.proofs.Prelude.{◌≡◌, sym, ap, ◌∙◌, ◌≤◌, arith, not-true, length}
 use lib.Seq.{slice}
-use Rattle.model.specs.Limits.{most_encoded_bits}
 use Rattle.reduction.proofs.Clearing.{cleared_zero, cleared_pivot, cleared_other, cleared_end}
 use Rattle.reduction.proofs.clear.Goals as goal
 use Rattle.reduction.proofs.clear.Goals.{At-loop-j, then-row-j-ne0+else-not-is_pivot, else-row-j-ne0}
-
--- the table's length
-room : (l : At-loop-j) → length l.loop-j.rows ≡ most_encoded_bits
-room l = omega (arith, ap length l.loop-j.invariant.0)
 
 pub returns-then-not-is_pivot : goal.returns-then-not-is_pivot
 returns-then-not-is_pivot c =
@@ -46,18 +41,3 @@ returns c =
     let e : c.loop-j.j ≡ a.bits = omega arith in
     let end = cleared_end a.bits a.rows.now (slice a.bits a.bits c.loop-j.row) in
     rw c.loop-j.invariant.0 (sym end ∙ rw e at c.loop-j.invariant.3)
-
-pub loop-j-init : goal.loop-j-init
-loop-j-init c = (refl, omega arith, omega arith, refl)
-
-pub is_pivot-requires : goal.is_pivot-requires
-is_pivot-requires c = omega arith
-
-pub bounds-rows-j : goal.bounds-rows-j
-bounds-rows-j c = omega (arith, room (goal.at.bounds-rows-j c).At-loop-j)
-
-pub bounds-rows-j-then-row-j-ne0 : goal.bounds-rows-j-then-row-j-ne0
-bounds-rows-j-then-row-j-ne0 c = omega (arith, room (goal.at.bounds-rows-j-then-row-j-ne0 c).At-loop-j)
-
-pub add-requires : goal.add-requires
-add-requires c = (omega arith, omega arith)

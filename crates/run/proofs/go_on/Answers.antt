@@ -37,10 +37,10 @@ abbrev left : After-straighten → Else-done-eq0
 left z = (goal.at.After-straighten z).Else-done-eq0
 
 -- the rows, as a run reads them
-as_they_were : (z : After-straighten) → straight (start (left z)).args.total z.straighten.new.rows ≡ (start (left z)).args.rows.now
+as_they_were : (z : After-straighten) → straight (start (left z)).args.count z.straighten.new.rows ≡ (start (left z)).args.rows.now
 as_they_were z =
     let s = start (left z) in
-    ap (straight s.args.total) z.straighten.ensures ∙ straight_straight s.args.total s.args.rows.now (sym s.requires.lent.rows)
+    ap (straight s.args.count) z.straighten.ensures ∙ straight_straight s.args.count s.args.rows.now (sym s.requires.lent.rows)
 
 pub run_from-requires : goal.run_from-requires
 run_from-requires c =

@@ -15,32 +15,32 @@ use Rattle.run.proofs.iterate.Goals.{Start, After-gather, After-write_values}
 
 module _ (s : Start) where
   abbrev T : ℕ
-  T = s.args.count
+  T = s.args.system.now.count
 
   abbrev n : ℕ
   n = length s.args.values.now
 
   abbrev ts : List ℕ
-  ts = s.args.triples.now
+  ts = s.args.system.now.triples.now
 
   abbrev costs : List ℤ
-  costs = s.args.costs.now
+  costs = s.args.system.now.costs.now
 
   abbrev a : State
   a = state_in T s.args.sums.now s.args.values.now s.args.rows.now
 
-  is_ready : Ready n ts T s.args.settings costs
+  is_ready : Ready n ts T s.args.system.now.settings costs
   is_ready = s.requires.lent.ready
 
-  bound : Bounds (system n ts T any) s.args.settings costs most_done a
-  bound = bounds (system n ts T any) s.args.settings costs most_done a is_ready s.requires.rows_within.0
+  bound : Bounds (system n ts T any) s.args.system.now.settings costs most_done a
+  bound = bounds (system n ts T any) s.args.system.now.settings costs most_done a is_ready s.requires.rows_within
 
-  count_is : (v : ℕ) → v < n → get_or s.args.counts.now v 0 ≡ occurrences ts T v
+  count_is : (v : ℕ) → v < n → get_or s.args.system.now.counts.now v 0 ≡ occurrences ts T v
   count_is v h = ap (λ (l : List ℕ). get_or l v 0) s.requires.lent.counted ∙ get_or_tab n (occurrences ts T) v 0 h
 
   -- the rows as they stand
   within : RowsWithin most_done s.args.rows.now
-  within = straight_back most_done T s.args.rows.now (sym s.requires.lent.rows) s.requires.rows_within.0
+  within = straight_back most_done T s.args.rows.now (sym s.requires.lent.rows) s.requires.rows_within
 
 pub gather-requires : goal.gather-requires
 gather-requires c =
@@ -83,18 +83,18 @@ module _ (c : After-write_values) where
 pub renew_rows-requires : goal.renew_rows-requires
 renew_rows-requires c =
     let s = start (goal.at.renew_rows-requires c).After-write_values in
-    let small = value_small (given (goal.at.renew_rows-requires c).After-write_values).gather.new.sums s.args.counts.now (costs s) s.args.settings.weight s.args.divisors.now (n s) in
-    record { sized = ((is_ready s).triples, s.requires.lent.members, s.requires.lent.rows); valued = (rw c.write_values.auto.values s.requires.lent.below, λ v. rw c.write_values.ensures (small v)); rows_within = within s; known = s.requires.rows_within.2 }
+    let small = value_small (given (goal.at.renew_rows-requires c).After-write_values).gather.new.sums s.args.system.now.counts.now (costs s) s.args.system.now.settings.weight s.args.divisors.now (n s) in
+    record { sized = ((is_ready s).triples, s.requires.lent.members, s.requires.lent.rows); valued = (rw c.write_values.auto.values s.requires.lent.below, λ v. rw c.write_values.ensures (small v)); rows_within = within s; known = s.requires.known }
 
 -- ---- s
 pub returns : goal.returns
 returns c =
     let s = start (goal.at.returns c).After-write_values in
-    let values = rw s.requires.rows_within.1 at c.write_values.ensures in
+    let values = rw s.requires.divisors at c.write_values.ensures in
     record {
       next_state = λ k. (
-        next_state (n s) (ts s) (T s) s.args.settings (costs s) k (a s) s.args.counts.now _ _ _ s.requires.lent.counted (sums_are (given (goal.at.returns c).After-write_values)) values c.renew_rows.ensures.rows_after.0,
+        next_state (n s) (ts s) (T s) s.args.system.now.settings (costs s) k (a s) s.args.system.now.counts.now _ _ _ s.requires.lent.counted (sums_are (given (goal.at.returns c).After-write_values)) values c.renew_rows.ensures.rows_after.0,
         rw (c.renew_rows.ensures.rows_after.0, ← c.from.ensures) c.renew_rows.ensures.value,
       );
-      rows_len = c.renew_rows.ensures.rows_after.1;
+      rows_long = c.renew_rows.ensures.rows_after.1;
     }

@@ -6,5 +6,5 @@ use Rattle.run.proofs.iterations.Given as goal
 
 abbrev pub invariant-loop-k : goal.invariant-loop-k
 invariant-loop-k l = (l.done ≤ l.k)
-    × Remains (length l.initial.values) l.triples l.count l.settings l.costs l.done (state_in l.count l.initial.sums l.initial.values l.initial.rows) (state_in l.count l.sums l.values l.rows) l.k 0
-    × (length l.rows ≡ 4 * l.count)
+    × Remains (length l.initial.values) l.system.triples.now l.system.count l.system.settings l.system.costs.now l.done (state_in l.system.count l.initial.sums l.initial.values l.initial.rows) (state_in l.system.count l.sums l.values l.rows) l.k 0
+    × (length l.rows ≡ 4 * l.system.count)

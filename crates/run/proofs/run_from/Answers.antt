@@ -8,8 +8,8 @@ use Rattle.run.proofs.run_from.Goals as goal
 pub iterations-ending-requires : goal.iterations-ending-requires
 iterations-ending-requires c =
     let p = c.requires in
-    let known = none_known c.args.triples.now c.args.count c.without_blank-known.result p.lent.members c.without_blank-known.ensures in
-    record { lent = p.lent; rows_within = (p.rows_within, c.new-divisors.ensures, known); done_le_limit = p.done_le_limit }
+    let known = none_known c.args.system.now.triples.now c.args.system.now.count c.without_blank-known.result p.lent.members c.without_blank-known.ensures in
+    record { lent = p.lent; rows_within = p.rows_within; divisors = c.new-divisors.ensures; known = known; done_le_limit = p.done_le_limit }
 
 pub straighten-requires : goal.straighten-requires
 straighten-requires c =

@@ -5,7 +5,7 @@ use Rattle.lists.proofs.Tabulated.{length_tab}
 use Rattle.model.specs.Limits.{most_bits}
 use Rattle.model.specs.Sound.{Rising, SoundCheck}
 use Rattle.model.proofs.Sound.{rising_below, rising_more}
-use Rattle.reader.proofs.Done.{Done, none_done, one_done, all_done, some_left, each_here}
+use Rattle.reader.proofs.Done.{Done, none_done, one_done, all_done, each_here}
 use Rattle.sides.specs.Columns.{Room}
 use Rattle.sides.proofs.Counting.{length_counted, length_placed}
 use Rattle.sides.proofs.Sorting.{start, ends_before, start_end, sorted_next, sorted_all}
@@ -21,8 +21,8 @@ width s = ap length s.requires.degrees ∙ length_tab _ _
 filled : (s : Start) → length s.args.entries.now ≡ start (column s.args.code.now.checks) s.args.code.now.bits
 filled s = s.requires.sum ∙ ap sum s.requires.degrees ∙ start_end s.args.code.now.bits (column s.args.code.now.checks)
 
-pub starts-requires : goal.starts-requires
-starts-requires c = record { few = omega (arith, width (goal.at.starts-requires c).Start, c.checks-checks.ensures.sound.bits_most); sum = omega (arith, c.requires) }
+pub starts-requires-clause-few : goal.starts-requires-clause-few
+starts-requires-clause-few c = omega (arith, width (goal.at.starts-requires-clause-few c).Start, c.checks-checks.ensures.sound.bits_most)
 
 pub loop-j-init : goal.loop-j-init
 loop-j-init c =
@@ -60,15 +60,12 @@ room c i h =
       d.known.entries_long,
     )
 
-pub place-requires : goal.place-requires
-place-requires c =
-    let d = taken (goal.at.place-requires c).In-Some in
-    record {
-      rising = rising_more c.args.code.now.bits most_bits 0 c.in-Some.check c.checks-checks.ensures.sound.bits_most (rising (goal.at.place-requires c).In-Some);
-      number = omega (arith, c.in-Some.ensures.steps, d.known.count, some_left d, c.checks-checks.ensures.sound.checks_most);
-      places = omega (arith, c.requires.places, d.known.entries_long);
-      room = room (goal.at.place-requires c).In-Some;
-    }
+pub place-requires-clause-rising : goal.place-requires-clause-rising
+place-requires-clause-rising c =
+    rising_more c.args.code.now.bits most_bits 0 c.in-Some.check c.checks-checks.ensures.sound.bits_most (rising (goal.at.place-requires-clause-rising c).In-Some)
+
+pub place-requires-clause-room : goal.place-requires-clause-room
+place-requires-clause-room c = room (goal.at.place-requires-clause-room c).In-Some
 
 pub loop-j-preserved : goal.loop-j-preserved
 loop-j-preserved c =

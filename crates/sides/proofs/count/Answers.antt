@@ -1,5 +1,5 @@
 -- `sides::count` meets its contract: the bits so far are counted. Assumes nothing.
-use Rattle.integers.proofs.Prelude.{refl, sym, ◌∙◌, arith, length, take_all}
+use Rattle.integers.proofs.Prelude.{refl, sym, arith, length}
 use Rattle.sides.proofs.Counting.{counted_none, Turn, turn_bit, turn_entry, turn_value, turn_next}
 use Rattle.sides.proofs.count.Goals as goal
 use Rattle.sides.proofs.count.Goals.{After-bit}
@@ -31,6 +31,3 @@ overflow_add-degrees c =
 
 pub loop-i-preserved : goal.loop-i-preserved
 loop-i-preserved c = turn_next (turn (goal.at.loop-i-preserved c).After-bit) _ refl
-
-pub returns : goal.returns
-returns c = c.loop-i.invariant ∙ rw (take_all c.loop-i.i c.args.check.now (omega (arith, c.degree-i-end.ensures.value)))

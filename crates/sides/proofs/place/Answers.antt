@@ -1,5 +1,5 @@
 -- `sides::place` meets its contract: the number stands at the places of the bits so far. Assumes nothing.
-use Rattle.integers.proofs.Prelude.{◌≡◌, refl, sym, ap, ◌∙◌, ℕ, ◌+◌, ◌<◌, arith, length, get_or, take, take_all}
+use Rattle.integers.proofs.Prelude.{◌≡◌, refl, sym, ap, ◌∙◌, ℕ, ◌+◌, ◌<◌, arith, length, get_or, take}
 use Rattle.model.specs.Limits.{most_bits}
 use Rattle.sides.proofs.Counting.{counted_none, Turn, turn_value, turn_next, length_placed, placed_next}
 use Rattle.sides.proofs.place.Goals as goal
@@ -43,8 +43,3 @@ loop-i-preserved c =
       turn_next t _ (ap (λ (n : ℕ). n + 1) c.from-at.ensures),
       rw (here c, c.loop-i.invariant.1) (placed_next a.j a.next.now a.check.now a.entries.now c.loop-i.i _ t.below c.bit-b.ensures.value),
     )
-
-pub returns : goal.returns
-returns c =
-    let t = take_all c.loop-i.i c.args.check.now (omega (arith, c.degree-i-end.ensures.value)) in
-    record { next = rw t at c.loop-i.invariant.0; entries = rw t at c.loop-i.invariant.1 }

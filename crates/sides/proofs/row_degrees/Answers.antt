@@ -1,19 +1,13 @@
 -- `sides::row_degrees` meets its contract: the degrees of the checks so far, and their sum. Assumes nothing.
-use Rattle.integers.proofs.Prelude.{◌≡◌, refl, sym, ◌∙◌, ◌<◌, List, [], ◌∷◌, ◌++◌, map, ℕ, arith, length, length-map, length-append, set, append-nil}
-use Rattle.integers.proofs.Prelude.{drop_of_length-le}
+use Rattle.integers.proofs.Prelude.{◌≡◌, sym, ◌<◌, List, [], ◌∷◌, ◌++◌, map, ℕ, arith, length, length-map, length-append, set}
 use mathlib.Core.List.{map-append}
 use Rattle.lists.specs.Tabulated.{written}
 use Rattle.lists.proofs.Entries.{total_append}
 use Rattle.lists.proofs.Parts.{written_next}
-use Rattle.reader.proofs.Done.{Done, none_done, one_done, all_done, some_left}
+use Rattle.reader.proofs.Done.{Done, one_done, some_left}
 use Rattle.sides.proofs.row_degrees.Invariants.{Degrees}
 use Rattle.sides.proofs.row_degrees.Goals as goal
 use Rattle.sides.proofs.row_degrees.Goals.{After-degree-degree}
-
-pub loop-j-init : goal.loop-j-init
-loop-j-init c =
-    rw (c.into_iter-j-iterator.ensures.into_iter_gives, c.enumerate-j-items.ensures.source, c.enumerate-j-items.ensures.count, c.checks.ensures.value)
-    (none_done _ (record { count = refl; entries = refl; total_is = refl; most = omega arith }))
 
 -- the checks that are done, and the one at hand
 taken : (c : After-degree-degree)
@@ -22,9 +16,6 @@ taken c = rw c.in-Some.ensures.steps.0 at c.loop-j.invariant
 
 few : (c : After-degree-degree) → c.loop-j.j-iterator.count < length c.args.degrees.now
 few c = omega (arith, (taken c).known.count, some_left (taken c), c.requires)
-
-pub overflow_add-sum : goal.overflow_add-sum
-overflow_add-sum c = omega (arith, (taken c).known.most, few c, c.degree-degree.ensures.range)
 
 put : (old : List ℕ) (done : List (List ℕ)) (check degrees : List ℕ) (j d : ℕ) → degrees ≡ written (map length done) old → j ≡ length (map length done)
     → d ≡ length check → length (map length done) < length old → set degrees j d ≡ written (map length (done ++ (check ∷ []))) old
@@ -44,12 +35,3 @@ loop-j-preserved c =
       total_is = omega (arith, k.total_is, c.degree-degree.ensures.value, total_append length d.items (c.in-Some.check ∷ []));
       most = omega (arith, k.most, s, c.degree-degree.ensures);
     })
-
-pub returns : goal.returns
-returns c =
-    let known = all_done (rw c.in-None.ensures.steps.0.0 at c.loop-j.invariant) in
-    let n = length c.args.degrees.now in
-    record {
-      degrees = known.entries ∙ rw (drop_of_length-le c.args.degrees.now {i = length (map length c.args.code.now.checks)} (omega (arith, c.requires, length-map c.args.code.now.checks length))) (append-nil _);
-      sum = known.total_is;
-    }

@@ -1,15 +1,11 @@
 -- `sides::row_entries` meets its contract: the rows so far. Assumes nothing.
 use Rattle.integers.proofs.Prelude.{◌∷◌, arith, length}
-use Rattle.reader.proofs.Done.{Done, none_done, one_done, all_done, total_left}
+use Rattle.reader.proofs.Done.{Done, one_done, all_done, total_left}
 use Rattle.text.specs.Appended.{Appended}
-use Rattle.text.proofs.Appended.{none, long, then}
+use Rattle.text.proofs.Appended.{long, then}
 use Rattle.sides.proofs.Rows.{rows_of, rows_next, length_rows, whole}
 use Rattle.sides.proofs.row_entries.Goals as goal
 use Rattle.sides.proofs.row_entries.Goals.{In-Some}
-
-pub loop-check-init : goal.loop-check-init
-loop-check-init c =
-    rw (c.into_iter-check-iterator.ensures.into_iter_gives, c.checks-check-items.ensures.value) (none_done _ (none 0 _ (omega arith)))
 
 -- the checks that are done, and the one at hand
 taken : (c : In-Some)

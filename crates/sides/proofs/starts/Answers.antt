@@ -1,5 +1,5 @@
 -- `sides::starts` meets its contract: the columns so far begin where they should. Assumes nothing.
-use Rattle.integers.proofs.Prelude.{refl, sym, ◌≤◌, arith, add-one}
+use Rattle.integers.proofs.Prelude.{sym, ◌≤◌, arith, add-one}
 use Rattle.lists.proofs.Tabulated.{over_next}
 use Rattle.lists.proofs.Entries.{total_next, total_part}
 use Rattle.sides.specs.Columns.{start_of}
@@ -8,9 +8,6 @@ use Rattle.sides.proofs.starts.Goals.{At-loop-b, In-loop-b}
 
 few : (c : At-loop-b) → c.loop-b.at ≤ 65535
 few c = omega (arith, c.loop-b.invariant.1, total_part (λ d. d) c.args.degrees.now c.loop-b.b, c.requires.sum)
-
-pub loop-b-init : goal.loop-b-init
-loop-b-init c = (refl, refl)
 
 pub loop-b-preserved : goal.loop-b-preserved
 loop-b-preserved c =
