@@ -4,9 +4,11 @@ use Rattle.model.specs.declared.Settings.{Settings}
 use Rattle.model.specs.Limits.{most_frames}
 use Rattle.model.specs.Causes.{first_of, short, outside}
 use Rattle.model.specs.Code.{Code, triples, variables}
+use Rattle.model.specs.Records.{code_of, judge}
 use Rattle.model.specs.Calls.{out_of_range, unequal, Lists}
 use Rattle.model.specs.Group.{group_causes, no_group_room, work_size}
 use Rattle.model.proofs.Causes.{clear, unless, within}
+use Rattle.model.proofs.Accepted.{accepted}
 use Rattle.model.proofs.Groups.{has_room}
 use Rattle.decoder.specs.Room.{too_short}
 use Rattle.group.specs.Ends.{AcceptedGroup}
@@ -25,13 +27,14 @@ room_joined k F l work =
     joined (short (3 * triples k) l.triples) (short (variables k) l.counts) (short (F * variables k) l.sums) (short (F * variables k) l.values)
     (short (F * (4 * triples k)) l.rows) (short (F * k.bits) l.word) (short (work_size k F) work)
 
--- none of the causes holds
-pub accepted_group : (k : Code) (o : Settings) (F : ℕ) (costs : List ℤ) (l : Lists) (work : List ℤ) → 0 ≡ first_of (group_causes k o F costs l work)
-    → AcceptedGroup k o F costs l work
-accepted_group k o F costs l work none =
+-- the code is sound, and none of the other causes holds
+pub accepted_group : (b : List ℕ) → 0 ≡ judge b → (k : Code) → k ≡ code_of b → (o : Settings) (F : ℕ) (costs : List ℤ) (l : Lists) (work : List ℤ)
+    → 0 ≡ first_of (group_causes k o F costs l work) → AcceptedGroup k o F costs l work
+accepted_group b judged k is o F costs l work none =
     let x = clear (group_causes k o F costs l work) (sym none) in
     let frames = within 1 most_frames F (unless 20 (outside 1 most_frames F) x.1.0) in
     record {
+      sound = rw is (accepted b (sym judged));
       settings = unless 10 (out_of_range o) x.0;
       least = frames.0;
       frames = frames.1;

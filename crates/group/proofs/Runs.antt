@@ -2,6 +2,8 @@
 use Rattle.integers.proofs.Prelude.{◌≡◌, refl, sym, ap, subst, ◌∙◌, Bool, true, false, not, cond, List, ◌++◌, ℕ, zero, suc, ◌+◌, ◌*◌, ◌≤◌, ◌<◌, arith, dec_lt}
 use Rattle.integers.proofs.Prelude.{leb-true, leb, not-true, eqb, ℤ, length, get_or, take, drop, length-take-le, drop_at}
 use mathlib.Core.Logic.{◌⊎◌, inl, inr}
+use Rattle.std.proofs.Math.ListN.{get_or-map}
+use Rattle.std.proofs.lemmas.Bool.{false≢true}
 use lib.ListN.{replicate, length-replicate}
 use Rattle.lists.specs.Tabulated.{over, written, part}
 use Rattle.lists.specs.Entries.{some}
@@ -9,13 +11,12 @@ use Rattle.lists.proofs.Tabulated.{length_over, over_in, over_out}
 use Rattle.lists.proofs.Parts.{length_part, part_end, part_front, part_take}
 use Rattle.quotient.specs.Quotient.{quotient}
 use Rattle.model.specs.declared.Settings.{Settings}
-use Rattle.model.specs.Limits.{most_frames}
-use Rattle.model.specs.Causes.{◌if◌}
+use Rattle.model.specs.Limits.{most_frames, most_triples, most_variables}
 use Rattle.model.specs.Code.{Code, triples, variables}
 use Rattle.model.specs.Splitting.{system_of}
 use Rattle.model.specs.Iteration.{State, counts_of}
 use Rattle.model.specs.Run.{Ended, run}
-use Rattle.model.specs.Calls.{out_of_range, forbidden}
+use Rattle.model.specs.Calls.{out_of_range, forbidden, Lists}
 use Rattle.model.specs.DecoderClaims.{Small}
 use Rattle.model.specs.Sound.{Sound}
 use Rattle.model.specs.Group.{lanes, work_size}
@@ -24,11 +25,12 @@ use Rattle.model.proofs.Sound.{variables_most}
 use Rattle.triples.proofs.Lent.{triples_long, system_lent, members_lent, auxiliaries_lent, ready_lent, counts_lent, counts_long}
 use Rattle.lanes.specs.declared.Plan.{Plan}
 use Rattle.lanes.specs.Lanes.{lane_size, Fits}
-use Rattle.lane_step.specs.Step.{runs}
-use Rattle.group_step.specs.Frames.{part_state, ended_in, Held, Marks}
+use Rattle.group_step.specs.declared.Stage.{Stage}
+use Rattle.group_step.specs.declared.Stage.TheVariants.{Idle, Running}
+use Rattle.group_step.specs.Frames.{is_running, iterations, stop_of, going, part_state, ended_in, Held, Marks}
 use Rattle.lane_step.specs.Step.{system_for}
 use Rattle.group_run.specs.Given.{Given}
-use Rattle.group.specs.Ends.{plan_of, end_given, Ran}
+use Rattle.group.specs.Ends.{plan_of, stage_for, AcceptedGroup, end_given, Ran}
 
 -- ---- the lanes
 pub lanes_enough : (F : ℕ) → F ≤ most_frames → F ≤ lanes F
@@ -45,54 +47,67 @@ lanes_kinds F = by (leb F 4)
     by true = inl refl
     by false = inr refl
 
--- ---- the marks
-abbrev pub zeros : ℕ → List ℕ
-zeros n = replicate n 0
+pub plan_few : (k : Code) → Sound k → (F : ℕ) (p : Plan) → p ≡ plan_of k F
+    → (p.lanes ≤ 8) × (p.triples ≤ most_triples) × (p.variables ≤ most_variables) × (p.bits ≤ p.variables)
+plan_few k s F p e = rw e (by (leb F 4), s.triples_most, omega (arith, variables_most k s, s.bits_most, s.triples_most), omega arith)
+  where
+    by : (t : Bool) → let n : ℕ = cond t 4 8 in n ≤ 8
+    by true = omega arith
+    by false = omega arith
 
-zero_at : (n i : ℕ) → get_or (zeros n) i 0 ≡ 0
-zero_at zero i = refl
-zero_at (suc n) zero = refl
-zero_at (suc n) (suc i) = zero_at n i
+-- ---- the stages
+idle_at : (n i : ℕ) → get_or (replicate n Idle) i Idle ≡ Idle
+idle_at zero i = refl
+idle_at (suc n) zero = refl
+idle_at (suc n) (suc i) = idle_at n i
 
-zeros_long : (n : ℕ) → length (zeros n) ≡ n
-zeros_long n = length-replicate n _
+-- a frame that has not run has done no iteration
+none_done : (costs : List ℤ) → (iterations (stage_for costs) ≡ 0) × (stop_of (stage_for costs) ≡ 0)
+none_done costs = by (some forbidden costs)
+  where
+    by : (t : Bool) → (iterations (cond t Idle Running) ≡ 0) × (stop_of (cond t Idle Running) ≡ 0)
+    by true = (refl, refl)
+    by false = (refl, refl)
+
+goes_unless_false : (costs : List ℤ) → is_running (stage_for costs) ≡ not (some forbidden costs)
+goes_unless_false costs = by (some forbidden costs)
+  where
+    by : (t : Bool) → is_running (cond t Idle Running) ≡ not t
+    by true = refl
+    by false = refl
 
 -- of F frames of n bits
-abbrev pub marked : ℕ → List ℤ → ℕ → ℕ
-marked n costs f = 1 if not (some forbidden (part n f costs))
+abbrev pub started : ℕ → List ℤ → ℕ → Stage
+started n costs f = stage_for (part n f costs)
 
-module _ (n F : ℕ) (few : F ≤ most_frames) (costs : List ℤ) (marks : List ℕ) (are : marks ≡ over F (marked n costs) (zeros most_frames)) where
-  marks_long : length marks ≡ most_frames
-  marks_long = ap length are ∙ length_over F (marked n costs) (zeros most_frames) (omega (arith, zeros_long most_frames)) ∙ zeros_long most_frames
+module _ (n F : ℕ) (few : F ≤ most_frames) (costs : List ℤ) (stages : List Stage) (are : stages ≡ over F (started n costs) (replicate most_frames Idle)) where
+  pub stage_at : (f : ℕ) → f < F → get_or stages f Idle ≡ started n costs f
+  stage_at f h = ap (λ (m : List Stage). get_or m f Idle) are ∙ over_in F (started n costs) (replicate most_frames Idle) f Idle h
 
-  marks_below : (f : ℕ) → 0 < get_or marks f 0 → f < F
-  marks_below f h = by (dec_lt f F)
+  going_at : (f : ℕ) → going stages f ≡ is_running (get_or stages f Idle)
+  going_at f = get_or-map is_running stages f Idle
+
+  going_below : (f : ℕ) → going stages f ≡ true → f < F
+  going_below f h = by (dec_lt f F)
     where
       by : Dec (f < F) → f < F
       by (yes l) = l
       by (no l) =
-          let none : get_or marks f 0 ≡ 0
-          = ap (λ (m : List ℕ). get_or m f 0) are ∙ over_out F (marked n costs) (zeros most_frames) f 0 (omega arith) ∙ zero_at most_frames f in
-          absurd (omega arith)
+          let none : get_or stages f Idle ≡ Idle
+          = ap (λ (m : List Stage). get_or m f Idle) are ∙ over_out F (started n costs) (replicate most_frames Idle) f Idle (omega arith) ∙ idle_at most_frames f in
+          absurd (false≢true (sym (going_at f ∙ ap is_running none) ∙ h))
 
-  pub runs_are : (f : ℕ) → f < F → runs marks f ≡ not (some forbidden (part n f costs))
-  runs_are f h =
-      ap (λ (m : ℕ). not (eqb m 0)) (ap (λ (m : List ℕ). get_or m f 0) are ∙ over_in F (marked n costs) (zeros most_frames) f 0 h) ∙ by (some forbidden (part n f costs))
-    where
-      by : (t : Bool) → not (eqb (1 if not t) 0) ≡ not t
-      by true = refl
-      by false = refl
+  pub goes_are : (f : ℕ) → f < F → going stages f ≡ not (some forbidden (part n f costs))
+  goes_are f h = going_at f ∙ ap is_running (stage_at f h) ∙ goes_unless_false (part n f costs)
 
-  pub all_marks : (ks settled : List ℕ) → ks ≡ zeros most_frames → settled ≡ zeros most_frames → Marks F marks ks settled
-  all_marks ks settled e g = record {
-    running_long = marks_long;
-    ks_long = ap length e ∙ zeros_long most_frames;
-    settled_long = ap length g ∙ zeros_long most_frames;
-    below = marks_below;
+  pub all_marks : Marks F stages
+  all_marks = record {
+    long = ap length are ∙ length_over F (started n costs) (replicate most_frames Idle) (omega (arith, few, length-replicate {A = Stage} most_frames Idle)) ∙ length-replicate {A = Stage} most_frames Idle;
+    below = going_below;
   }
 
 -- ---- an accepted code with the plan p for F frames, the lists that its system was written to, and the marks
-pub record Begun (k : Code) (o : Settings) (F : ℕ) (p : Plan) (costs : List ℤ) (ts cs marks : List ℕ) : Type 0 where
+pub record Begun (k : Code) (o : Settings) (F : ℕ) (p : Plan) (costs : List ℤ) (ts cs : List ℕ) (stages : List Stage) : Type 0 where
   pub sound : Sound k
   pub tame : out_of_range o ≡ false
   pub few : F ≤ most_frames
@@ -102,10 +117,10 @@ pub record Begun (k : Code) (o : Settings) (F : ℕ) (p : Plan) (costs : List �
   pub triples : ts ≡ written (system_of k).members ts₀
   pub cs₀ : List ℕ
   pub counts : cs ≡ written (counts_of (system_of k)) cs₀
-  pub marks_are : marks ≡ over F (marked p.bits costs) (zeros most_frames)
+  pub stages_are : stages ≡ over F (started p.bits costs) (replicate most_frames Idle)
   pub small : (f : ℕ) → f < F → some forbidden (part p.bits f costs) ≡ false → Small (part p.bits f costs)
 
-module _ {k : Code} {o : Settings} {F : ℕ} {p : Plan} {costs : List ℤ} {ts cs marks : List ℕ} (b : Begun k o F p costs ts cs marks) where
+module _ {k : Code} {o : Settings} {F : ℕ} {p : Plan} {costs : List ℤ} {ts cs : List ℕ} {stages : List Stage} (b : Begun k o F p costs ts cs stages) where
   bits_is : p.bits ≡ k.bits
   bits_is = ap (λ (q : Plan). q.bits) b.plan
 
@@ -147,10 +162,10 @@ module _ {k : Code} {o : Settings} {F : ℕ} {p : Plan} {costs : List ℤ} {ts c
   own_long : (f : ℕ) → f < F → length (part p.bits f costs) ≡ k.bits
   own_long f h = length_part p.bits f costs (omega (arith, part_end p.bits F f h, b.agree)) ∙ bits_is
 
-  ran_small : (f : ℕ) → f < F → runs marks f ≡ true → Small (part p.bits f costs)
-  ran_small f h r = b.small f h (not-true (some forbidden (part p.bits f costs)) (sym (runs_are p.bits F b.few costs marks b.marks_are f h) ∙ r))
+  ran_small : (f : ℕ) → f < F → going stages f ≡ true → Small (part p.bits f costs)
+  ran_small f h r = b.small f h (not-true (some forbidden (part p.bits f costs)) (sym (goes_are p.bits F b.few costs stages b.stages_are f h) ∙ r))
 
-  pub given : Given p F o lent (take p.variables cs) costs marks
+  pub given : Given p F o lent (take p.variables cs) costs stages
   given = record {
     frames = b.few;
     lanes = rw lanes_is (lanes_enough F b.few);
@@ -169,11 +184,11 @@ module _ {k : Code} {o : Settings} {F : ℕ} {p : Plan} {costs : List ℤ} {ts c
   }
 
   -- ---- how they ended, in the front of longer lists
-  module _ (ks settled ks' settled' : List ℕ) (S c s S' c' s' : List ℤ) (ks_is : ks ≡ zeros most_frames) (settled_is : settled ≡ zeros most_frames)
+  module _ (stages' : List Stage) (S c s S' c' s' : List ℤ)
       (room : (F * p.variables ≤ length S) × (F * p.variables ≤ length c) × (F * (4 * p.triples) ≤ length s)) (held : Held p F S' c' s')
-      (ended : (f : ℕ) → f < F → (c₁ : Code) → ended_in p ks' settled' S' c' s' f
-      ≡ cond (runs marks f) (run quotient (system_for c₁ p lent) o (part p.bits f costs))
-      (ended_in p ks settled (take (F * p.variables) S) (take (F * p.variables) c) (take (F * (4 * p.triples)) s) f)) where
+      (ended : (f : ℕ) → f < F → (c₁ : Code) → ended_in p stages' S' c' s' f
+      ≡ cond (going stages f) (run quotient (system_for c₁ p lent) o (part p.bits f costs))
+      (ended_in p stages (take (F * p.variables) S) (take (F * p.variables) c) (take (F * (4 * p.triples)) s) f)) where
     abbrev n : ℕ
     n = F * p.variables
 
@@ -197,29 +212,69 @@ module _ {k : Code} {o : Settings} {F : ℕ} {p : Plan} {costs : List ℤ} {ts c
     }
 
     -- a frame that did not run has done no iteration
-    idle : (f : ℕ) → f < F → ended_in p ks settled (take n S) (take n c) (take m s) f ≡ record { k = 0; settled = 0; last = part_state p S c s f }
-    idle f h = λ i. record { k = (ap (λ (l : List ℕ). get_or l f 0) ks_is ∙ zero_at most_frames f) i; settled = (ap (λ (l : List ℕ). get_or l f 0) settled_is ∙ zero_at most_frames f) i; last = parts f h i }
+    idle : (f : ℕ) → f < F → ended_in p stages (take n S) (take n c) (take m s) f ≡ record { k = 0; settled = 0; last = part_state p S c s f }
+    idle f h =
+        let at = stage_at p.bits F b.few costs stages b.stages_are f h in
+        let none = none_done (part p.bits f costs) in
+        λ i. record { k = (ap iterations at ∙ none.0) i; settled = (ap stop_of at ∙ none.1) i; last = parts f h i }
 
     cond_not : (t : Bool) (x y : Ended) → cond (not t) x y ≡ cond t y x
     cond_not true x y = refl
     cond_not false x y = refl
 
-    frame_ended : (f : ℕ) → f < F → ended_in p ks' settled' (S' ++ drop n S) (c' ++ drop n c) (s' ++ drop m s) f ≡ end_given k o (part p.bits f costs) (part_state p S c s f)
+    frame_ended : (f : ℕ) → f < F → ended_in p stages' (S' ++ drop n S) (c' ++ drop n c) (s' ++ drop m s) f ≡ end_given k o (part p.bits f costs) (part_state p S c s f)
     frame_ended f h =
-        ap (λ (a : State). record { k = get_or ks' f 0; settled = get_or settled' f 0; last = a }) (back f h)
+        ap (λ (a : State). record { k = iterations (get_or stages' f Idle); settled = stop_of (get_or stages' f Idle); last = a }) (back f h)
         ∙ ended f h k
         ∙ rw (
-          runs_are p.bits F b.few costs marks b.marks_are f h,
+          goes_are p.bits F b.few costs stages b.stages_are f h,
           system_lent k b.sound p.triples p.variables triples_is variables_is ts b.ts₀ b.triples,
           idle f h,
         )
         (cond_not (some forbidden (part p.bits f costs)) (run quotient (system_of k) o (part p.bits f costs)) (record { k = 0; settled = 0; last = part_state p S c s f }))
 
-    pub ran : Ran k o F costs ks' settled' S c s (S' ++ drop n S) (c' ++ drop n c) (s' ++ drop m s)
+    pub ran : Ran k o F costs stages' S c s (S' ++ drop n S) (c' ++ drop n c) (s' ++ drop m s)
     ran = record {
-      ended = subst (λ (q : Plan). (f : ℕ) → f < F → ended_in q ks' settled' (S' ++ drop n S) (c' ++ drop n c) (s' ++ drop m s) f ≡ end_given k o (part q.bits f costs) (part_state q S c s f)) b.plan frame_ended;
+      ended = subst (λ (q : Plan). (f : ℕ) → f < F → ended_in q stages' (S' ++ drop n S) (c' ++ drop n c) (s' ++ drop m s) f ≡ end_given k o (part q.bits f costs) (part_state q S c s f)) b.plan frame_ended;
       small = subst (λ (j : ℕ). (f : ℕ) → f < F → some forbidden (part j f costs) ≡ false → Small (part j f costs)) bits_is b.small;
       sums = rw (← variables_is) (drop_at S' (drop n S) n held.sums_long);
       values = rw (← variables_is) (drop_at c' (drop n c) n held.values_long);
       rows = rw (← triples_is) (drop_at s' (drop m s) m held.rows_long);
     }
+
+-- ---- a group that no cause refuses is begun
+pub begun : (k : Code) (o : Settings) (F : ℕ) (costs : List ℤ) (l : Lists) (work : List ℤ) → AcceptedGroup k o F costs l work
+    → (p : Plan) → p ≡ plan_of k F → (n : ℕ) → n ≡ k.bits
+    → (ts : List ℕ) → ts ≡ written (system_of k).members l.triples → (cs : List ℕ) → cs ≡ written (counts_of (system_of k)) l.counts
+    → (old stages : List Stage) → old ≡ replicate most_frames Idle → stages ≡ over F (started n costs) old
+    → ((f : ℕ) → f < F → some forbidden (part n f costs) ≡ false → Small (part n f costs)) → Begun k o F p costs ts cs stages
+begun k o F costs l work a p plan n n_is ts split cs counted old stages idle are small =
+    let e : n ≡ p.bits = n_is ∙ sym (ap (λ (q : Plan). q.bits) plan) in
+    record {
+      sound = a.sound;
+      tame = a.settings;
+      few = a.frames;
+      plan = plan;
+      agree = a.lengths ∙ ap (λ (j : ℕ). F * j) (sym n_is ∙ e);
+      ts₀ = l.triples;
+      triples = split;
+      cs₀ = l.counts;
+      counts = counted;
+      stages_are = are ∙ ap (over F (started n costs)) idle ∙ ap (λ (j : ℕ). over F (started j costs) (replicate most_frames Idle)) e;
+      small = subst (λ (j : ℕ). (f : ℕ) → f < F → some forbidden (part j f costs) ≡ false → Small (part j f costs)) e small;
+    }
+
+-- the parts of the lists that are lent, in the sizes that the code has
+module _ (k : Code) (o : Settings) (F : ℕ) (costs : List ℤ) (l : Lists) (work : List ℤ) (a : AcceptedGroup k o F costs l work) (p : Plan) (plan : p ≡ plan_of k F) where
+  pub room_of : (F * p.variables ≤ length l.sums) × (F * p.variables ≤ length l.values) × (F * (4 * p.triples) ≤ length l.rows)
+  room_of =
+      let v : p.variables ≡ variables k = ap (λ (q : Plan). q.variables) plan in
+      let t : p.triples ≡ triples k = ap (λ (q : Plan). q.triples) plan in
+      (rw v a.room.sums, rw v a.room.values, rw t a.room.rows)
+
+  pub held : Held p F (take (F * p.variables) l.sums) (take (F * p.variables) l.values) (take (F * (4 * p.triples)) l.rows)
+  held = record {
+    sums_long = length-take-le (F * p.variables) l.sums room_of.0;
+    values_long = length-take-le (F * p.variables) l.values room_of.1;
+    rows_long = length-take-le (F * (4 * p.triples)) l.rows room_of.2;
+  }

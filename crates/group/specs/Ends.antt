@@ -6,6 +6,7 @@ use Rattle.quotient.specs.Quotient.{quotient}
 use Rattle.model.specs.declared.Settings.{Settings}
 use Rattle.model.specs.Causes.{accepted}
 use Rattle.model.specs.Code.{Code, triples, variables}
+use Rattle.model.specs.Sound.{Sound}
 use Rattle.model.specs.Splitting.{system_of}
 use Rattle.model.specs.Iteration.{State}
 use Rattle.model.specs.Run.{Ended, run}
@@ -29,6 +30,7 @@ stage_for costs = cond (some forbidden costs) Idle Running
 
 -- F frames of the sound code k that no cause refuses
 pub record AcceptedGroup (k : Code) (o : Settings) (F : ℕ) (costs : List ℤ) (l : Lists) (work : List ℤ) : Type 0 where
+  pub sound : Sound k
   pub settings : out_of_range o ≡ false
   pub least : 1 ≤ F
   pub frames : F ≤ most_frames

@@ -7,8 +7,10 @@ ghost use Rattle.lists.specs.Entries.{some};
 ghost use Rattle.model.specs.Limits.{most_frames};
 ghost use Rattle.model.specs.Causes.{number_of, first_of};
 ghost use Rattle.model.specs.Code.{variables};
+ghost use Rattle.model.specs.Sound.{Sound};
 ghost use Rattle.model.specs.Splitting.{system_of};
 ghost use Rattle.model.specs.Iteration.{counts_of};
+ghost use Rattle.model.specs.Calls as Calls;
 ghost use Rattle.model.specs.Calls.{forbidden, lists_of, run_told};
 ghost use Rattle.model.specs.Lent.{contents_of, SameLists};
 ghost use Rattle.model.specs.DecoderClaims.{Small};
@@ -29,7 +31,8 @@ use reader::Code;
 
 // The lanes of so many frames, one four or two, and the sizes of the code.
 fn plan_for(code: &Code, frames: usize) -> Plan
-    ensures { result ≡ plan_of code.now frames }
+    ensures plan { result ≡ plan_of code.now frames }
+    ensures sound { Sound code.now }
 {
     Plan {
         lanes: if frames <= 4 { 4 } else { 8 },
@@ -122,18 +125,16 @@ fn run_system(
     ensures ran { Ran code.now settings frames costs.now stages.new
         sums.old values.old rows.old sums.new values.new rows.new }
 {
-    let total = code.triples();
-    let variables = code.variables();
     triples::write_system(code, triples, counts);
-    begin_frames(costs, code.bits(), frames, stages);
     let p = plan_for(code, frames);
+    begin_frames(costs, p.bits, frames, stages);
     let size = p.size();
-    let v_end = frames * variables;
-    let r_end = frames * (4 * total);
+    let v_end = frames * p.variables;
+    let r_end = frames * (4 * p.triples);
     group_run::run(
         settings,
-        &triples[..3 * total],
-        &counts[..variables],
+        &triples[..3 * p.triples],
+        &counts[..p.variables],
         costs,
         p,
         frames,
@@ -151,15 +152,17 @@ fn conclude_frame(code: &Code, values: &[i16], stage: Stage, word: &mut [u8]) ->
     ensures answer { run_told result ≡ answer_of code.now (iterations stage) (stop_of stage) values.now }
     ensures word { word.new ≡ word_left code.now (iterations stage) values.now word.old }
 {
-    let (k, settled) = match stage {
-        Stage::Ended { k, settled } => (k, settled),
-        _ => (0, false),
+    let ending = match stage {
+        Stage::Ended(ending) => ending,
+        _ => Ending {
+            k: 0,
+            settled: false,
+        },
     };
-    if k == 0 {
+    if ending.k == 0 {
         return DecodeAnswer::from(Err(Cause::Cost));
     }
     let conclusion = outcome::conclude(code, values, word);
-    let ending = Ending { k, settled };
     DecodeAnswer::from(Ok(Decoding { conclusion, ending }))
 }
 
@@ -247,7 +250,7 @@ fn decode_accepted(
 
 // What C is told of a group.
 pub fn answer(decoded: Result<[DecodeAnswer; 8], Cause>) -> GroupAnswer
-    ensures { (l : Lists) → group_told result l ≡ told decoded l }
+    ensures { (l : Calls.Lists) → group_told result l ≡ told decoded l }
 {
     match decoded {
         Ok(frames) => GroupAnswer { number: 0, frames },
