@@ -1,19 +1,17 @@
 -- Rows, and the columns that a table of rows stands for. Assumes nothing.
-use Rattle.integers.proofs.Prelude.{◌≡◌, refl, sym, ap, ap₂, ◌∙◌, Bool, true, false, not, cond, ◌||◌, List, [], ◌∷◌, ◌++◌, ℕ, suc, ◌+◌, ◌-◌, ◌*◌, ◌%◌}
-use Rattle.integers.proofs.Prelude.{◌≤◌, ◌<◌, arith, add-one, eqb-true, eqb-false, eqb, length, get_or, take, drop, set, length-take-le, take-suc, drop-cons, drop-drop, get_or-take, get_or-drop}
+use Rattle.integers.proofs.Prelude.{◌≡◌, refl, sym, ap, ap₂, ◌∙◌, Bool, true, false, not, cond, List, [], ◌∷◌, ◌++◌, ℕ, suc, ◌+◌, ◌-◌, ◌%◌}
+use Rattle.integers.proofs.Prelude.{◌≤◌, ◌<◌, arith, length, get_or, take, drop, length-take-le, take-suc, drop-cons, get_or-take, get_or-drop}
 use lib.ListN.{replicate, get_or-replicate}
-use lib.Seq.{ext_get_or, slice, length-slice, get_or-set_same, get_or-set_other}
-use Rattle.lists.specs.Entries.{some}
+use lib.Seq.{ext_get_or, slice, length-slice}
 use Rattle.lists.proofs.Tabulated.{length_tab, get_or_tab, tab_same, tab_replicate}
-use Rattle.lists.proofs.Entries.{some_last, total_next}
+use Rattle.lists.proofs.Entries.{total_next}
 use Rattle.model.specs.Limits.{most_encoded_bits}
 use Rattle.model.specs.Causes.{◌if◌}
 use Rattle.model.specs.Words.{bit_at}
 use Rattle.model.specs.Reflection.{sum_of_words}
-use Rattle.model.specs.Encoding.{element, row_of, Column, pivot, other, is_other, others, inner_product}
+use Rattle.model.specs.Encoding.{element, row_of, Column, pivot, other, is_other, others}
 use Rattle.model.proofs.Composition.{length_sum}
 use Rattle.model.proofs.Demand3.{sum_entry}
-use Rattle.model.proofs.Reduction.{product_none}
 use Rattle.reduction.specs.Table.{row, has_pivot, column, columns_in}
 
 -- ---- a slice by its entries
@@ -21,13 +19,6 @@ pub slice_at : (f t : ℕ) (l : List ℕ) (i : ℕ) → f + i < t → bit_at (sl
 slice_at f t l i h = get_or-drop f (take t l) i 0 ∙ get_or-take t l (f + i) 0 h
 
 -- ---- the row of a check
--- one bit more
-pub row_next : (c r : List ℕ) (x b : ℕ) → b < length r → bit_at r b ≡ element c b → bit_at (set r x 1) b ≡ element (c ++ (x ∷ [])) b
-row_next c r x b h e = rw (some_last (eqb b) c x) (by (eqb b x) refl)
-  where
-    by : (t : Bool) → eqb b x ≡ t → bit_at (set r x 1) b ≡ 1 if (t || some (eqb b) c)
-    by true f = rw (← eqb-true b x f) (get_or-set_same r b 1 0 h)
-    by false f = get_or-set_other r x b 1 0 (eqb-false b x f) ∙ e
 
 -- its first columns
 pub row_taken : (n : ℕ) (c r : List ℕ) → n ≤ length r → ((b : ℕ) → b < n → bit_at r b ≡ element c b) → take n r ≡ row_of n c
@@ -54,19 +45,6 @@ sum_slices f t r q s h e each =
     slice_at f t s i k
     ∙ each (f + i) (omega arith) k
     ∙ sym (sum_entry (slice f t r) (slice f t q) i (omega arith) ∙ ap₂ (λ (x y : ℕ). (x + y) % 2) (slice_at f t r i k) (slice_at f t q i k)))
-
--- ---- what a row has at a word's ones, from a column on
-first_product : (r w : List ℕ) → inner_product r w ≡ bit_at r 0 * bit_at w 0 + inner_product (drop 1 r) (drop 1 w)
-first_product [] w = omega arith
-first_product (a ∷ r) [] = rw (product_none r) (omega arith)
-first_product (a ∷ r) (x ∷ w) = refl
-
-pub product_from : (n : ℕ) (r w : List ℕ) (i : ℕ) → i < n → inner_product (slice i n r) (drop i w) ≡ bit_at r i * bit_at w i + inner_product (slice (suc i) n r) (drop (suc i) w)
-product_from n r w i h =
-    let z : i + 0 ≡ i = omega arith in
-    let more : (l : List ℕ) → drop 1 (drop i l) ≡ drop (suc i) l = λ l. drop-drop 1 i l ∙ ap (λ (k : ℕ). drop k l) (add-one i) in
-    first_product (slice i n r) (drop i w)
-    ∙ ap₂ ◌+◌ (ap₂ ◌*◌ (slice_at i n r 0 (omega arith) ∙ ap (bit_at r) z) (get_or-drop i w 0 0 ∙ ap (bit_at w) z)) (ap₂ inner_product (more (take n r)) (more w))
 
 -- ---- columns
 pub length_columns : (n : ℕ) (rows : List (List ℕ)) → length (columns_in n rows) ≡ n

@@ -1,9 +1,9 @@
 -- `encoder::read_message` meets its contract: the causes in their order, then the first odd check, then the message. Assumes nothing.
 use Rattle.std.proofs.lemmas.Result.{err_from_is_err_and}
-use Rattle.integers.proofs.Prelude.{◌∙◌, sym, refl, arith}
+use Rattle.integers.proofs.Prelude.{refl, arith}
 use Rattle.model.proofs.Told.{determined}
 use Rattle.codeword.proofs.Verdicts.{odd_told, even_told}
-use Rattle.encoder.proofs.Answers.{reading_unfit, reading_refused, reading_short, word_long, reading_told}
+use Rattle.encoder.proofs.Answers.{reading_unfit, reading_refused, reading_short, reading_told}
 use Rattle.encoder.proofs.read_message.Goals as goal
 
 pub returns-in_err-code : goal.returns-in_err-code
@@ -24,25 +24,12 @@ returns-then-message-message_length c =
     reading_short _ code.number _ code.code.0 _ reduction.columns reduction.width _ _ _ c.bits.ensures.value c.in_ok-judge_word.ensures
     (omega (arith, c.message_length.ensures, c.if-message-message_length.true))
 
-pub first_odd-requires : goal.first_odd-requires
-first_odd-requires c =
-    let code = c.in_ok-code.ensures in
-    omega (arith, word_long _ code.number _ code.code.0 _ c.args.message.now _ c.bits.ensures.value c.in_ok-judge_word.ensures)
-
 pub returns-in-Some : goal.returns-in-Some
 returns-in-Some c =
     let code = c.in_ok-code.ensures in
     let reduction = c.new-reduction.ensures in
     reading_told _ code.number _ code.code.0 _ reduction.columns reduction.width _ _ _ c.bits.ensures.value c.in_ok-judge_word.ensures
     (omega (arith, c.message_length.ensures, c.if-message-message_length.false)) _ _ (odd_told _ _ _ c.in-Some.ensures) refl
-
-pub write_message-requires : goal.write_message-requires
-write_message-requires c =
-    let code = c.in_ok-code.ensures in
-    record {
-      width = word_long _ code.number _ code.code.0 _ c.args.message.now _ c.bits.ensures.value c.in_ok-judge_word.ensures ∙ sym c.new-reduction.ensures.width;
-      room = omega (arith, c.message_length.ensures, c.if-message-message_length.false);
-    }
 
 pub returns : goal.returns
 returns c =

@@ -46,36 +46,8 @@ module _ (i : In-loop-f) where
   message_long : length (take ((f + 1) * size - f * size) (drop (f * size) i.args.messages.now)) ≡ size
   message_long = rw size_is (length_part _ f _ message_end)
 
-pub write_word-requires : goal.write_word-requires
-write_word-requires c =
-    let i = (goal.at.write_word-requires c).In-loop-f in
-    record { width = word_long i ∙ c.bits-bits.ensures.value; message = message_long i ∙ c.message_length-size.ensures }
-
 pub loop-f-preserved : goal.loop-f-preserved
 loop-f-preserved c =
     let i = (goal.at.loop-f-preserved c).In-loop-f in
     next_frame c.args.reduction.now (bits i) (sym c.bits-bits.ensures.value) (f i) c.args.messages.now c.args.words.now c.loop-f.words c.loop-f.invariant
     (omega (arith, word_end i)) _ c.args.reduction.now (size i) _ _ refl c.message_length-size.ensures (size_is i) (bits_is i) c.write_word.ensures
-
-pub overflow_mul-f : goal.overflow_mul-f
-overflow_mul-f c = record { fits = omega (arith, message_end c) }
-
-pub overflow_mul-f-in-loop-f : goal.overflow_mul-f-in-loop-f
-overflow_mul-f-in-loop-f c = record { fits = omega (arith, message_end c) }
-
-pub slice_bounds-write_word-end : goal.slice_bounds-write_word-end
-slice_bounds-write_word-end c = omega (arith, message_end c)
-
-pub overflow_mul-f-in-loop-f-2 : goal.overflow_mul-f-in-loop-f-2
-overflow_mul-f-in-loop-f-2 c = record { fits = omega (arith, word_end (goal.at.overflow_mul-f-in-loop-f-2 c).In-loop-f) }
-
-pub overflow_mul-f-in-loop-f-3 : goal.overflow_mul-f-in-loop-f-3
-overflow_mul-f-in-loop-f-3 c = record { fits = omega (arith, word_end (goal.at.overflow_mul-f-in-loop-f-3 c).In-loop-f) }
-
-pub slice_bounds-write_word-end-in-loop-f : goal.slice_bounds-write_word-end-in-loop-f
-slice_bounds-write_word-end-in-loop-f c = omega (arith, word_end (goal.at.slice_bounds-write_word-end-in-loop-f c).In-loop-f)
-
-pub returns : goal.returns
-returns c =
-    let e : c.loop-f.f ≡ c.args.frames = omega arith in
-    c.loop-f.invariant ∙ rw e
