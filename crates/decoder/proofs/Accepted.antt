@@ -1,5 +1,5 @@
 -- An accepted call: what is lent to the run, and the whole answer from its parts. Assumes nothing.
-use Rattle.integers.proofs.Prelude.{◌≡◌, refl, sym, ap, ap₂, ◌∙◌, false, List, ◌++◌, ℕ, ◌*◌, ◌≤◌, arith, ℤ, length, take, drop, length-take-le, take_at}
+use Rattle.integers.proofs.Prelude.{◌≡◌, sym, ap, ap₂, ◌∙◌, false, List, ◌++◌, ℕ, ◌*◌, arith, ℤ, length, take, drop, length-take-le, take_at}
 use Rattle.lists.specs.Tabulated.{written}
 use Rattle.lists.proofs.Parts.{lent_back}
 use Rattle.quotient.specs.Quotient.{quotient}
@@ -8,7 +8,7 @@ use Rattle.model.specs.Causes.{accepted}
 use Rattle.model.specs.Code.{Code, triples, variables}
 use Rattle.model.specs.Sound.{Sound}
 use Rattle.model.specs.Splitting.{System, system_of}
-use Rattle.model.specs.Iteration.{State, counts_of}
+use Rattle.model.specs.Iteration.{counts_of}
 use Rattle.model.specs.Run.{Ended, run}
 use Rattle.model.specs.Words.{word_of, Outcome, outcome}
 use Rattle.model.specs.Calls.{out_of_range, Lists, Answer, HasRoom, lists_of, decoded_by}

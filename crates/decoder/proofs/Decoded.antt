@@ -1,15 +1,13 @@
 -- The answers of the decoder, by its causes in their order. Assumes nothing.
-use Rattle.integers.proofs.Prelude.{◌≡◌, sym, ap, ◌∙◌, false, not, List, ℕ, zero, suc, ◌*◌, ◌≤◌, arith, eqb, eqb-true, not-false, ltb-false, ℤ, length}
+use Rattle.integers.proofs.Prelude.{◌≡◌, sym, ◌∙◌, false, List, ℕ, zero, suc, ◌*◌, ◌≤◌, arith, eqb-true, not-false, ltb-false, ℤ, length}
 use Rattle.quotient.specs.Quotient.{quotient}
 use Rattle.model.specs.declared.Settings.{Settings}
-use Rattle.model.specs.Limits.{most_iterations}
 use Rattle.model.specs.Causes.{first_of, short}
 use Rattle.model.specs.Code.{Code, triples, variables}
 use Rattle.model.specs.Records.{code_of, judge}
 use Rattle.model.specs.Splitting.{system_of}
 use Rattle.model.specs.Run.{run}
-use Rattle.model.specs.Calls.{unequal, forbidden, out_of_range, Lists, Decoded, HasRoom, lacks_room, decoder_causes, decoder_cause_up_to, decoder_cause, decoded_by, decoder_up_to}
-use Rattle.lists.specs.Entries.{some}
+use Rattle.model.specs.Calls.{unequal, out_of_range, Lists, Decoded, HasRoom, lacks_room, decoder_causes, decoder_cause_up_to, decoder_cause, decoded_by, decoder_up_to}
 use Rattle.model.specs.DecoderClaims.{Small}
 use Rattle.model.specs.Promises.{DecoderCall}
 use Rattle.model.proofs.Causes.{clear, unless, or_false}

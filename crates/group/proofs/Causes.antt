@@ -1,5 +1,5 @@
 -- The causes of a group: the room of its frames, and what holds where there is no cause. Assumes nothing.
-use Rattle.integers.proofs.Prelude.{◌≡◌, refl, sym, ap, ◌∙◌, Bool, true, false, not, ◌||◌, List, ℕ, ◌+◌, ◌*◌, ◌≤◌, arith, eqb, eqb-true, not-false, ℤ, length}
+use Rattle.integers.proofs.Prelude.{◌≡◌, refl, sym, Bool, true, false, ◌||◌, List, ℕ, ◌*◌, eqb-true, not-false, ℤ, length}
 use Rattle.model.specs.declared.Settings.{Settings}
 use Rattle.model.specs.Limits.{most_frames}
 use Rattle.model.specs.Causes.{first_of, short, outside}

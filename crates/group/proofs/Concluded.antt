@@ -1,5 +1,5 @@
 -- The words of frames that are concluded one after the other. Assumes nothing.
-use Rattle.integers.proofs.Prelude.{◌≡◌, sym, ap, ap₂, ◌∙◌, Bool, true, false, cond, List, ℕ, zero, suc, ◌*◌, ◌≤◌, ◌<◌, arith, eqb, ℤ, length, get_or, drop}
+use Rattle.integers.proofs.Prelude.{◌≡◌, sym, ap, ap₂, ◌∙◌, Bool, true, false, cond, List, ℕ, zero, suc, ◌*◌, ◌≤◌, ◌<◌, arith, eqb, ℤ, length, drop}
 use native.Mathlib.Nat.{mul-le-mul_right}
 use borrow.Rule.Slice.PartMut.{put_mid}
 use Rattle.lists.specs.Tabulated.{written, part, blocks}

@@ -1,6 +1,6 @@
 -- What a group runs with, and how its frames ended. Assumes nothing.
 use Rattle.integers.proofs.Prelude.{◌≡◌, refl, sym, ap, subst, ◌∙◌, Bool, true, false, not, cond, List, ◌++◌, ℕ, zero, suc, ◌+◌, ◌*◌, ◌≤◌, ◌<◌, arith, dec_lt}
-use Rattle.integers.proofs.Prelude.{leb-true, leb, not-true, eqb, ℤ, length, get_or, take, drop, length-take-le, drop_at}
+use Rattle.integers.proofs.Prelude.{leb-true, leb, not-true, ℤ, length, get_or, take, drop, length-take-le, drop_at}
 use mathlib.Core.Logic.{◌⊎◌, inl, inr}
 use Rattle.std.proofs.Math.ListN.{get_or-map}
 use Rattle.std.proofs.lemmas.Bool.{false≢true}

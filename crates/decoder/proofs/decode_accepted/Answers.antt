@@ -1,7 +1,6 @@
 use Rattle.model.specs.Splitting.{system_of}
 use Rattle.model.specs.Calls.{Lists, lists_of}
 use Rattle.decoder.proofs.Accepted.{lent, answered}
-use Rattle.integers.proofs.Prelude.{arith}
 use Rattle.decoder.proofs.decode_accepted.Goals as goal
 use Rattle.decoder.proofs.decode_accepted.Goals.{Start}
 

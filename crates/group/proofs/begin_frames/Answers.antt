@@ -1,4 +1,4 @@
-use Rattle.integers.proofs.Prelude.{◌≡◌, refl, sym, ap, ◌∙◌, false, List, ℕ, suc, ◌+◌, ◌-◌, ◌*◌, ◌≤◌, arith, add-one, length, take, drop, set}
+use Rattle.integers.proofs.Prelude.{◌≡◌, sym, ap, false, ℕ, suc, ◌+◌, ◌-◌, ◌*◌, ◌≤◌, arith, add-one, length, take, drop}
 use Rattle.lists.specs.Tabulated.{part}
 use Rattle.lists.specs.Entries.{some}
 use Rattle.lists.proofs.Tabulated.{over_next}

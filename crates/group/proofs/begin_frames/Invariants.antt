@@ -1,5 +1,5 @@
 -- The stages of the frames so far.
-use Rattle.integers.proofs.Prelude.{◌≡◌, false, List, ℕ, ◌<◌, ℤ}
+use Rattle.integers.proofs.Prelude.{◌≡◌, false, ℕ, ◌<◌}
 use Rattle.lists.specs.Tabulated.{over, part}
 use Rattle.lists.specs.Entries.{some}
 use Rattle.model.specs.Calls.{forbidden}

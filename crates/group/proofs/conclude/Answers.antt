@@ -4,7 +4,6 @@ use Rattle.lists.specs.Tabulated.{tab, part}
 use Rattle.lists.proofs.Tabulated.{over_replicate, over_next_map}
 use Rattle.lists.proofs.Parts.{length_part, part_end}
 use Rattle.model.specs.Limits.{most_frames}
-use Rattle.model.specs.Code.{variables}
 use Rattle.model.specs.Calls.{run_told, Answer}
 use Rattle.model.specs.Group.{alone}
 use Rattle.group_step.specs.declared.Stage.TheVariants.{Idle}

@@ -1,5 +1,5 @@
 -- The answers and the words of the frames so far.
-use Rattle.integers.proofs.Prelude.{◌≡◌, List, map, ℕ, ◌≤◌, ℤ, get_or}
+use Rattle.integers.proofs.Prelude.{◌≡◌, List, map, ℕ, ℤ, get_or}
 use lib.ListN.{replicate}
 use Rattle.lists.specs.Tabulated.{over, written, part, blocks}
 use Rattle.model.specs.Limits.{most_frames}

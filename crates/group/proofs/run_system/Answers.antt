@@ -1,11 +1,8 @@
-use Rattle.integers.proofs.Prelude.{◌≡◌, sym, ap, ◌∙◌, ◌*◌, arith, length, take}
-use Rattle.model.specs.Limits.{most_triples, most_variables}
+use Rattle.integers.proofs.Prelude.{ap}
 use Rattle.model.specs.Splitting.{system_of}
 use Rattle.model.specs.Calls.{Lists, lists_of}
-use Rattle.model.proofs.Sound.{variables_most}
 use Rattle.lanes.specs.declared.Plan.{Plan}
-use Rattle.group.proofs.Sizes.{product_fits}
-use Rattle.group.proofs.Runs.{plan_few, Begun, begun, room_of, held, all_marks, lent_long, counts_lent_long, work_room, work_fits, given, ran}
+use Rattle.group.proofs.Runs.{plan_few, Begun, begun, room_of, held, all_marks, work_fits, given, ran}
 use Rattle.group.proofs.run_system.Goals as goal
 use Rattle.group.proofs.run_system.Goals.{Start, After-begin_frames}
 
