@@ -2,6 +2,13 @@
 use Rattle.integers.proofs.Prelude.{◌≡◌, refl, ap, ◌∙◌, true, false, List, [], ℕ, ◌≤◌, eq-eqb, ne_eqb, eqb, ℤ, length, take}
 use Rattle.lists.specs.Entries.{some}
 use Rattle.model.specs.declared.Settings as Model
+use denote.Enum.Bare.{sameb}
+use Rattle.model.specs.contracts.Cause.{the_type}
+use Rattle.model.specs.declared.Cause.{Cause}
+use Rattle.model.specs.declared.Cause.TheVariants.{Cut, Mark, Size, Degree, Index, Order, Triples, Uncovered, Trailing}
+use Rattle.model.specs.declared.Cause.TheVariants.{Setting, Lengths, Cost, Sample, Entry, Text, Places, Long, Frames}
+use Rattle.model.specs.declared.Cause.TheVariants as variants
+use Rattle.model.specs.Causes.{number}
 use Rattle.model.specs.Code.{Code}
 use Rattle.model.specs.Records.{bit_count, code_of}
 use Rattle.model.specs.Calls.{out_of_range, forbidden, Lists, Answer, decoder}
@@ -35,3 +42,25 @@ bits_of b = refl
 
 pub code_long : (b : List ℕ) → HeldCode b → 6 ≤ length b
 code_long b h = (bytes_sound b h.sound).header.room
+
+-- the cause of a false cost is the one with the number 13
+pub cost_alone : (c : Cause) → sameb the_type c Cost ≡ eqb (number c) 13
+cost_alone Cut = refl
+cost_alone Mark = refl
+cost_alone Size = refl
+cost_alone Degree = refl
+cost_alone Index = refl
+cost_alone Order = refl
+cost_alone Triples = refl
+cost_alone Uncovered = refl
+cost_alone Trailing = refl
+cost_alone variants.Room = refl
+cost_alone Setting = refl
+cost_alone Lengths = refl
+cost_alone Cost = refl
+cost_alone Sample = refl
+cost_alone Entry = refl
+cost_alone Text = refl
+cost_alone Places = refl
+cost_alone Long = refl
+cost_alone Frames = refl

@@ -1,13 +1,12 @@
 -- What the bytes of a header, a check and the settings lead to, each judged by the contract of its function. Assumes nothing.
-use Rattle.integers.proofs.Prelude.{◌≡◌, refl, sym, ap, subst, ◌∙◌, true, false, not, ◌||◌, List, ◌++◌, append_assoc, ℕ, zero, suc, ◌+◌, ◌-◌, ◌*◌, ◌≤◌, ◌<◌}
-use Rattle.integers.proofs.Prelude.{arith, ltb-true, ltb-false, eqb-true, not-false, eqb, ltb, length, take, drop, length-append, length-take, length-drop}
+use Rattle.integers.proofs.Prelude.{◌≡◌, refl, sym, ap, subst, ◌∙◌, List, ◌++◌, append_assoc, ℕ, zero, suc, ◌+◌, ◌-◌, ◌*◌, ◌≤◌, ◌<◌}
+use Rattle.integers.proofs.Prelude.{arith, length, take, drop, length-append, length-take, length-drop}
 use Rattle.integers.proofs.Prelude.{take-append-drop, length-take-le, take-take, take-add, drop_at, drop-drop, take-append_seam}
 use lib.Seq.{take-append-add}
 use Rattle.model.specs.Code.{triple_count}
 use Rattle.model.specs.Records.{bit_count, check_count, degree, indices, judge}
 use Rattle.program.specs.Frames.{judge_held_header, judge_held_check, judge_settings, frame_size, refusal, frames}
 use Rattle.program.specs.FrameClaims.{Begun, Opened}
-use Rattle.model.proofs.Causes.{or_false}
 use Rattle.model.proofs.Accepted.{header_sound, record_sound}
 use Rattle.program.proofs.Frames.{header_held, check_held, settings_sound}
 use Rattle.program.proofs.FrameBytes.{two_take, drop_take, drop_within, degree_take, held_take, three_judged, opened_degree}
@@ -20,12 +19,6 @@ use Rattle.session.specs.Session.{is_over, AtIndices, Due, Asked, Told, Entered,
 use Rattle.session.proofs.Steps.{refused, kept_too, entered, entry_refused}
 
 -- the test for a mark and a degree that are sound
-pub opening_taken : (c came : ℕ) → (not (eqb c 1) || ltb came 3) ≡ true → c ≡ 1 → came < 3
-opening_taken c came h e = ltb-true came 3 (rw e at h)
-
-pub opening_left : (c came : ℕ) → (not (eqb c 1) || ltb came 3) ≡ false → (c ≡ 1) × (3 ≤ came)
-opening_left c came h = let x = or_false (not (eqb c 1)) (ltb came 3) h in (eqb-true c 1 (not-false (eqb c 1) x.0), ltb-false came 3 x.1)
-
 -- a code that is kept has its header at least, and fits
 module _ (left t : ℕ) (b : List ℕ) (g : Begun left t b) where
   pub begun_room : (6 ≤ length b) × (length b ≤ 9222)
@@ -131,11 +124,18 @@ module _ (buffer : List ℕ) (long : length buffer ≡ 10260) (st : State) (came
     pub check_few : st.triples ≤ 1024
     check_few = begun.few
 
+    -- a mark and a degree are no whole check
+    pub opening_some : {c : ℕ} → c ≡ judge_held_check (bit_count buffer) st.triples bytes → c ≡ 0 → ⊥
+    opening_some e z =
+        let three : st.want ≡ 3 = due_check.2 in
+        let x = record_sound _ bytes (check_held (bit_count b) st.triples bytes (sym (e ∙ rw bits_there) ∙ z)).sound in
+        omega (arith, x.room, x.least, counted, a.most, three)
+
     pub opening_refused : {c : ℕ} {r : Step} {out : List ℕ} → c ≡ judge_held_check (bit_count buffer) st.triples bytes → (c ≡ 1 → came < 3) → Refused c r out → Told buffer st came r out
     opening_refused {c} e h f =
         let three : st.want ≡ 3 = due_check.2 in
         let judged : c ≡ judge_held_check (bit_count b) st.triples bytes = e ∙ rw bits_there in
-        let some : c ≡ 0 → ⊥ = λ z. (let x = record_sound _ bytes (check_held (bit_count b) st.triples bytes (sym judged ∙ z)).sound in omega (arith, x.room, x.least, counted, a.most, three)) in
+        let some : c ≡ 0 → ⊥ = opening_some e in
         refused buffer st came (ap is_over p) f
         (λ s t.
         let first : bytes ≡ take 3 s = t ∙ ap (λ (w : ℕ). take w s) three in

@@ -1,13 +1,14 @@
-// The frame program (document 01, 'The frame program') between a read and a write: a state, and what follows when the bytes that it asks for came.
+// The frame program between a read and a write: a state, and what follows when the bytes that it asks for came.
 #![tactic(auto)]
 
 ghost use Rattle.std.specs.Prelude.{◌≡◌, cond, ◌≤◌, take};
+ghost use Rattle.model.specs.Causes.{number};
 ghost use Rattle.program.specs.FrameClaims.{buffer_size, Begun};
 ghost use Rattle.session.specs.Session as Session;
 ghost use Rattle.session.specs.Session.{Asked, Told, Entered, Refused};
 
-use model::Settings;
-use program::{BUFFER, HELD_BITS, HELD_MEMBERS, HELD_ROWS, HELD_VARIABLES, LINE};
+use model::Cause;
+use program::{BUFFER, Held, LINE};
 
 // The record that is due: of a check first the mark and the degree, then the indices.
 #[derive(Clone, Copy)]
@@ -69,10 +70,10 @@ pub fn sent(state: State, whole: bool) -> State
 }
 
 // A refusal's line, and the end.
-fn refuse(cause: u32, out: &mut [u8; LINE]) -> Step
-    ensures { Refused cause result out.new }
+fn refuse(cause: Cause, out: &mut [u8; LINE]) -> Step
+    ensures { Refused (number cause) result out.new }
 {
-    let written = lines::refusal(cause, out);
+    let written = lines::refusal(cause.number(), out);
     Step {
         state: over(),
         written,
@@ -85,8 +86,7 @@ fn header(state: State, came: usize, buffer: &[u8; BUFFER], out: &mut [u8; LINE]
     ensures { Told buffer.now state came result out.new }
 {
     let bytes = &buffer[..];
-    let cause = stream::judge_header(&bytes[..came]);
-    if cause != 0 {
+    if let Err(cause) = stream::judge_header(&bytes[..came]) {
         return refuse(cause, out);
     }
     let left = records::two_bytes(bytes, 4);
@@ -112,11 +112,14 @@ fn check(state: State, came: usize, buffer: &[u8; BUFFER], out: &mut [u8; LINE])
     let at = state.at;
     let end = at + came;
     let bits = records::two_bytes(bytes, 2);
-    let cause = stream::judge_check(&bytes[at..end], bits, state.triples);
-    if (cause != 1) | (came < 3) {
+    // A mark and a degree are no whole check.
+    let Err(cause) = stream::judge_check(&bytes[at..end], bits, state.triples) else {
+        unreachable!()
+    };
+    if cause != Cause::Cut || came < 3 {
         return refuse(cause, out);
     }
-    let degree = slices::byte(bytes[at + 2]);
+    let degree = usize::from(bytes[at + 2]);
     let next = State {
         part: Part::Indices,
         at: end,
@@ -149,9 +152,8 @@ fn keep(at: usize, left: usize, triples: usize, buffer: &[u8; BUFFER], out: &mut
             written: 0,
         };
     }
-    let judged = stream::judge_code(&bytes[..at]);
-    if judged != 0 {
-        return refuse(judged, out);
+    if let Err(cause) = stream::judge_code(&bytes[..at]) {
+        return refuse(cause, out);
     }
     let next = State {
         part: Part::Settings,
@@ -177,8 +179,7 @@ fn indices(state: State, came: usize, buffer: &[u8; BUFFER], out: &mut [u8; LINE
     let end = at + came;
     let bits = records::two_bytes(bytes, 2);
     let check = &bytes[from..end];
-    let cause = stream::judge_check(check, bits, state.triples);
-    if cause != 0 {
+    if let Err(cause) = stream::judge_check(check, bits, state.triples) {
         return refuse(cause, out);
     }
     keep(
@@ -198,8 +199,7 @@ fn settings(state: State, came: usize, buffer: &[u8; BUFFER], out: &mut [u8; LIN
     let bytes = &buffer[..];
     let at = state.at;
     let end = at + came;
-    let cause = stream::judge_settings(&bytes[at..end]);
-    if cause != 0 {
+    if let Err(cause) = stream::judge_settings(&bytes[at..end]) {
         return refuse(cause, out);
     }
     let bits = records::two_bytes(bytes, 2);
@@ -223,13 +223,7 @@ fn frame(
     state: State,
     came: usize,
     buffer: &[u8; BUFFER],
-    costs: &mut [i16; HELD_BITS],
-    triples: &mut [u16; HELD_MEMBERS],
-    counts: &mut [u16; HELD_VARIABLES],
-    sums: &mut [i64; HELD_VARIABLES],
-    values: &mut [i16; HELD_VARIABLES],
-    rows: &mut [i32; HELD_ROWS],
-    word: &mut [u8; HELD_BITS],
+    held: &mut Held,
     out: &mut [u8; LINE],
 ) -> Step
     requires { Asked state came buffer.now × (state.part ≡ Part.Frame) }
@@ -240,19 +234,7 @@ fn frame(
     let size = at - 12;
     let end = at + came;
     let settings = stream::settings(&bytes[size..at]);
-    let line = answers::frame_line(
-        &bytes[..size],
-        settings,
-        &bytes[at..end],
-        costs,
-        triples,
-        counts,
-        sums,
-        values,
-        rows,
-        word,
-        out,
-    );
+    let line = answers::frame_line(&bytes[..size], settings, &bytes[at..end], held, out);
     let written = line.written;
     if line.on {
         Step { state, written }
@@ -271,13 +253,7 @@ pub fn advance(
     state: State,
     came: usize,
     buffer: &[u8; BUFFER],
-    costs: &mut [i16; HELD_BITS],
-    triples: &mut [u16; HELD_MEMBERS],
-    counts: &mut [u16; HELD_VARIABLES],
-    sums: &mut [i64; HELD_VARIABLES],
-    values: &mut [i16; HELD_VARIABLES],
-    rows: &mut [i32; HELD_ROWS],
-    word: &mut [u8; HELD_BITS],
+    held: &mut Held,
     out: &mut [u8; LINE],
 ) -> Step
     requires { Asked state came buffer.now }
@@ -289,9 +265,7 @@ pub fn advance(
         Part::Check => check(state, came, buffer, out),
         Part::Indices => indices(state, came, buffer, out),
         Part::Settings => settings(state, came, buffer, out),
-        Part::Frame => frame(
-            state, came, buffer, costs, triples, counts, sums, values, rows, word, out,
-        ),
+        Part::Frame => frame(state, came, buffer, held, out),
         Part::Over => Step { state, written: 0 },
     }
 }

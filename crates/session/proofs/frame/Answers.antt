@@ -21,7 +21,7 @@ slice_bounds-frame_line-end c = sym (length-take-le _ _ (omega (arith, c.require
 
 pub frame_line-line-requires : goal.frame_line-line-requires
 frame_line-line-requires c =
-    (held _ (long (goal.at.frame_line-line-requires c).After-bytes-1) _ _ c.requires.0 c.requires.1, rw c.settings-settings.ensures (within _ (long (goal.at.frame_line-line-requires c).After-bytes-1) _ _ c.requires.0 c.requires.1))
+    record { code = held _ (long (goal.at.frame_line-line-requires c).After-bytes-1) _ _ c.requires.0 c.requires.1; settings = rw c.settings-settings.ensures (within _ (long (goal.at.frame_line-line-requires c).After-bytes-1) _ _ c.requires.0 c.requires.1) }
 
 -- ---- what is written
 module _ (c : After-frame_line-line) where
@@ -52,17 +52,17 @@ module _ (c : After-frame_line-line) where
   text : take c.frame_line-line.result.written c.frame_line-line.new.out
       ≡ frame_text (code_of code) (settings_of (take (at - (at - 12)) (drop (at - 12) buffer))) bytes
   text =
-      c.frame_line-line.ensures.0
+      c.frame_line-line.ensures.text
       ∙ ap (λ o. frame_text (code_of code) o (take (at + s.args.came - at) (drop at buffer))) settings.settings-settings.ensures
       ∙ ap (λ (k : ℕ). frame_text (code_of code) (settings_of (take (at - (at - 12)) (drop (at - 12) buffer))) (take k (drop at buffer))) came
 
   on : c.frame_line-line.result.on ≡ goes_further (code_of code).bits bytes
-  on = c.frame_line-line.ensures.1 ∙ rw came
+  on = c.frame_line-line.ensures.on ∙ rw came
 
 pub returns-then-line : goal.returns-then-line
 returns-then-line c =
-    goes_on _ (long (made (goal.at.returns-then-line c).After-frame_line-line)) _ _ (s (goal.at.returns-then-line c).After-frame_line-line).requires.0 (s (goal.at.returns-then-line c).After-frame_line-line).requires.1 _ _ (text (goal.at.returns-then-line c).After-frame_line-line) c.frame_line-line.ensures.2 (sym c.if-line.true ∙ on (goal.at.returns-then-line c).After-frame_line-line)
+    goes_on _ (long (made (goal.at.returns-then-line c).After-frame_line-line)) _ _ (s (goal.at.returns-then-line c).After-frame_line-line).requires.0 (s (goal.at.returns-then-line c).After-frame_line-line).requires.1 _ _ (text (goal.at.returns-then-line c).After-frame_line-line) c.frame_line-line.ensures.within (sym c.if-line.true ∙ on (goal.at.returns-then-line c).After-frame_line-line)
 
 pub returns-else-line : goal.returns-else-line
 returns-else-line c =
-    stops _ (long (made (goal.at.returns-else-line c).After-frame_line-line)) _ _ (s (goal.at.returns-else-line c).After-frame_line-line).requires.0 (s (goal.at.returns-else-line c).After-frame_line-line).requires.1 _ _ (text (goal.at.returns-else-line c).After-frame_line-line) c.frame_line-line.ensures.2 c.over.ensures (sym c.if-line.false ∙ on (goal.at.returns-else-line c).After-frame_line-line)
+    stops _ (long (made (goal.at.returns-else-line c).After-frame_line-line)) _ _ (s (goal.at.returns-else-line c).After-frame_line-line).requires.0 (s (goal.at.returns-else-line c).After-frame_line-line).requires.1 _ _ (text (goal.at.returns-else-line c).After-frame_line-line) c.frame_line-line.ensures.within c.over.ensures (sym c.if-line.false ∙ on (goal.at.returns-else-line c).After-frame_line-line)

@@ -1,5 +1,6 @@
 -- `session::keep` meets its contract: the next check, a refusal, or the settings. Assumes nothing.
-use Rattle.integers.proofs.Prelude.{◌≡◌, sym, ◌∙◌, arith, rules, length, length-take-le}
+use Rattle.integers.proofs.Prelude.{◌≡◌, sym, arith, rules, length, length-take-le}
+use Rattle.session.proofs.Causes.{refusing}
 use Rattle.session.proofs.Records.{next_check, code_refused, code_kept}
 use Rattle.session.proofs.keep.Goals as goal
 use Rattle.session.proofs.keep.Goals.{After-bytes-1}
@@ -13,10 +14,10 @@ returns-then-left-gt0 c = next_check _ (long (goal.at.returns-then-left-gt0 c).A
 pub slice_bounds-judge_code-end : goal.slice_bounds-judge_code-end
 slice_bounds-judge_code-end c = sym (length-take-le _ _ (omega (arith, c.requires.1)))
 
-pub returns-then-judged-ne0 : goal.returns-then-judged-ne0
-returns-then-judged-ne0 c =
-    code_refused _ (long (goal.at.returns-then-judged-ne0 c).After-bytes-1) _ _ _ c.requires.0 c.requires.1 c.if-left-gt0.false c.judge_code-judged.ensures c.if-judged-ne0.true c.refuse.ensures
+pub returns-in-Err : goal.returns-in-Err
+returns-in-Err c =
+    code_refused _ (long (goal.at.returns-in-Err c).After-bytes-1) _ _ _ c.requires.0 c.requires.1 c.if-left-gt0.false c.in-Err.ensures (refusing c.in-Err.cause) c.refuse.ensures
 
 pub returns : goal.returns
 returns c =
-    code_kept _ (long (goal.at.returns c).After-bytes-1) _ _ _ c.requires.0 c.requires.1 c.if-left-gt0.false (sym c.judge_code-judged.ensures ∙ c.if-judged-ne0.false) _
+    code_kept _ (long (goal.at.returns c).After-bytes-1) _ _ _ c.requires.0 c.requires.1 c.if-left-gt0.false (sym c.in_default.ensures) _

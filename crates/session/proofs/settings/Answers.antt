@@ -1,25 +1,21 @@
 -- `session::settings` meets its contract: a refusal, or settings that are kept. Assumes nothing.
-use Rattle.integers.proofs.Prelude.{◌≡◌, sym, ◌∙◌, ◌+◌, ◌-◌, arith, rules, length, take, drop}
+use Rattle.integers.proofs.Prelude.{◌≡◌, sym, ◌∙◌, ◌+◌, ◌-◌, ℕ, List, arith, rules, length, take, drop}
 use Rattle.program.specs.Frames.{judge_settings}
+use Rattle.session.proofs.Causes.{refusing}
 use Rattle.session.proofs.Records.{settings_refused, settings_kept}
 use Rattle.session.proofs.settings.Goals as goal
-use Rattle.session.proofs.settings.Goals.{After-bytes-1, After-judge_settings-cause}
+use Rattle.session.proofs.settings.Goals.{After-bytes-1}
 
 long : (c : After-bytes-1) → length c.args.buffer.now ≡ 10260
 long c = search rules
 
-judged : (j : After-judge_settings-cause)
-    → let s = j.args in
-    j.judge_settings-cause.result ≡ judge_settings (take s.came (drop s.state.at s.buffer.now))
-judged j =
-    let s = j.args in
-    let size : s.state.at + s.came - s.state.at ≡ s.came = omega arith in
-    j.judge_settings-cause.ensures ∙ rw size
+judged : (n at came : ℕ) (buffer : List ℕ) → n ≡ judge_settings (take (at + came - at) (drop at buffer)) → n ≡ judge_settings (take came (drop at buffer))
+judged n at came buffer e = let size : at + came - at ≡ came = omega arith in e ∙ rw size
 
-pub returns-then-cause-ne0 : goal.returns-then-cause-ne0
-returns-then-cause-ne0 c =
-    settings_refused _ (long (goal.at.returns-then-cause-ne0 c).After-bytes-1) _ _ c.requires.0 c.requires.1 (judged (goal.at.returns-then-cause-ne0 c).After-judge_settings-cause) c.if-cause-ne0.true c.refuse.ensures
+pub returns-in-Err : goal.returns-in-Err
+returns-in-Err c =
+    settings_refused _ (long (goal.at.returns-in-Err c).After-bytes-1) _ _ c.requires.0 c.requires.1 (judged _ c.args.state.at c.args.came c.args.buffer.now c.in-Err.ensures) (refusing c.in-Err.cause) c.refuse.ensures
 
 pub returns : goal.returns
 returns c =
-    settings_kept _ (long (goal.at.returns c).After-bytes-1) _ _ c.requires.0 c.requires.1 _ _ (sym (judged (goal.at.returns c).After-judge_settings-cause) ∙ c.if-cause-ne0.false) c.two_bytes-bits.ensures.0
+    settings_kept _ (long (goal.at.returns c).After-bytes-1) _ _ c.requires.0 c.requires.1 _ _ (sym (judged _ c.args.state.at c.args.came c.args.buffer.now c.in_default.ensures)) c.two_bytes-bits.ensures.0
