@@ -4,18 +4,18 @@ use Rattle.session.proofs.Turns.{start_kept}
 use Rattle.session.proofs.Steps.{sent_kept}
 use Rattle.frames.proofs.main.Goals as goal
 
-pub loop-turns-init : goal.loop-turns-init
-loop-turns-init c = (search rules, rw c.start-state.ensures start_kept)
+pub loop-init : goal.loop-init
+loop-init c = (search rules, rw c.start-state.ensures start_kept)
 
 pub slice_bounds-read-end : goal.slice_bounds-read-end
-slice_bounds-read-end c = sym c.loop-turns.invariant.0
+slice_bounds-read-end c = sym c.loop.invariant.0
 
 pub read-came-requires : goal.read-came-requires
-read-came-requires c = omega (arith, c.loop-turns.invariant.0, c.loop-turns.invariant.1.fits)
+read-came-requires c = omega (arith, c.loop.invariant.0, c.loop.invariant.1.fits)
 
 pub advance-step-requires : goal.advance-step-requires
 advance-step-requires c =
-    record { kept = rw c.read-came.ensures.1 c.loop-turns.invariant.1; most = c.read-came.ensures.0 }
+    record { kept = rw c.read-came.ensures.1 c.loop.invariant.1; most = c.read-came.ensures.0 }
 
 pub slice_bounds-out-end : goal.slice_bounds-out-end
 slice_bounds-out-end c = c.advance-step.ensures.within
@@ -23,11 +23,5 @@ slice_bounds-out-end c = c.advance-step.ensures.within
 pub slice_bounds-write_all-end : goal.slice_bounds-write_all-end
 slice_bounds-write_all-end c = sym (length-take-le _ _ c.advance-step.ensures.within)
 
-pub overflow_sub-turns : goal.overflow_sub-turns
-overflow_sub-turns c = omega (arith, c.loop-turns-test.true)
-
-pub loop-turns-smaller : goal.loop-turns-smaller
-loop-turns-smaller c = omega (arith, c.loop-turns-test.true)
-
-pub loop-turns-preserved : goal.loop-turns-preserved
-loop-turns-preserved c = (search rules, sent_kept _ _ _ c.write_all.result c.sent-state.ensures c.advance-step.ensures.stepped.holds)
+pub loop-preserved : goal.loop-preserved
+loop-preserved c = (search rules, sent_kept _ _ _ c.write_all.result c.sent-state.ensures c.advance-step.ensures.stepped.holds)
