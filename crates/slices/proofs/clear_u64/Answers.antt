@@ -1,6 +1,0 @@
--- `slices::clear_u64` meets its contract. Assumes nothing.
-use Rattle.lists.proofs.Tabulated.{tab_fill}
-use Rattle.slices.proofs.clear_u64.Goals as goal
-
-pub returns : goal.returns
-returns c = tab_fill _ _ _ c.fill.ensures.after
