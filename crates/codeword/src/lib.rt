@@ -85,8 +85,8 @@ fn write_point(code: &Code, word: &[u8], point: &mut [u8])
     }
 }
 
-// The extension of a codeword to its point, in a lent list with an entry for each variable; or why the list is left as it was: the first check whose sum is odd,
-// or the first cause, those of the test and then the list's length (10).
+// The extension of a codeword to its point, in a lent list with an entry for each variable; or why the list is left as it was: the first check whose sum is
+// odd, or the first cause, those of the test and then the list's length (10).
 pub fn extend(code: &[u8], word: &[u8], point: &mut [u8]) -> Result<Verdict, Cause>
     ensures { ExtensionCall code.now word.now point.old
         (record { outcome = verdict_told result; point = point.new }) }

@@ -30,7 +30,7 @@ struct Counts {
     bytes: usize,
 }
 
-// Writes the record of a row, whose `degree` indices are next.
+// Writes the record of a row, whose `degree` indices are next. By index: what an adapter of `iter_mut` writes is not known afterwards.
 fn write_row(row: &Numbers, degree: usize, out: &mut Writer)
     requires indexed { Indexed row.now degree }
     requires degree { degree ≤ most_degree }

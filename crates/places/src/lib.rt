@@ -45,6 +45,7 @@ fn count_up(
     let mut row = first / most * width;
     let mut i = first % most;
     let mut open = 0usize;
+    // The row and the place in it are kept beside the item: by the index each would take a division.
     for value in values {
         let value = usize::from(*value);
         if left < value && value <= left + width {

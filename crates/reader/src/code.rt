@@ -83,6 +83,7 @@ impl<'a> Code<'a> {
         })
     }
 
+    // Bits, checks and triples.
     pub fn sizes(&self) -> Sizes
         ensures value { result ≡ sizes_of self.now }
         ensures sound { Sound self.now }
@@ -90,6 +91,7 @@ impl<'a> Code<'a> {
         self.sizes
     }
 
+    // How many bits it has.
     pub fn bits(&self) -> usize
         ensures value { result ≡ self.now.bits }
         ensures most { result ≤ most_bits }
@@ -97,6 +99,7 @@ impl<'a> Code<'a> {
         self.sizes.bits
     }
 
+    // How many triples it is split into.
     pub fn triples(&self) -> usize
         ensures value { result ≡ triples self.now }
         ensures most { result ≤ most_triples }

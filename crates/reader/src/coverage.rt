@@ -16,7 +16,7 @@ fn mark(check: &Check, seen: &mut [u8; MOST_BITS])
     }
 }
 
-// Whether each of the first n entries has a mark.
+// Whether each of the first n entries has a mark. By index: `all` over the slice says it of the slice, and the definition is by bits.
 fn all_marked(seen: &[u8; MOST_BITS], n: usize) -> bool
     requires { n ≤ most_bits }
     ensures { result ≡ all_marked seen.now n }
@@ -30,7 +30,7 @@ fn all_marked(seen: &[u8; MOST_BITS], n: usize) -> bool
 }
 
 // Whether each of so many bits lies in some of the checks.
-pub fn covers(checks: Checks, bits: usize) -> bool
+pub(crate) fn covers(checks: Checks, bits: usize) -> bool
     requires { bits ≤ most_bits }
     ensures { result ≡ covered (record { bits = bits; checks = checks.entry }) }
 {

@@ -1,5 +1,4 @@
-// The renewal of all rows (document 01, 'One iteration'), with the totals of its changes, on lists of exact length. Rows that may be
-// renewed once more are taken, as they stand while a run goes.
+// The renewal of all rows, with the totals of its changes, on lists of exact length. Rows that may be renewed once more are taken, as they stand while a run goes.
 #![tactic(auto)]
 
 ghost use Rattle.std.specs.Prelude.{◌≡◌, true, ◌&&◌, ℕ, ◌+◌, ◌*◌, ◌%◌, ◌^◌, ◌≤◌, ◌<◌, leb, pos, negsuc, nat_abs, length};
@@ -120,7 +119,7 @@ struct Four {
 }
 
 // The four triples from t on, whose third c are given, are renewed. With the tests of a blank in it the
-// compiler would not inline it, and lose the lanes.
+// compiler would not inline it, and would not work the four out side by side.
 fn renew_four(triples: &[u16], values: &[i16], c: [i32; 4], rows: &mut [i32], t: usize) -> Four
     requires t_bound { (t + 4 ≤ most_triples) × (3 * t + 11 < length triples.now) × (4 * t + 15 < length rows.old) }
     requires valued { Valued triples.now values.now }
@@ -175,7 +174,7 @@ fn with_four(totals: Totals, old: [[i32; 4]; 4], new: [[i32; 4]; 4]) -> Totals
 
 // ---- all
 
-// The first triples, whose rows are not transposed, are renewed.
+// The first triples, whose rows are not transposed, are renewed. Not the loop of the fours: their rows stand otherwise.
 fn renew_first(triples: &[u16], values: &[i16], rows: &mut [i32], count: usize) -> Totals
     requires sized { Sized count triples.now rows.old }
     requires valued { Valued triples.now values.now }

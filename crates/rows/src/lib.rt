@@ -1,5 +1,4 @@
-// The four rows of one triple (document 01, 'One iteration'): their sums, their shares of S, their renewal, and the squares of its changes.
-// Rows that a run reaches are taken.
+// The four rows of one triple: their sums, their shares of S, their renewal, and the squares of its changes. Rows that a run reaches are taken.
 #![tactic(auto)]
 
 ghost use Rattle.std.specs.Prelude.{◌≡◌, ℕ, ◌+◌, ◌*◌, ◌^◌, ◌≤◌, ◌<◌, pos, nat_abs, ◌+ℤ◌, ◌-ℤ◌, ◌*ℤ◌};

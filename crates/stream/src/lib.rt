@@ -134,7 +134,7 @@ fn judge_whole(s: &[u8], bits: usize) -> Result<(), Cause>
     Ok(())
 }
 
-// The costs of the frame record that `s` begins with.
+// The costs of the frame record that `s` begins with. By index: what an adapter of `iter_mut` writes is not known afterwards.
 fn write_costs(s: &[u8], bits: usize, costs: &mut [i16])
     requires { (Frames.frame_size bits ≤ length s.now) × (bits ≤ length costs.old) }
     ensures { costs.new ≡ written (Frames.costs_of bits s.now) costs.old }

@@ -1,5 +1,4 @@
-// S (document 01, 'One iteration'): the sum over each variable's rows of z + p, on lists of exact length. Rows that a run
-// reaches are taken, as they stand while it goes.
+// S: the sum over each variable's rows of z + p, on lists of exact length. Rows that a run reaches are taken, as they stand while it goes.
 #![tactic(auto)]
 
 ghost use Rattle.std.specs.Prelude.{◌≡◌, List, ℕ, suc, ◌+◌, ◌-◌, ◌*◌, ◌%◌, ◌^◌, ◌≤◌, ◌<◌, eqb, ℤ, nat_abs, ◌+ℤ◌, length};
@@ -21,7 +20,7 @@ fn add(sums: &mut [i64], v: usize, x: i32)
     sums[v] += i64::from(x);
 }
 
-// The same where v is a variable: the blank is given nothing.
+// The same where v is a variable: the blank is given nothing. The other two places have no such test to make.
 fn add_third(sums: &mut [i64], v: usize, x: i32)
     requires { (length sums.old ≤ blank) × ((v ≡ blank → ⊥) → (v < length sums.old) × (nat_abs (at sums.old v) ≤ 2 ^ 60)) }
     ensures { (n : ℕ) (f : ℕ → ℤ) → sums.old ≡ tab n f → sums.new ≡ tab n (λ u. f u +ℤ (x when eqb v u)) }

@@ -41,8 +41,8 @@ fn limit_opposite(x: i64) -> i16
     if x < 0 { MOST } else { LEAST }
 }
 
-// -x by a divisor made ready: where the limit is known it is the value, and below it a product is made. The limit's value comes first, so that the compiled code
-// selects and has no branch here.
+// -x by a divisor made ready: where the limit is known it is the value, and below it a product is made. The limit's value comes first, so that the compiled
+// code selects and has no branch here.
 #[tactic(auto, using(crate::proofs::Limit::limit_known))]
 fn by_product(x: i64, divisor: Divisor) -> i16
     requires { nat_abs x ≤ most_numerator }
@@ -126,7 +126,7 @@ fn cost_of(costs: &[i16], v: usize) -> i16
     costs.get(v).copied().unwrap_or(0)
 }
 
-// The values of the variables in a range.
+// The values of the variables in a range. By index: three lists are read beside the one that is written.
 fn write_range(
     sums: &[i64],
     counts: &[u16],
