@@ -54,7 +54,7 @@ fn sub(a: [i32; 4], b: [i32; 4]) -> [i32; 4]
 
 // To entries i to i + 3.
 pub fn add_to(l: &mut [i32], i: usize, q: [i32; 4])
-    requires i_in_bounds { (i + 3 < length l.old) × (length l.old < 2 ^ 32) }
+    requires in_lists { (i + 3 < length l.old) × (length l.old < 2 ^ 32) }
     requires sums_fit { (k : ℕ) → k < 4 → nat_abs (at l.old (i + k)) + nat_abs (at q k) < 2 ^ 31 }
     ensures { l.new ≡ sets l.old i (tab 4 (λ k. at l.old (i + k) +ℤ at q k)) }
 {

@@ -145,7 +145,7 @@ fn renew_any(
 )
     requires may_step { MayStep lanes work.old (any_places counts.now lanes i values next apart u v w) }
     requires variables_counted { (u < length counts.now) × (v < length counts.now) × (eqb w blank ≡ false → w < length counts.now) }
-    requires w_bound { (lanes * w < 2 ^ 32) × (values < 2 ^ 32) × (next < 2 ^ 32) × (apart < 2 ^ 32) }
+    requires small_places { (lanes * w < 2 ^ 32) × (values < 2 ^ 32) × (next < 2 ^ 32) × (apart < 2 ^ 32) }
     ensures { work.new ≡ after lanes work.old (any_places counts.now lanes i values next apart u v w) 3 }
 {
     let a = fours::load(work, values + lanes * u);
@@ -257,12 +257,12 @@ pub fn renew_range(
 )
     requires fits { Fits p work.old × (i ≤ 1) × Halves p from to × (t ≤ end) × (end ≤ p.triples) }
     requires tripled { Tripled p triples.now counts.now × (known ≡ true → Narrow p triples.now counts.now) }
-    requires by_index { (w : List ℤ) × ((l : ℕ) → from ≤ l → l < to → Due p i w l × Walked p triples.now counts.now i w l t work.old) }
-    ensures fits_2 { Fits p work.new }
-    ensures by_index_2 { (w : List ℤ)
+    requires begun { (w : List ℤ) × ((l : ℕ) → from ≤ l → l < to → Due p i w l × Walked p triples.now counts.now i w l t work.old) }
+    ensures fits { Fits p work.new }
+    ensures walked { (w : List ℤ)
         → ((l : ℕ) → from ≤ l → l < to → Due p i w l × Walked p triples.now counts.now i w l t work.old)
         → (l : ℕ) → from ≤ l → l < to → Walked p triples.now counts.now i w l end work.new }
-    ensures by_index_3 { (l j : ℕ) → l < p.lanes → (l < from) ⊎ (to ≤ l)
+    ensures beside { (l j : ℕ) → l < p.lanes → (l < from) ⊎ (to ≤ l)
         → in_lane p.lanes work.new l j ≡ in_lane p.lanes work.old l j }
 {
     let values = lanes::values_at(p);

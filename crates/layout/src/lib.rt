@@ -30,8 +30,8 @@ pub fn load(rows: &[i32], t: usize) -> [i32; 4]
 }
 
 pub fn store(rows: &mut [i32], t: usize, s: [i32; 4])
-    requires t_bound { (t ≤ most_triples) × (4 * t + 3 < length rows.old) }
-    requires rows_bound { (r : ℕ) → nat_abs (at s r) ≤ 4 * most_row }
+    requires in_lists { (t ≤ most_triples) × (4 * t + 3 < length rows.old) }
+    requires bounded { (r : ℕ) → nat_abs (at s r) ≤ 4 * most_row }
     ensures { rows.new ≡ sets rows.old (4 * t) (tab 4 (at s)) }
 {
     let i = 4 * t;

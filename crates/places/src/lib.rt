@@ -159,7 +159,7 @@ fn band(
     counters: &mut [u16],
 ) -> bool
     requires numbers_small { Small (height * most) rows.now × (most ≤ most_number) × Held columns.now }
-    requires height_bound { (top + height ≤ most_number) × (1 ≤ wide) × (height * wide ≤ most_counters) }
+    requires window_fits { (top + height ≤ most_number) × (1 ≤ wide) × (height * wide ≤ most_counters) }
     requires counters_zero { (length counters.old ≡ most_counters) × Zeros counters.old }
     ensures tells { Tells result (Agrees (record { top = top; height = height; left = 0; width = columns.now.count }) most rows.now
         columns.now.most columns.now.lists) }

@@ -36,7 +36,7 @@ pub fn without_blank(triples: &[u16], count: usize) -> bool
 
 // c at position p of triple t: a variable's, as may be known, or the blank's.
 fn value_at(triples: &[u16], values: &[i16], t: usize, p: usize, known: bool) -> i32
-    requires t_bound { (t < most_triples) × (p < 3) × (3 * t + 2 < length triples.now) × Valued triples.now values.now }
+    requires in_lists { (t < most_triples) × (p < 3) × (3 * t + 2 < length triples.now) × Valued triples.now values.now }
     requires no_blank { known ≡ true → member triples.now t p ≡ blank → ⊥ }
     ensures { (result ≡ value_at values.now (member triples.now t p)) × (nat_abs result ≤ unit) }
 {
@@ -50,7 +50,7 @@ fn value_at(triples: &[u16], values: &[i16], t: usize, p: usize, known: bool) ->
 
 // c in third place, of the four triples from t on.
 fn thirds(triples: &[u16], values: &[i16], t: usize, known: bool) -> [i32; 4]
-    requires t_bound { (t + 4 ≤ most_triples) × (3 * t + 11 < length triples.now) }
+    requires in_lists { (t + 4 ≤ most_triples) × (3 * t + 11 < length triples.now) }
     requires valued { Valued triples.now values.now }
     requires known { Known known triples.now }
     ensures { Thirds triples.now values.now t result }
@@ -67,10 +67,10 @@ fn thirds(triples: &[u16], values: &[i16], t: usize, known: bool) -> [i32; 4]
 
 // The rows s of triple t, whose third c is given, renewed: "with the old p and new c".
 fn renewed_with(triples: &[u16], values: &[i16], t: usize, c: i32, s: [i32; 4]) -> [i32; 4]
-    requires t_bound { (t < most_triples) × (3 * t + 2 < length triples.now) }
+    requires in_lists { (t < most_triples) × (3 * t + 2 < length triples.now) }
     requires valued { Valued triples.now values.now }
     requires rows { Rows s }
-    requires c_value { (c ≡ value_at values.now (member triples.now t 2)) × (nat_abs c ≤ unit) }
+    requires third_known { (c ≡ value_at values.now (member triples.now t 2)) × (nat_abs c ≤ unit) }
     ensures { result ≡ tab 4 (λ r. renewed (at s r) (sum_at triples.now values.now t r)) }
 {
     let a = value_at(triples, values, t, 0, true);
@@ -80,7 +80,7 @@ fn renewed_with(triples: &[u16], values: &[i16], t: usize, c: i32, s: [i32; 4]) 
 
 // The rows s of triple t, renewed.
 fn renewed_triple(triples: &[u16], values: &[i16], t: usize, s: [i32; 4]) -> [i32; 4]
-    requires t_bound { (t < most_triples) × (3 * t + 2 < length triples.now) }
+    requires in_lists { (t < most_triples) × (3 * t + 2 < length triples.now) }
     requires valued { Valued triples.now values.now }
     requires rows { Rows s }
     ensures { result ≡ tab 4 (λ r. renewed (at s r) (sum_at triples.now values.now t r)) }
@@ -97,7 +97,7 @@ fn renewed_four(
     c: [i32; 4],
     s: [[i32; 4]; 4],
 ) -> [[i32; 4]; 4]
-    requires t_bound { (t + 4 ≤ most_triples) × (3 * t + 11 < length triples.now) }
+    requires in_lists { (t + 4 ≤ most_triples) × (3 * t + 11 < length triples.now) }
     requires valued { Valued triples.now values.now }
     requires fours { Fours s }
     requires thirds { Thirds triples.now values.now t c }
@@ -121,12 +121,12 @@ struct Four {
 // The four triples from t on, whose third c are given, are renewed. With the tests of a blank in it the
 // compiler would not inline it, and would not work the four out side by side.
 fn renew_four(triples: &[u16], values: &[i16], c: [i32; 4], rows: &mut [i32], t: usize) -> Four
-    requires t_bound { (t + 4 ≤ most_triples) × (3 * t + 11 < length triples.now) × (4 * t + 15 < length rows.old) }
+    requires in_lists { (t + 4 ≤ most_triples) × (3 * t + 11 < length triples.now) × (4 * t + 15 < length rows.old) }
     requires valued { Valued triples.now values.now }
     requires small { (i : ℕ) → 4 * t ≤ i → SmallRow (at rows.old i) }
     requires thirds { Thirds triples.now values.now t c }
-    ensures old_value { result.old ≡ tab 4 (lane rows.old t) }
-    ensures new_value { result.new ≡ renewed_four triples.now rows.old values.now t }
+    ensures old_loaded { result.old ≡ tab 4 (lane rows.old t) }
+    ensures new_renewed { result.new ≡ renewed_four triples.now rows.old values.now t }
     ensures rows_after { rows.new
         ≡ stored rows.old t (renewed_four triples.now rows.old values.now t) }
 {
@@ -147,11 +147,11 @@ struct Totals {
 
 // The totals with one triple more.
 fn with_triple(totals: Totals, old: [i32; 4], new: [i32; 4]) -> Totals
-    requires multipliers_bound { (totals.multipliers ≤ 2 ^ 63) × (totals.slacks ≤ 2 ^ 63) }
+    requires totals_fit { (totals.multipliers ≤ 2 ^ 63) × (totals.slacks ≤ 2 ^ 63) }
     requires rows { Rows old × Rows new }
-    ensures multipliers_value { (result.multipliers ≡ totals.multipliers + triple_changes (pos 1) old new)
+    ensures changes_added { (result.multipliers ≡ totals.multipliers + triple_changes (pos 1) old new)
         × (result.slacks ≡ totals.slacks + triple_changes (negsuc 0) old new) }
-    ensures multipliers_bound_2 { (result.multipliers ≤ totals.multipliers + most_changes) × (result.slacks ≤ totals.slacks + most_changes) }
+    ensures most_added { (result.multipliers ≤ totals.multipliers + most_changes) × (result.slacks ≤ totals.slacks + most_changes) }
 {
     Totals {
         multipliers: totals.multipliers + rows::changes(old, new, 1),
@@ -161,7 +161,7 @@ fn with_triple(totals: Totals, old: [i32; 4], new: [i32; 4]) -> Totals
 
 // The totals with four triples more.
 fn with_four(totals: Totals, old: [[i32; 4]; 4], new: [[i32; 4]; 4]) -> Totals
-    requires multipliers_bound { (totals.multipliers ≤ 2 ^ 62) × (totals.slacks ≤ 2 ^ 62) }
+    requires totals_fit { (totals.multipliers ≤ 2 ^ 62) × (totals.slacks ≤ 2 ^ 62) }
     requires fours { Fours old × Fours new }
     ensures { (result.multipliers ≡ totals.multipliers + four_changes (pos 1) old new)
         × (result.slacks ≡ totals.slacks + four_changes (negsuc 0) old new) }
@@ -216,7 +216,7 @@ fn renew_counted(
     requires rows_within { RowsWithin most_done rows.old }
     requires known { Known known triples.now }
     ensures aligned { Aligned count result.done }
-    ensures done_value { result.totals.multipliers ≤ tolerance → result.totals.slacks ≤ tolerance → result.done ≡ count }
+    ensures done_all { result.totals.multipliers ≤ tolerance → result.totals.slacks ≤ tolerance → result.done ≡ count }
     ensures renewed { Renewed count triples.now values.now 0 result.done rows.old rows.new
         0 result.totals.multipliers 0 result.totals.slacks }
 {

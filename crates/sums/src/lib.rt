@@ -32,7 +32,7 @@ fn add_third(sums: &mut [i64], v: usize, x: i32)
 
 // Each variable of the triple at i is given its share.
 fn give(triples: &[u16], i: usize, shares: [i32; 3], sums: &mut [i64])
-    requires i_bound { (i < most_triples) × (3 * i + 2 < length triples.now) }
+    requires in_lists { (i < most_triples) × (3 * i + 2 < length triples.now) }
     requires due { (ts : List ℕ) × (N : ℕ) × (t : ℕ) × (s : List ℤ) × (Due ts N t s sums.old triples.now i shares) }
     ensures { (ts : List ℕ) (N t : ℕ) (s : List ℤ) → Due ts N t s sums.old triples.now i shares
         → Summed ts N (suc t) s sums.new }
@@ -44,7 +44,7 @@ fn give(triples: &[u16], i: usize, shares: [i32; 3], sums: &mut [i64])
 
 // The first triples, whose rows are not transposed.
 fn give_first(triples: &[u16], rows: &[i32], count: usize, sums: &mut [i64])
-    requires count_bound { (count ≤ most_triples) × (3 * count ≡ length triples.now) × (4 * count ≡ length rows.now) }
+    requires lists_long { (count ≤ most_triples) × (3 * count ≡ length triples.now) × (4 * count ≡ length rows.now) }
     requires members { (Members triples.now (length sums.old)) × (RowsWithin most_done rows.now) }
     ensures { Summed triples.now (length sums.old) (count % 4) (straight count rows.now) sums.new }
 {
@@ -66,8 +66,8 @@ fn copy_four(triples: &[u16], t: usize, b: usize, members: &mut [u16])
 
 // The shares of four b of the triples from t on, behind those before them.
 fn share_four(rows: &[i32], t: usize, b: usize, shares: &mut [i32])
-    requires b_bound { (t + 4 * b + 4 ≤ most_triples) × (4 * (t + 4 * b + 4) ≤ length rows.now) × (RowsWithin most_done rows.now) }
-    requires four_bound { (b < 8) × (length shares.old ≡ 96) }
+    requires in_lists { (t + 4 * b + 4 ≤ most_triples) × (4 * (t + 4 * b + 4) ≤ length rows.now) × (RowsWithin most_done rows.now) }
+    requires in_shares { (b < 8) × (length shares.old ≡ 96) }
     ensures { (T : ℕ) → InFours T t (4 * (b + 1)) → Shared (straight T rows.now) t (4 * b) shares.old
         → Shared (straight T rows.now) t (4 * (b + 1)) shares.new }
 {
@@ -90,7 +90,7 @@ fn form_group(
     members: &mut [u16],
     shares: &mut [i32],
 )
-    requires n_bound { (n ≤ 8) × (t + 4 * n ≤ most_triples) × (3 * (t + 4 * n) ≤ length triples.now) × (4 * (t + 4 * n) ≤ length rows.now) }
+    requires in_lists { (n ≤ 8) × (t + 4 * n ≤ most_triples) × (3 * (t + 4 * n) ≤ length triples.now) × (4 * (t + 4 * n) ≤ length rows.now) }
     requires rows_within { (RowsWithin most_done rows.now) × (length members.old ≡ 96) × (length shares.old ≡ 96) }
     ensures { (T : ℕ) → InFours T t (4 * n)
         → Group triples.now (straight T rows.now) t (4 * n) members.new shares.new }
@@ -103,7 +103,7 @@ fn form_group(
 
 // The variables of the i-th triple of a group are given their shares.
 fn give_one(members: &[u16], shares: &[i32], i: usize, sums: &mut [i64])
-    requires i_bound { (i < 32) × (length members.now ≡ 96) × (length shares.now ≡ 96) }
+    requires in_lists { (i < 32) × (length members.now ≡ 96) × (length shares.now ≡ 96) }
     requires due { (ts : List ℕ) × (N : ℕ) × (t : ℕ) × (s : List ℤ)
         × (Summed ts N (t + i) s sums.old) × (Group ts s t (suc i) members.now shares.now) }
     ensures { (ts : List ℕ) (N t : ℕ) (s : List ℤ) → Summed ts N (t + i) s sums.old
@@ -119,7 +119,7 @@ fn give_one(members: &[u16], shares: &[i32], i: usize, sums: &mut [i64])
 
 // Four b of a group. Given four at a time, the third place's test costs less than the loop's own.
 fn give_four(members: &[u16], shares: &[i32], b: usize, sums: &mut [i64])
-    requires b_bound { (b < 8) × (length members.now ≡ 96) × (length shares.now ≡ 96) }
+    requires in_lists { (b < 8) × (length members.now ≡ 96) × (length shares.now ≡ 96) }
     requires due { (ts : List ℕ) × (N : ℕ) × (t : ℕ) × (s : List ℤ)
         × (Summed ts N (t + 4 * b) s sums.old) × (Group ts s t (4 * (b + 1)) members.now shares.now) }
     ensures { (ts : List ℕ) (N t : ℕ) (s : List ℤ) → Summed ts N (t + 4 * b) s sums.old
@@ -133,7 +133,7 @@ fn give_four(members: &[u16], shares: &[i32], b: usize, sums: &mut [i64])
 
 // The 4n triples of a group.
 fn give_group(members: &[u16], shares: &[i32], n: usize, sums: &mut [i64])
-    requires n_bound { (n ≤ 8) × (length members.now ≡ 96) × (length shares.now ≡ 96) }
+    requires in_lists { (n ≤ 8) × (length members.now ≡ 96) × (length shares.now ≡ 96) }
     requires due { (ts : List ℕ) × (N : ℕ) × (t : ℕ) × (s : List ℤ)
         × (Summed ts N t s sums.old) × (Group ts s t (4 * n) members.now shares.now) }
     ensures { (ts : List ℕ) (N t : ℕ) (s : List ℤ) → Summed ts N t s sums.old
@@ -147,7 +147,7 @@ fn give_group(members: &[u16], shares: &[i32], n: usize, sums: &mut [i64])
 // "S is the sum over its rows of z + p", for every variable. Up to 32 triples are copied, and their shares formed, before these are given: a triple that is
 // read from the lent list between stores to S may have to wait for one of them, by where the two lists lie.
 pub fn gather(triples: &[u16], rows: &[i32], count: usize, sums: &mut [i64])
-    requires count_bound { (count ≤ most_triples) × (3 * count ≡ length triples.now) × (4 * count ≡ length rows.now) }
+    requires lists_long { (count ≤ most_triples) × (3 * count ≡ length triples.now) × (4 * count ≡ length rows.now) }
     requires members { (Members triples.now (length sums.old)) × (RowsWithin most_done rows.now) }
     ensures { sums.new ≡ tab (length sums.old) (sum_of triples.now count (straight count rows.now)) }
 {

@@ -158,7 +158,7 @@ pub fn write_values(
     values: &mut [i16],
 )
     requires given { Given sums.now counts.now costs.now (length values.old) × (weight ≤ most_weight) }
-    requires costs_in_bounds { length costs.now ≤ length values.old }
+    requires costs_fit { length costs.now ≤ length values.old }
     ensures { values.new ≡ tab (length values.old)
         (value_from sums.now counts.now costs.now weight divisors.now) }
 {

@@ -16,7 +16,7 @@ pub store-requires : goal.store-requires
 store-requires c =
     let small = small_are most (λ k. at c.load-old.result k +ℤ at c.args.q k) c.add.ensures
     (λ k _. omega (arith, abs_add (at c.load-old.result k) (at c.args.q k), fit (goal.at.store-requires c).After-load-old k)) in
-    (c.requires.i_in_bounds.0, c.requires.i_in_bounds.1, λ k. omega (arith, small k))
+    (c.requires.in_lists.0, c.requires.in_lists.1, λ k. omega (arith, small k))
 
 pub returns : goal.returns
 returns c =

@@ -2,12 +2,12 @@
 use Rattle.lane_renewal.proofs.Walking.{settled}
 use Rattle.lane_renewal.proofs.renew.Goals as goal
 
-pub renew_range-requires-clause-by_index : goal.renew_range-requires-clause-by_index
-renew_range-requires-clause-by_index c = (c.args.work.now, λ l f h. (c.requires.due l f h, c.renew_counted-done.ensures.counted.walked l f h))
+pub renew_range-requires-clause-begun : goal.renew_range-requires-clause-begun
+renew_range-requires-clause-begun c = (c.args.work.now, λ l f h. (c.requires.due l f h, c.renew_counted-done.ensures.counted.walked l f h))
 
 pub returns-clause-walked : goal.returns-clause-walked
 returns-clause-walked c =
-    c.renew_range.ensures.by_index_2 c.args.work.now (λ l f h. (c.requires.due l f h, c.renew_counted-done.ensures.counted.walked l f h))
+    c.renew_range.ensures.walked c.args.work.now (λ l f h. (c.requires.due l f h, c.renew_counted-done.ensures.counted.walked l f h))
 
 pub returns-clause-settles : goal.returns-clause-settles
 returns-clause-settles c =

@@ -9,8 +9,8 @@ loop-t-init c =
     let w = c.args.walk.now in
     (refl, counted_none w.plan w.triples.now w.counts.now c.args.i c.args.from c.args.to c.args.work.now c.args.totals.now c.requires.fits.0 c.requires.due c.requires.cleared)
 
-pub renew_range-requires-clause-by_index : goal.renew_range-requires-clause-by_index
-renew_range-requires-clause-by_index c = (c.args.work.now, λ l f h. (c.requires.due l f h, c.loop-t.invariant.1.walked l f h))
+pub renew_range-requires-clause-begun : goal.renew_range-requires-clause-begun
+renew_range-requires-clause-begun c = (c.args.work.now, λ l f h. (c.requires.due l f h, c.loop-t.invariant.1.walked l f h))
 
 -- ---- a block of triples, whose rows are kept, and renewed
 module _ (r : After-renew_range) where
@@ -25,7 +25,7 @@ module _ (r : After-renew_range) where
     few = few;
     room = r.requires.fits.2.room;
     kept = r.keep.ensures;
-    walked = r.renew_range.ensures.by_index_2 r.args.work.now (λ l f h. (r.requires.due l f h, r.loop-t.invariant.1.walked l f h));
+    walked = r.renew_range.ensures.walked r.args.work.now (λ l f h. (r.requires.due l f h, r.loop-t.invariant.1.walked l f h));
   }
 
 pub count_rows-requires-clause-comparable : goal.count_rows-requires-clause-comparable
@@ -39,5 +39,5 @@ count_rows-requires-clause-at_most c =
 pub loop-t-preserved : goal.loop-t-preserved
 loop-t-preserved c = (
   c.keep.auto.before ∙ c.loop-t.invariant.0,
-  counted_more (block (goal.at.loop-t-preserved c).After-renew_range) _ c.renew_range.ensures.fits_2 c.renew_range.ensures.by_index_3 c.count_rows.ensures,
+  counted_more (block (goal.at.loop-t-preserved c).After-renew_range) _ c.renew_range.ensures.fits c.renew_range.ensures.beside c.count_rows.ensures,
 )

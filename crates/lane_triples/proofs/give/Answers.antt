@@ -11,7 +11,7 @@ pub add_to-requires : goal.add_to-requires
 add_to-requires c =
     let s = start c in
     let may = s.requires.0.low c.if-wide.true in
-    record { i_in_bounds = (may.room, s.requires.1); sums_fit = rw c.lows.ensures.0 may.small }
+    record { in_lists = (may.room, s.requires.1); sums_fit = rw c.lows.ensures.0 may.small }
 
 -- the low parts are added
 between : (c : After-add_to) → c.add_to.new.l ≡ added (start (goal.at.After-add_to c).After-lows).args.work.now (start (goal.at.After-add_to c).After-lows).args.i (lows_of (start (goal.at.After-add_to c).After-lows).args.x)
@@ -22,10 +22,10 @@ pub add_to-requires-then-wide : goal.add_to-requires-then-wide
 add_to-requires-then-wide c =
     let s = start (goal.at.add_to-requires-then-wide c).After-lows in
     let may = s.requires.0.high c.if-wide.true in
-    record { i_in_bounds = (rw (between (goal.at.add_to-requires-then-wide c).After-add_to) may.room, omega (arith, s.requires.1, c.add_to.auto.l)); sums_fit = rw (between (goal.at.add_to-requires-then-wide c).After-add_to, c.highs.ensures.0) may.small }
+    record { in_lists = (rw (between (goal.at.add_to-requires-then-wide c).After-add_to) may.room, omega (arith, s.requires.1, c.add_to.auto.l)); sums_fit = rw (between (goal.at.add_to-requires-then-wide c).After-add_to, c.highs.ensures.0) may.small }
 
 pub add_to-requires-else-wide : goal.add_to-requires-else-wide
-add_to-requires-else-wide c = let may = c.requires.0.whole c.if-wide.false in record { i_in_bounds = (may.room, c.requires.1); sums_fit = may.small }
+add_to-requires-else-wide c = let may = c.requires.0.whole c.if-wide.false in record { in_lists = (may.room, c.requires.1); sums_fit = may.small }
 
 pub returns-then-wide : goal.returns-then-wide
 unfolding given added

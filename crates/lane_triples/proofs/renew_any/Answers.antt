@@ -107,7 +107,7 @@ pub overflow_mul-lanes : goal.overflow_mul-lanes
 overflow_mul-lanes c = omega (arith, first_low (goal.at.overflow_mul-lanes c).Start)
 
 pub overflow_add-values : goal.overflow_add-values
-overflow_add-values c = omega (arith, first_low (goal.at.overflow_add-values c).Start, c.requires.w_bound)
+overflow_add-values c = omega (arith, first_low (goal.at.overflow_add-values c).Start, c.requires.small_places)
 
 pub load-a-requires : goal.load-a-requires
 load-a-requires c = (c.requires.may_step.values 0 (omega arith) refl, c.requires.may_step.long)
@@ -116,16 +116,16 @@ pub overflow_mul-lanes-2 : goal.overflow_mul-lanes-2
 overflow_mul-lanes-2 c = omega (arith, second_low (goal.at.overflow_mul-lanes-2 c).Start)
 
 pub overflow_add-values-2 : goal.overflow_add-values-2
-overflow_add-values-2 c = omega (arith, second_low (goal.at.overflow_add-values-2 c).Start, c.requires.w_bound)
+overflow_add-values-2 c = omega (arith, second_low (goal.at.overflow_add-values-2 c).Start, c.requires.small_places)
 
 pub load-b-requires : goal.load-b-requires
 load-b-requires c = (c.requires.may_step.values 1 (omega arith) refl, c.requires.may_step.long)
 
 pub overflow_mul-lanes-3 : goal.overflow_mul-lanes-3
-overflow_mul-lanes-3 c = omega (arith, c.requires.w_bound)
+overflow_mul-lanes-3 c = omega (arith, c.requires.small_places)
 
 pub overflow_add-values-3 : goal.overflow_add-values-3
-overflow_add-values-3 c = omega (arith, c.requires.w_bound)
+overflow_add-values-3 c = omega (arith, c.requires.small_places)
 
 pub third-c-requires : goal.third-c-requires
 third-c-requires c = (c.requires.may_step.values 2 (omega arith), c.requires.may_step.long)
@@ -134,10 +134,10 @@ pub overflow_mul-first : goal.overflow_mul-first
 overflow_mul-first c = omega (arith, first_low (start (loaded (goal.at.overflow_mul-first c).After-renew_four-x)))
 
 pub overflow_add-first : goal.overflow_add-first
-overflow_add-first c = let s = start (loaded (goal.at.overflow_add-first c).After-renew_four-x) in omega (arith, first_low s, s.requires.w_bound)
+overflow_add-first c = let s = start (loaded (goal.at.overflow_add-first c).After-renew_four-x) in omega (arith, first_low s, s.requires.small_places)
 
 pub overflow_add-first-2 : goal.overflow_add-first-2
-overflow_add-first-2 c = let s = start (loaded (goal.at.overflow_add-first-2 c).After-renew_four-x) in omega (arith, first_low s, s.requires.w_bound)
+overflow_add-first-2 c = let s = start (loaded (goal.at.overflow_add-first-2 c).After-renew_four-x) in omega (arith, first_low s, s.requires.small_places)
 
 pub is_wide-requires : goal.is_wide-requires
 is_wide-requires c = (start (loaded (goal.at.is_wide-requires c).After-renew_four-x)).requires.variables_counted.0
@@ -146,19 +146,19 @@ pub overflow_mul-second : goal.overflow_mul-second
 overflow_mul-second c = omega (arith, second_low (start (loaded (first (goal.at.overflow_mul-second c).After-give))))
 
 pub overflow_add-second : goal.overflow_add-second
-overflow_add-second c = let s = start (loaded (first (goal.at.overflow_add-second c).After-give)) in omega (arith, second_low s, s.requires.w_bound)
+overflow_add-second c = let s = start (loaded (first (goal.at.overflow_add-second c).After-give)) in omega (arith, second_low s, s.requires.small_places)
 
 pub overflow_add-second-2 : goal.overflow_add-second-2
-overflow_add-second-2 c = let s = start (loaded (first (goal.at.overflow_add-second-2 c).After-give)) in omega (arith, second_low s, s.requires.w_bound)
+overflow_add-second-2 c = let s = start (loaded (first (goal.at.overflow_add-second-2 c).After-give)) in omega (arith, second_low s, s.requires.small_places)
 
 pub is_wide-requires-2 : goal.is_wide-requires-2
 is_wide-requires-2 c = (start (loaded (first (goal.at.is_wide-requires-2 c).After-give))).requires.variables_counted.1
 
 pub overflow_mul-last : goal.overflow_mul-last
-overflow_mul-last c = let s = start (loaded (first (second (goal.at.overflow_mul-last c).After-give-2))) in omega (arith, s.requires.w_bound)
+overflow_mul-last c = let s = start (loaded (first (second (goal.at.overflow_mul-last c).After-give-2))) in omega (arith, s.requires.small_places)
 
 pub overflow_add-last : goal.overflow_add-last
-overflow_add-last c = let s = start (loaded (first (second (goal.at.overflow_add-last c).After-give-2))) in omega (arith, s.requires.w_bound)
+overflow_add-last c = let s = start (loaded (first (second (goal.at.overflow_add-last c).After-give-2))) in omega (arith, s.requires.small_places)
 
 pub overflow_add-last-2 : goal.overflow_add-last-2
-overflow_add-last-2 c = let s = start (loaded (first (second (goal.at.overflow_add-last-2 c).After-give-2))) in omega (arith, s.requires.w_bound)
+overflow_add-last-2 c = let s = start (loaded (first (second (goal.at.overflow_add-last-2 c).After-give-2))) in omega (arith, s.requires.small_places)

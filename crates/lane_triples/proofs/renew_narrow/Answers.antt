@@ -80,13 +80,13 @@ short_2 : (c : After-add_to-2) → length c.add_to-2.new.l < 2 ^ 32
 short_2 c = omega (arith, short_1 (second c), c.add_to-2.auto.l)
 
 pub add_to-requires : goal.add_to-requires
-add_to-requires c = let may = asked (goal.at.add_to-requires c).After-renew_four-x 0 (omega arith) (renewed (goal.at.add_to-requires c).After-renew_four-x) in record { i_in_bounds = (may.room, short (goal.at.add_to-requires c).After-renew_four-x); sums_fit = may.small }
+add_to-requires c = let may = asked (goal.at.add_to-requires c).After-renew_four-x 0 (omega arith) (renewed (goal.at.add_to-requires c).After-renew_four-x) in record { in_lists = (may.room, short (goal.at.add_to-requires c).After-renew_four-x); sums_fit = may.small }
 
 pub add_to-requires-2 : goal.add_to-requires-2
-add_to-requires-2 c = let may = asked (first (goal.at.add_to-requires-2 c).After-add_to) 1 (omega arith) (one (goal.at.add_to-requires-2 c).After-add_to) in record { i_in_bounds = (may.room, short_1 (goal.at.add_to-requires-2 c).After-add_to); sums_fit = may.small }
+add_to-requires-2 c = let may = asked (first (goal.at.add_to-requires-2 c).After-add_to) 1 (omega arith) (one (goal.at.add_to-requires-2 c).After-add_to) in record { in_lists = (may.room, short_1 (goal.at.add_to-requires-2 c).After-add_to); sums_fit = may.small }
 
 pub add_to-requires-3 : goal.add_to-requires-3
-add_to-requires-3 c = let may = asked (first (second (goal.at.add_to-requires-3 c).After-add_to-2)) 2 (omega arith) (two (goal.at.add_to-requires-3 c).After-add_to-2) in record { i_in_bounds = (may.room, short_2 (goal.at.add_to-requires-3 c).After-add_to-2); sums_fit = may.small }
+add_to-requires-3 c = let may = asked (first (second (goal.at.add_to-requires-3 c).After-add_to-2)) 2 (omega arith) (two (goal.at.add_to-requires-3 c).After-add_to-2) in record { in_lists = (may.room, short_2 (goal.at.add_to-requires-3 c).After-add_to-2); sums_fit = may.small }
 
 pub overflow_add-values : goal.overflow_add-values
 overflow_add-values c = omega (arith, c.requires.long, c.requires.values 0 (omega arith) refl)

@@ -6,7 +6,7 @@ use Rattle.layout.proofs.store.Goals as goal
 
 pub returns : goal.returns
 returns c =
-    four_stored c.args.rows.now (4 * c.args.t) c.args.s (4 * most_row) tt c.requires.rows_bound
+    four_stored c.args.rows.now (4 * c.args.t) c.args.s (4 * most_row) tt c.requires.bounded
 
 pub bounds-rows-i-2 : goal.bounds-rows-i-2
 bounds-rows-i-2 c = simp length-set (omega arith)

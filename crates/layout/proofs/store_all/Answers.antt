@@ -29,13 +29,13 @@ returns c =
     ∙ sets_fours s.args.rows.now s.args.t (cell s.args.q)
 
 pub store-requires : goal.store-requires
-store-requires c = record { t_bound = search rules; rows_bound = small (goal.at.store-requires c).Start 0 }
+store-requires c = record { in_lists = search rules; bounded = small (goal.at.store-requires c).Start 0 }
 
 pub store-requires-2 : goal.store-requires-2
-store-requires-2 c = record { t_bound = search rules; rows_bound = small (start (goal.at.store-requires-2 c).After-store) 1 }
+store-requires-2 c = record { in_lists = search rules; bounded = small (start (goal.at.store-requires-2 c).After-store) 1 }
 
 pub store-requires-3 : goal.store-requires-3
-store-requires-3 c = record { t_bound = search rules; rows_bound = small (start (first (goal.at.store-requires-3 c).After-store-2)) 2 }
+store-requires-3 c = record { in_lists = search rules; bounded = small (start (first (goal.at.store-requires-3 c).After-store-2)) 2 }
 
 pub store-requires-4 : goal.store-requires-4
-store-requires-4 c = record { t_bound = search rules; rows_bound = small (start (first (second (goal.at.store-requires-4 c).After-store-3))) 3 }
+store-requires-4 c = record { in_lists = search rules; bounded = small (start (first (second (goal.at.store-requires-4 c).After-store-3))) 3 }

@@ -31,7 +31,7 @@ module _ (x : After-rows_up-count) where
   window = record { top = x.args.top; height = x.args.height; left = left; width = width }
 
   sized : (1 ≤ width) × (width ≤ x.args.wide) × (left + width ≤ all)
-  sized = omega (arith, x.min-width.ensures, x.loop-left-test.true, x.requires.height_bound)
+  sized = omega (arith, x.min-width.ensures, x.loop-left-test.true, x.requires.window_fits)
 
   at_left : min left all ≡ left
   at_left = omega (arith, x.loop-left-test.true)
@@ -46,7 +46,7 @@ module _ (x : After-rows_up-count) where
   lent : length (take size x.loop-left.counters) ≡ size
   lent =
       length-take-le size x.loop-left.counters
-      (omega (arith, mul-le-mul_left x.args.height sized.1, x.requires.height_bound, x.loop-left.invariant.2))
+      (omega (arith, mul-le-mul_left x.args.height sized.1, x.requires.window_fits, x.loop-left.invariant.2))
 
 pub columns_down-requires-clause-numbers_small : goal.columns_down-requires-clause-numbers_small
 columns_down-requires-clause-numbers_small c =

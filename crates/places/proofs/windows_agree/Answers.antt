@@ -62,7 +62,7 @@ pub band-requires : goal.band-requires
 band-requires c =
     let x = (goal.at.band-requires c).After-min-height in record {
       numbers_small = (numbers x, omega (arith, c.from-most.ensures, c.requires.1.most), c.requires.0);
-      height_bound = (omega (arith, sized x, c.from-count.ensures, c.requires.1.count), c.requires.2, small x);
+      window_fits = (omega (arith, sized x, c.from-count.ensures, c.requires.1.count), c.requires.2, small x);
       counters_zero = (c.loop-top.invariant.2, c.loop-top.invariant.3);
     }
 

@@ -32,8 +32,8 @@ with_four-totals-requires c =
     let s = start l in
     let a = s.args in
     let small = totals_small a.count a.triples.now a.values.now s.requires.sized.0 s.requires.valued.1 (at_first s.requires.sized.2 s.requires.rows_within) (whole l) in record {
-      multipliers_bound = omega (arith, small);
-      fours = rw (c.renew_four-four.ensures.old_value, c.renew_four-four.ensures.new_value) (old_fours l.loop-t.rows l.loop-t.t (whole l).left.small, new_fours a.triples.now a.values.now s.requires.valued.1 l.loop-t.rows l.loop-t.t (whole l).left.small);
+      totals_fit = omega (arith, small);
+      fours = rw (c.renew_four-four.ensures.old_loaded, c.renew_four-four.ensures.new_renewed) (old_fours l.loop-t.rows l.loop-t.t (whole l).left.small, new_fours a.triples.now a.values.now s.requires.valued.1 l.loop-t.rows l.loop-t.t (whole l).left.small);
     }
 
 pub loop-t-preserved : goal.loop-t-preserved
@@ -43,14 +43,14 @@ loop-t-preserved c =
     let h = room (goal.at.loop-t-preserved c).In-loop-t in (
       (omega (arith, h), omega (arith, l.loop-t.invariant.0, h)),
       both a.count a.triples.now a.values.now l.loop-t.invariant.1 (four_renewed a.count a.triples.now a.values.now l.loop-t.t l.loop-t.rows c.renew_four-four.new.rows c.renew_four-four.result.old c.renew_four-four.result.new
-          _ _ _ _ l.loop-t.invariant.0 (omega (arith, h)) (whole l).left c.renew_four-four.ensures.old_value c.renew_four-four.ensures.new_value c.renew_four-four.ensures.rows_after c.with_four-totals.ensures.0 c.with_four-totals.ensures.1),
+          _ _ _ _ l.loop-t.invariant.0 (omega (arith, h)) (whole l).left c.renew_four-four.ensures.old_loaded c.renew_four-four.ensures.new_renewed c.renew_four-four.ensures.rows_after c.with_four-totals.ensures.0 c.with_four-totals.ensures.1),
     )
 
 pub returns : goal.returns
 returns c =
     let a = (start (goal.at.returns c).At-loop-t).args in record {
       aligned = c.loop-t.invariant.0;
-      done_value = λ p q. omega (arith, c.loop-t.invariant.0, unmet c.loop-t.t a.count c.loop-t.totals.multipliers c.loop-t.totals.slacks a.tolerance c.loop-t-test.false p q);
+      done_all = λ p q. omega (arith, c.loop-t.invariant.0, unmet c.loop-t.t a.count c.loop-t.totals.multipliers c.loop-t.totals.slacks a.tolerance c.loop-t-test.false p q);
       renewed = whole (goal.at.returns c).At-loop-t;
     }
 
@@ -58,11 +58,11 @@ pub loop-t-init : goal.loop-t-init
 loop-t-init c = ((omega arith, omega arith), renewed_none _ _ _ _ _ _ _ c.renew_first-totals.ensures.left)
 
 pub thirds-c-requires : goal.thirds-c-requires
-thirds-c-requires c = let s = start (at_test c) in record { t_bound = (omega (arith, s.requires.sized, room c), omega (arith, s.requires.sized, room c)); valued = s.requires.valued; known = s.requires.known }
+thirds-c-requires c = let s = start (at_test c) in record { in_lists = (omega (arith, s.requires.sized, room c), omega (arith, s.requires.sized, room c)); valued = s.requires.valued; known = s.requires.known }
 
 pub renew_four-four-requires : goal.renew_four-four-requires
 renew_four-four-requires c = let l = at_test (goal.at.renew_four-four-requires c).In-loop-t in
-    record { t_bound = search (rules, room (goal.at.renew_four-four-requires c).In-loop-t, (whole l).left.long); valued = (start l).requires.valued; small = (whole l).left.small; thirds = c.thirds-c.ensures }
+    record { in_lists = search (rules, room (goal.at.renew_four-four-requires c).In-loop-t, (whole l).left.long); valued = (start l).requires.valued; small = (whole l).left.small; thirds = c.thirds-c.ensures }
 
 pub overflow_add-t : goal.overflow_add-t
 overflow_add-t c = omega (arith, (start (at_test (goal.at.overflow_add-t c).In-loop-t)).requires.sized, room (goal.at.overflow_add-t c).In-loop-t)

@@ -39,7 +39,7 @@ with_triple-totals-requires c =
     let l = at_loop (made c) in
     let s = start l in
     let small = totals_small s.args.count s.args.triples.now s.args.values.now s.requires.sized.0 s.requires.valued.1 (at_first s.requires.sized.2 s.requires.rows_within) l.loop-t.invariant.1 in
-    record { multipliers_bound = omega (arith, small); rows = (old_small (goal.at.After-renewed_triple-new (made c)).After-load-old, new_small (made c)) }
+    record { totals_fit = omega (arith, small); rows = (old_small (goal.at.After-renewed_triple-new (made c)).After-load-old, new_small (made c)) }
 
 pub loop-t-preserved : goal.loop-t-preserved
 loop-t-preserved c =
@@ -49,7 +49,7 @@ loop-t-preserved c =
     let h = n.loop-t-test.true in (
       omega (arith, h),
       both a.count a.triples.now a.values.now l.loop-t.invariant.1 (triple_renewed a.count a.triples.now a.values.now l.loop-t.t l.loop-t.rows c.store.new.rows
-          n.load-old.result n.renewed_triple-new.result _ _ _ _ h (left l) n.load-old.ensures (new_is n) c.store.ensures c.with_triple-totals.ensures.multipliers_value.0 c.with_triple-totals.ensures.multipliers_value.1),
+          n.load-old.result n.renewed_triple-new.result _ _ _ _ h (left l) n.load-old.ensures (new_is n) c.store.ensures c.with_triple-totals.ensures.changes_added.0 c.with_triple-totals.ensures.changes_added.1),
     )
 
 pub returns : goal.returns
@@ -65,10 +65,10 @@ pub load-old-requires : goal.load-old-requires
 load-old-requires c = search (rules, (left (goal.at.load-old-requires c).At-loop-t).long)
 
 pub renewed_triple-new-requires : goal.renewed_triple-new-requires
-renewed_triple-new-requires c = record { t_bound = search rules; valued = (start (goal.at.renewed_triple-new-requires c).At-loop-t).requires.valued; rows = old_small c }
+renewed_triple-new-requires c = record { in_lists = search rules; valued = (start (goal.at.renewed_triple-new-requires c).At-loop-t).requires.valued; rows = old_small c }
 
 pub store-requires : goal.store-requires
-store-requires c = record { t_bound = search (rules, (left (at_loop (goal.at.store-requires c).After-renewed_triple-new)).long); rows_bound = λ r. omega (arith, new_small (goal.at.store-requires c).After-renewed_triple-new r) }
+store-requires c = record { in_lists = search (rules, (left (at_loop (goal.at.store-requires c).After-renewed_triple-new)).long); bounded = λ r. omega (arith, new_small (goal.at.store-requires c).After-renewed_triple-new r) }
 
 pub loop-t-smaller : goal.loop-t-smaller
 loop-t-smaller c = omega (arith, (made (goal.at.loop-t-smaller c).After-rows-1).loop-t-test.true)

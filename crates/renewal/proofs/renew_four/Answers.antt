@@ -19,13 +19,13 @@ new_is c =
 pub returns : goal.returns
 returns c =
     let a = (start (goal.at.returns c).After-load_four-old).args in
-    record { old_value = c.load_four-old.ensures; new_value = new_is (goal.at.returns c).After-renewed_four-new; rows_after = c.store_four.ensures ∙ ap (stored a.rows.now a.t) (new_is (goal.at.returns c).After-renewed_four-new) }
+    record { old_loaded = c.load_four-old.ensures; new_renewed = new_is (goal.at.returns c).After-renewed_four-new; rows_after = c.store_four.ensures ∙ ap (stored a.rows.now a.t) (new_is (goal.at.returns c).After-renewed_four-new) }
 
 pub load_four-old-requires : goal.load_four-old-requires
-load_four-old-requires c = (omega (arith, c.requires.t_bound), omega (arith, c.requires.t_bound), λ i h. small_abs (at c.args.rows.now i) (c.requires.small i h))
+load_four-old-requires c = (omega (arith, c.requires.in_lists), omega (arith, c.requires.in_lists), λ i h. small_abs (at c.args.rows.now i) (c.requires.small i h))
 
 pub renewed_four-new-requires : goal.renewed_four-new-requires
-renewed_four-new-requires c = let s = start c in record { t_bound = search rules; valued = s.requires.valued; fours = rw c.load_four-old.ensures (old_fours s.args.rows.now s.args.t s.requires.small); thirds = s.requires.thirds }
+renewed_four-new-requires c = let s = start c in record { in_lists = search rules; valued = s.requires.valued; fours = rw c.load_four-old.ensures (old_fours s.args.rows.now s.args.t s.requires.small); thirds = s.requires.thirds }
 
 pub store_four-requires : goal.store_four-requires
-store_four-requires c = let s = start (goal.at.store_four-requires c).After-load_four-old in let a = s.args in (omega (arith, s.requires.t_bound), omega (arith, s.requires.t_bound), rw (new_is (goal.at.store_four-requires c).After-renewed_four-new) (new_fours a.triples.now a.values.now s.requires.valued.1 a.rows.now a.t s.requires.small))
+store_four-requires c = let s = start (goal.at.store_four-requires c).After-load_four-old in let a = s.args in (omega (arith, s.requires.in_lists), omega (arith, s.requires.in_lists), rw (new_is (goal.at.store_four-requires c).After-renewed_four-new) (new_fours a.triples.now a.values.now s.requires.valued.1 a.rows.now a.t s.requires.small))

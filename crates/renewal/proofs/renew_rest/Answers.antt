@@ -17,7 +17,7 @@ loop-t-preserved c =
     let a = (start (goal.at.loop-t-preserved c).At-loop-t).args in
     let h = room (goal.at.loop-t-preserved c).In-loop-t in
     let r = four_renewed a.count a.triples.now a.values.now c.loop-t.t c.loop-t.rows c.renew_four-four.new.rows c.renew_four-four.result.old c.renew_four-four.result.new 0 0 _ _ c.loop-t.invariant.0 (omega (arith, h)) c.loop-t.invariant.1
-    c.renew_four-four.ensures.old_value c.renew_four-four.ensures.new_value c.renew_four-four.ensures.rows_after refl refl in
+    c.renew_four-four.ensures.old_loaded c.renew_four-four.ensures.new_renewed c.renew_four-four.ensures.rows_after refl refl in
     ((omega arith, omega (arith, c.loop-t.invariant.0, h)), r.left, r.rows ∙ c.loop-t.invariant.2)
 
 pub returns : goal.returns
@@ -31,10 +31,10 @@ pub loop-t-init : goal.loop-t-init
 loop-t-init c = (c.requires.aligned.0, c.requires.aligned.1, refl)
 
 pub thirds-c-requires : goal.thirds-c-requires
-thirds-c-requires c = let s = start (goal.at.thirds-c-requires c).At-loop-t in record { t_bound = (omega (arith, s.requires.sized, room c), omega (arith, s.requires.sized, room c)); valued = s.requires.valued; known = s.requires.known }
+thirds-c-requires c = let s = start (goal.at.thirds-c-requires c).At-loop-t in record { in_lists = (omega (arith, s.requires.sized, room c), omega (arith, s.requires.sized, room c)); valued = s.requires.valued; known = s.requires.known }
 
 pub renew_four-four-requires : goal.renew_four-four-requires
-renew_four-four-requires c = record { t_bound = search (rules, room (goal.at.renew_four-four-requires c).In-loop-t, c.loop-t.invariant.1.long); valued = (start (goal.at.renew_four-four-requires c).At-loop-t).requires.valued; small = c.loop-t.invariant.1.small; thirds = c.thirds-c.ensures }
+renew_four-four-requires c = record { in_lists = search (rules, room (goal.at.renew_four-four-requires c).In-loop-t, c.loop-t.invariant.1.long); valued = (start (goal.at.renew_four-four-requires c).At-loop-t).requires.valued; small = c.loop-t.invariant.1.small; thirds = c.thirds-c.ensures }
 
 pub overflow_add-t : goal.overflow_add-t
 overflow_add-t c = omega (arith, (start (goal.at.overflow_add-t c).At-loop-t).requires.sized, room (goal.at.overflow_add-t c).In-loop-t)

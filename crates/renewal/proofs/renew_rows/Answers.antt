@@ -13,5 +13,5 @@ returns c =
     let s = a.rows.now in
     let e : c.renew_rest.new.rows ≡ renewed_from a.count a.triples.now a.values.now 0 s = c.renew_rest.ensures ∙ c.renew_counted-counted.ensures.renewed.rows in record {
       rows_after = (ap (straight a.count) e ∙ all_straight a.count a.triples.now a.values.now s, ap length e ∙ length_tab (4 * a.count) _);
-      value = ap (λ (t : Bool). 1 if t) c.settles.ensures ∙ settled a.count a.triples.now a.values.now s a.tolerance c.renew_counted-counted.result.done _ _ c.renew_counted-counted.new.rows c.renew_counted-counted.ensures.renewed c.renew_counted-counted.ensures.done_value;
+      value = ap (λ (t : Bool). 1 if t) c.settles.ensures ∙ settled a.count a.triples.now a.values.now s a.tolerance c.renew_counted-counted.result.done _ _ c.renew_counted-counted.new.rows c.renew_counted-counted.ensures.renewed c.renew_counted-counted.ensures.done_all;
     }

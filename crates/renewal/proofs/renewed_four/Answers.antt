@@ -34,13 +34,13 @@ first : (s : Start) → let z = to_z w32 (of_z w32 (at s.args.c 0)) in (z ≡ va
 first s = let z : s.args.t + 0 ≡ s.args.t = omega arith in rw z at (third s 0 (omega arith))
 
 pub renewed_with-requires : goal.renewed_with-requires
-renewed_with-requires c = record { t_bound = omega (arith, c.requires.t_bound); valued = c.requires.valued; rows = c.requires.fours _; c_value = first (goal.at.renewed_with-requires c).Start }
+renewed_with-requires c = record { in_lists = omega (arith, c.requires.in_lists); valued = c.requires.valued; rows = c.requires.fours _; third_known = first (goal.at.renewed_with-requires c).Start }
 
 pub renewed_with-requires-2 : goal.renewed_with-requires-2
-renewed_with-requires-2 c = record { t_bound = omega (arith, c.requires.t_bound); valued = c.requires.valued; rows = c.requires.fours _; c_value = third (goal.at.renewed_with-requires-2 c).Start 1 (omega arith) }
+renewed_with-requires-2 c = record { in_lists = omega (arith, c.requires.in_lists); valued = c.requires.valued; rows = c.requires.fours _; third_known = third (goal.at.renewed_with-requires-2 c).Start 1 (omega arith) }
 
 pub renewed_with-requires-3 : goal.renewed_with-requires-3
-renewed_with-requires-3 c = record { t_bound = omega (arith, c.requires.t_bound); valued = c.requires.valued; rows = c.requires.fours _; c_value = third (goal.at.renewed_with-requires-3 c).Start 2 (omega arith) }
+renewed_with-requires-3 c = record { in_lists = omega (arith, c.requires.in_lists); valued = c.requires.valued; rows = c.requires.fours _; third_known = third (goal.at.renewed_with-requires-3 c).Start 2 (omega arith) }
 
 pub renewed_with-requires-4 : goal.renewed_with-requires-4
-renewed_with-requires-4 c = record { t_bound = omega (arith, c.requires.t_bound); valued = c.requires.valued; rows = c.requires.fours _; c_value = third (goal.at.renewed_with-requires-4 c).Start 3 (omega arith) }
+renewed_with-requires-4 c = record { in_lists = omega (arith, c.requires.in_lists); valued = c.requires.valued; rows = c.requires.fours _; third_known = third (goal.at.renewed_with-requires-4 c).Start 3 (omega arith) }

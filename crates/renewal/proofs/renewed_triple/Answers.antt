@@ -8,7 +8,7 @@ use Rattle.renewal.proofs.renewed_triple.Goals as goal
 pub renewed_with-requires : goal.renewed_with-requires
 renewed_with-requires c =
     let e = read_back w32 c.value_at-c.type_inv c.value_at-c.ensures.0 in
-    record { t_bound = c.requires.t_bound; valued = c.requires.valued; rows = c.requires.rows; c_value = (e, rw e (value_small c.args.values.now (member c.args.triples.now c.args.t 2) (c.requires.valued.1 _))) }
+    record { in_lists = c.requires.in_lists; valued = c.requires.valued; rows = c.requires.rows; third_known = (e, rw e (value_small c.args.values.now (member c.args.triples.now c.args.t 2) (c.requires.valued.1 _))) }
 
 pub value_at-c-requires : goal.value_at-c-requires
-value_at-c-requires c = record { t_bound = (c.requires.t_bound.0, omega arith, c.requires.t_bound.1, c.requires.valued); no_blank = λ e. absurd (subst T (sym e) tt) }
+value_at-c-requires c = record { in_lists = (c.requires.in_lists.0, omega arith, c.requires.in_lists.1, c.requires.valued); no_blank = λ e. absurd (subst T (sym e) tt) }

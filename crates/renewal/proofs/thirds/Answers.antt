@@ -18,13 +18,13 @@ returns c =
     (e, λ k. subst (λ (l : List ℤ). nat_abs (at l k) ≤ unit) (sym e) (at_tab (λ u. nat_abs u ≤ unit) 4 third k (λ _. value_small values (member c.args.triples.now (c.args.t + k) 2) (c.requires.valued.1 _)) (omega arith)))
 
 pub value_at-requires : goal.value_at-requires
-value_at-requires c = record { t_bound = (omega (arith, c.requires.t_bound), omega arith, omega (arith, c.requires.t_bound), c.requires.valued); no_blank = λ e. c.requires.known e _ (omega (arith, c.requires.t_bound)) }
+value_at-requires c = record { in_lists = (omega (arith, c.requires.in_lists), omega arith, omega (arith, c.requires.in_lists), c.requires.valued); no_blank = λ e. c.requires.known e _ (omega (arith, c.requires.in_lists)) }
 
 pub value_at-requires-2 : goal.value_at-requires-2
-value_at-requires-2 c = record { t_bound = (omega (arith, c.requires.t_bound), omega arith, omega (arith, c.requires.t_bound), c.requires.valued); no_blank = λ e. c.requires.known e _ (omega (arith, c.requires.t_bound)) }
+value_at-requires-2 c = record { in_lists = (omega (arith, c.requires.in_lists), omega arith, omega (arith, c.requires.in_lists), c.requires.valued); no_blank = λ e. c.requires.known e _ (omega (arith, c.requires.in_lists)) }
 
 pub value_at-requires-3 : goal.value_at-requires-3
-value_at-requires-3 c = record { t_bound = (omega (arith, c.requires.t_bound), omega arith, omega (arith, c.requires.t_bound), c.requires.valued); no_blank = λ e. c.requires.known e _ (omega (arith, c.requires.t_bound)) }
+value_at-requires-3 c = record { in_lists = (omega (arith, c.requires.in_lists), omega arith, omega (arith, c.requires.in_lists), c.requires.valued); no_blank = λ e. c.requires.known e _ (omega (arith, c.requires.in_lists)) }
 
 pub value_at-requires-4 : goal.value_at-requires-4
-value_at-requires-4 c = record { t_bound = (omega (arith, c.requires.t_bound), omega arith, omega (arith, c.requires.t_bound), c.requires.valued); no_blank = λ e. c.requires.known e _ (omega (arith, c.requires.t_bound)) }
+value_at-requires-4 c = record { in_lists = (omega (arith, c.requires.in_lists), omega arith, omega (arith, c.requires.in_lists), c.requires.valued); no_blank = λ e. c.requires.known e _ (omega (arith, c.requires.in_lists)) }

@@ -27,7 +27,7 @@ other c = by (start (goal.at.Then-known-v c).After-variable-v).args.known (start
     by false f e = λ b. eqb-false c.variable-v.result blank (not-true _ e) (c.variable-v.ensures ∙ b)
 
 below : (c : Then-known-v) → c.variable-v.result < length (start (goal.at.Then-known-v c).After-variable-v).args.values.now
-below c = by (member_is s.args.triples.now (length s.args.values.now) s.requires.t_bound.3.0 s.args.t s.args.p s.requires.t_bound.2 s.requires.t_bound.1)
+below c = by (member_is s.args.triples.now (length s.args.values.now) s.requires.in_lists.3.0 s.args.t s.args.p s.requires.in_lists.2 s.requires.in_lists.1)
   where
     s : Start
     s = start (goal.at.Then-known-v c).After-variable-v
@@ -37,13 +37,13 @@ below c = by (member_is s.args.triples.now (length s.args.values.now) s.requires
     by (inr e) = absurd (other c e)
 
 value : (c : Then-known-v) → let z = at (start (goal.at.Then-known-v c).After-variable-v).args.values.now c.variable-v.result in Worth (to_z w16 (of_z w16 z)) z unit
-value c = param w16 _ unit tt ((start (goal.at.Then-known-v c).After-variable-v).requires.t_bound.3.1 c.variable-v.result)
+value c = param w16 _ unit tt ((start (goal.at.Then-known-v c).After-variable-v).requires.in_lists.3.1 c.variable-v.result)
 
 pub returns-then-known-v : goal.returns-then-known-v
 returns-then-known-v c =
     let t = (goal.at.After-from (goal.at.returns-then-known-v c).After-from).Then-known-v in
     let v = stored (value t) w32 tt in
-    let variable : c.variable-v.result < blank = omega (arith, below t, c.requires.t_bound.3.0.few) in
+    let variable : c.variable-v.result < blank = omega (arith, below t, c.requires.in_lists.3.0.few) in
     rw c.from.ensures (v.is ∙ sym (value_variable c.args.values.now c.variable-v.result variable) ∙ ap (value_at c.args.values.now) c.variable-v.ensures, within_raw v)
 
 pub returns-else-known-v : goal.returns-else-known-v

@@ -44,7 +44,7 @@ module _ (s : Start) where
 
 pub gather-requires : goal.gather-requires
 gather-requires c =
-    record { count_bound = ((is_ready (goal.at.gather-requires c).Start).triples, c.requires.lent.members, c.requires.lent.rows); members = (rw c.requires.lent.sums c.requires.lent.below, within (goal.at.gather-requires c).Start) }
+    record { lists_long = ((is_ready (goal.at.gather-requires c).Start).triples, c.requires.lent.members, c.requires.lent.rows); members = (rw c.requires.lent.sums c.requires.lent.below, within (goal.at.gather-requires c).Start) }
 
 -- ---- S
 module _ (c : After-gather) where
@@ -69,7 +69,7 @@ write_values-requires c =
         },
         (is_ready s).weight,
       );
-      costs_in_bounds = (is_ready s).bits;
+      costs_fit = (is_ready s).bits;
     }
 
 -- ---- c

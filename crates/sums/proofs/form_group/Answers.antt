@@ -9,12 +9,12 @@ start l = (goal.at.At-loop-b l).Start
 pub copy_four-requires : goal.copy_four-requires
 copy_four-requires c =
     let s = start (goal.at.copy_four-requires c).At-loop-b in
-    (omega (arith, s.requires.n_bound), omega (arith, s.requires.n_bound), omega (arith, s.requires.n_bound), c.loop-b.invariant.1)
+    (omega (arith, s.requires.in_lists), omega (arith, s.requires.in_lists), omega (arith, s.requires.in_lists), c.loop-b.invariant.1)
 
 pub share_four-requires : goal.share_four-requires
 share_four-requires c =
     let s = start (goal.at.share_four-requires c).At-loop-b in
-    record { b_bound = (omega (arith, s.requires.n_bound), omega (arith, s.requires.n_bound), s.requires.rows_within.0); four_bound = (omega (arith, s.requires.n_bound), c.loop-b.invariant.2) }
+    record { in_lists = (omega (arith, s.requires.in_lists), omega (arith, s.requires.in_lists), s.requires.rows_within.0); in_shares = (omega (arith, s.requires.in_lists), c.loop-b.invariant.2) }
 
 pub loop-b-preserved : goal.loop-b-preserved
 loop-b-preserved c = (
@@ -30,8 +30,8 @@ returns c T f =
     let s = start (goal.at.returns c).At-loop-b in
     let e : c.loop-b.b ≡ s.args.n = omega arith in
     rw (← e) (record {
-      few = omega (arith, s.requires.n_bound);
-      room = omega (arith, s.requires.n_bound);
+      few = omega (arith, s.requires.in_lists);
+      room = omega (arith, s.requires.in_lists);
       copied = c.loop-b.invariant.3;
       shared = c.loop-b.invariant.4 T f;
     })

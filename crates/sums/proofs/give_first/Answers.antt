@@ -27,7 +27,7 @@ module _ (l : At-loop-t) where
   long = cleared.fill.auto.self
 
 pub load-requires : goal.load-requires
-load-requires c = let s = start (goal.at.load-requires c).At-loop-t in (omega (arith, s.requires.count_bound), omega (arith, s.requires.count_bound))
+load-requires c = let s = start (goal.at.load-requires c).At-loop-t in (omega (arith, s.requires.lists_long), omega (arith, s.requires.lists_long))
 
 pub shares-requires : goal.shares-requires
 shares-requires c = let s = start (goal.at.shares-requires c).At-loop-t in four_small s.args.rows.now s.requires.members.1 (λ r. 4 * c.loop-t.t + r) _ c.load.ensures
@@ -41,12 +41,12 @@ due : (c : After-shares) → let a = (start (goal.at.After-shares c).At-loop-t).
     Due a.triples.now (length (cleared (goal.at.After-shares c).At-loop-t).fill.new.self) c.loop-t.t (straight a.count a.rows.now) c.loop-t.sums a.triples.now c.loop-t.t c.shares.result
 due c =
     let s = start (goal.at.After-shares c).At-loop-t in
-    record { summed = c.loop-t.invariant.1; few = omega (arith, s.requires.count_bound); room = omega (arith, s.requires.count_bound); same = λ p _. refl; shares = formed c }
+    record { summed = c.loop-t.invariant.1; few = omega (arith, s.requires.lists_long); room = omega (arith, s.requires.lists_long); same = λ p _. refl; shares = formed c }
 
 pub give-requires : goal.give-requires
 give-requires c =
     let s = start (goal.at.give-requires c).At-loop-t in
-    record { i_bound = (omega (arith, s.requires.count_bound), omega (arith, s.requires.count_bound)); due = (_, _, _, _, due (goal.at.give-requires c).After-shares) }
+    record { in_lists = (omega (arith, s.requires.lists_long), omega (arith, s.requires.lists_long)); due = (_, _, _, _, due (goal.at.give-requires c).After-shares) }
 
 pub loop-t-preserved : goal.loop-t-preserved
 loop-t-preserved c =

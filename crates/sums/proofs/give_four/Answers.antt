@@ -49,25 +49,25 @@ three c k = summed_also (c.give_one-3.ensures _ _ _ _ (two (second c) k) (upto k
 pub give_one-requires : goal.give_one-requires
 give_one-requires c =
     let k = known (goal.at.give_one-requires c).Start in
-    record { i_bound = omega (arith, c.requires.b_bound); due = (_, _, _, _, k.summed, upto k _ (omega arith)) }
+    record { in_lists = omega (arith, c.requires.in_lists); due = (_, _, _, _, k.summed, upto k _ (omega arith)) }
 
 pub give_one-requires-2 : goal.give_one-requires-2
 give_one-requires-2 c =
     let a = start (goal.at.give_one-requires-2 c).After-give_one in
     let k = known a in
-    record { i_bound = omega (arith, a.requires.b_bound); due = (_, _, _, _, one (goal.at.give_one-requires-2 c).After-give_one k, upto k _ (omega arith)) }
+    record { in_lists = omega (arith, a.requires.in_lists); due = (_, _, _, _, one (goal.at.give_one-requires-2 c).After-give_one k, upto k _ (omega arith)) }
 
 pub give_one-requires-3 : goal.give_one-requires-3
 give_one-requires-3 c =
     let a = start (first (goal.at.give_one-requires-3 c).After-give_one-2) in
     let k = known a in
-    record { i_bound = omega (arith, a.requires.b_bound); due = (_, _, _, _, two (goal.at.give_one-requires-3 c).After-give_one-2 k, upto k _ (omega arith)) }
+    record { in_lists = omega (arith, a.requires.in_lists); due = (_, _, _, _, two (goal.at.give_one-requires-3 c).After-give_one-2 k, upto k _ (omega arith)) }
 
 pub give_one-requires-4 : goal.give_one-requires-4
 give_one-requires-4 c =
     let a = start (first (second (goal.at.give_one-requires-4 c).After-give_one-3)) in
     let k = known a in
-    record { i_bound = omega (arith, a.requires.b_bound); due = (_, _, _, _, three (goal.at.give_one-requires-4 c).After-give_one-3 k, upto k _ (omega arith)) }
+    record { in_lists = omega (arith, a.requires.in_lists); due = (_, _, _, _, three (goal.at.give_one-requires-4 c).After-give_one-3 k, upto k _ (omega arith)) }
 
 pub returns : goal.returns
 returns c ts N t s g h =

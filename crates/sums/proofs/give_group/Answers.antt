@@ -20,7 +20,7 @@ module _ (l : At-loop-b) where
 pub give_four-requires : goal.give_four-requires
 give_four-requires c =
     let s = start (goal.at.give_four-requires c).At-loop-b in
-    record { b_bound = omega (arith, s.requires.n_bound, c.loop-b-test.true); due = (_, _, _, _, now (goal.at.give_four-requires c).At-loop-b, group_fewer s.requires.due.5 _ (omega (arith, c.loop-b-test.true))) }
+    record { in_lists = omega (arith, s.requires.in_lists, c.loop-b-test.true); due = (_, _, _, _, now (goal.at.give_four-requires c).At-loop-b, group_fewer s.requires.due.5 _ (omega (arith, c.loop-b-test.true))) }
 
 pub loop-b-preserved : goal.loop-b-preserved
 loop-b-preserved c = (

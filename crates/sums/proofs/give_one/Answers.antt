@@ -13,7 +13,7 @@ due {t = t} {s = s} {q = q} i g h =
 
 pub give-requires : goal.give-requires
 give-requires c =
-    record { i_bound = (omega (arith, c.requires.i_bound), omega (arith, c.requires.i_bound)); due = (c.requires.due.0, c.requires.due.1, _, c.requires.due.3, due c.args.i c.requires.due.4 c.requires.due.5) }
+    record { in_lists = (omega (arith, c.requires.in_lists), omega (arith, c.requires.in_lists)); due = (c.requires.due.0, c.requires.due.1, _, c.requires.due.3, due c.args.i c.requires.due.4 c.requires.due.5) }
 
 pub returns : goal.returns
 returns c ts N t s g h =

@@ -22,7 +22,7 @@ abbrev t : Start → ℕ
 t s = s.args.t + 4 * s.args.b
 
 pub load_four-s-requires : asked.load_four-s-requires
-load_four-s-requires c = (omega (arith, c.requires.b_bound.0), omega (arith, c.requires.b_bound.1), λ i _. reached (rs c) c.requires.b_bound.2 i)
+load_four-s-requires c = (omega (arith, c.requires.in_lists.0), omega (arith, c.requires.in_lists.1), λ i _. reached (rs c) c.requires.in_lists.2 i)
 
 -- ---- the shares
 -- the rows of triple k of the four
@@ -30,7 +30,7 @@ lane_is : (c : After-load_four-s) (k : ℕ) → k < 4 → get_or c.load_four-s.r
 lane_is c k h = ap (λ (q : List (List ℤ)). get_or q k []) c.load_four-s.ensures ∙ get_or_tab 4 (lane (rs (asked.at.After-load_four-s c).Start) (t (asked.at.After-load_four-s c).Start)) k [] h
 
 small : (c : After-load_four-s) (k : ℕ) → k < 4 → (r : ℕ) → nat_abs (at (get_or c.load_four-s.result k []) r) ≤ most_row
-small c k h = four_small (rs (asked.at.After-load_four-s c).Start) c.requires.b_bound.2 (λ r. 4 * (t (asked.at.After-load_four-s c).Start + r) + k) _ (lane_is c k h)
+small c k h = four_small (rs (asked.at.After-load_four-s c).Start) c.requires.in_lists.2 (λ r. 4 * (t (asked.at.After-load_four-s c).Start + r) + k) _ (lane_is c k h)
 
 abbrev loaded : After-shares-h → After-load_four-s
 loaded c = (asked.at.After-shares-h c).After-load_four-s
@@ -64,14 +64,14 @@ stores : (c : After-shares-h) (p : ℕ) → p < 3 → (r : ℕ) → nat_abs (at 
 stores c p h r =
     let s = start c in
     rw (four_is c p h) (at_tab (λ z. nat_abs z ≤ 4 * most_row) 4 (goal c p) r
-    (λ _. share_small (lane (rs s) (t s) r) 0 p h (λ i. four_small (rs s) s.requires.b_bound.2 (λ i. 4 * (t s + i) + r) _ refl (4 * 0 + i))) (omega arith))
+    (λ _. share_small (lane (rs s) (t s) r) 0 p h (λ i. four_small (rs s) s.requires.in_lists.2 (λ i. 4 * (t s + i) + r) _ refl (4 * 0 + i))) (omega arith))
 
 abbrev first : After-store-arg-5-1 → After-shares-h
 first c = (asked.at.After-store-arg-5-1 c).After-shares-h
 
 pub store-requires : asked.store-requires
 unfolding four
-store-requires c = let s = start (first c) in record { t_bound = (omega (arith, s.requires.four_bound), omega (arith, s.requires.four_bound)); rows_bound = stores (first c) 0 (omega arith) }
+store-requires c = let s = start (first c) in record { in_lists = (omega (arith, s.requires.in_shares), omega (arith, s.requires.in_shares)); bounded = stores (first c) 0 (omega arith) }
 
 abbrev second : After-store-arg-10-1 → After-store
 second c = (asked.at.After-store-arg-10-1 c).After-store
@@ -81,7 +81,7 @@ unfolding four
 store-requires-2 c =
     let x = second c in
     let s = start (first (asked.at.After-store x).After-store-arg-5-1) in
-    record { t_bound = (omega (arith, s.requires.four_bound), omega (arith, s.requires.four_bound, x.store.auto.rows)); rows_bound = stores (first (asked.at.After-store x).After-store-arg-5-1) 1 (omega arith) }
+    record { in_lists = (omega (arith, s.requires.in_shares), omega (arith, s.requires.in_shares, x.store.auto.rows)); bounded = stores (first (asked.at.After-store x).After-store-arg-5-1) 1 (omega arith) }
 
 abbrev third : After-store-arg-15-1 → After-store-2
 third c = (asked.at.After-store-arg-15-1 c).After-store-2
@@ -92,7 +92,7 @@ store-requires-3 c =
     let y = third c in
     let x = second (asked.at.After-store-2 y).After-store-arg-10-1 in
     let s = start (first (asked.at.After-store x).After-store-arg-5-1) in
-    record { t_bound = (omega (arith, s.requires.four_bound), omega (arith, s.requires.four_bound, x.store.auto.rows, y.store-2.auto.rows)); rows_bound = stores (first (asked.at.After-store x).After-store-arg-5-1) 2 (omega arith) }
+    record { in_lists = (omega (arith, s.requires.in_shares), omega (arith, s.requires.in_shares, x.store.auto.rows, y.store-2.auto.rows)); bounded = stores (first (asked.at.After-store x).After-store-arg-5-1) 2 (omega arith) }
 
 -- ---- each in its place
 shared : (s : Start) (T : ℕ) → InFours T s.args.t (4 * (s.args.b + 1)) → (p k : ℕ) → k < 4
@@ -109,7 +109,7 @@ returns c T f g =
     let x = second (asked.at.After-store-2 y).After-store-arg-10-1 in
     let e = first (asked.at.After-store x).After-store-arg-5-1 in
     let s = start e in
-    shared_next (straight T (rs s)) s.args.t s.args.b (goal e) s.requires.four_bound.0 (λ p k _ h. shared s T f p k h) s.args.shares.now _ _ _ s.requires.four_bound.1 g
+    shared_next (straight T (rs s)) s.args.t s.args.b (goal e) s.requires.in_shares.0 (λ p k _ h. shared s T f p k h) s.args.shares.now _ _ _ s.requires.in_shares.1 g
     (x.store.ensures ∙ ap (sets s.args.shares.now (4 * s.args.b)) (four_is e 0 (omega arith)))
     (y.store-2.ensures ∙ ap (sets x.store.new.rows (4 * (8 + s.args.b))) (four_is e 1 (omega arith)))
     (c.store-3.ensures ∙ ap (sets y.store-2.new.rows (4 * (16 + s.args.b))) (four_is e 2 (omega arith)))

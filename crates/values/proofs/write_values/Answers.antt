@@ -26,10 +26,10 @@ write_range-requires-2 c =
     let s = start (goal.at.write_range-requires-2 c).After-write_range in
     let g = s.requires.given.0 in
     let e = c.write_range.auto.values in
-    rw (e, none_left s.args.costs.now) (record { given = (record { sums_long = g.sums_long; counts_long = g.counts_long; sum = g.sum; cost = λ v h. omega arith; some = g.some; few = g.few }, s.requires.given.1); from_le_to = (s.requires.costs_in_bounds, omega arith) })
+    rw (e, none_left s.args.costs.now) (record { given = (record { sums_long = g.sums_long; counts_long = g.counts_long; sum = g.sum; cost = λ v h. omega arith; some = g.some; few = g.few }, s.requires.given.1); from_le_to = (s.requires.costs_fit, omega arith) })
 
 pub returns : goal.returns
 returns c =
     let costs = (start (goal.at.returns c).After-write_range).args.costs.now in
     let second = rw (none_left costs) at c.write_range-2.ensures in
-    both_ranges (f (goal.at.returns c).After-write_range costs) (f (goal.at.returns c).After-write_range []) (length costs) (start (goal.at.returns c).After-write_range).args.values.now _ _ (start (goal.at.returns c).After-write_range).requires.costs_in_bounds (λ i. rw (no_cost costs i)) c.write_range.ensures second
+    both_ranges (f (goal.at.returns c).After-write_range costs) (f (goal.at.returns c).After-write_range []) (length costs) (start (goal.at.returns c).After-write_range).args.values.now _ _ (start (goal.at.returns c).After-write_range).requires.costs_fit (λ i. rw (no_cost costs i)) c.write_range.ensures second
