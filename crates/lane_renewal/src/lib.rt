@@ -120,6 +120,7 @@ fn renew_counted(
 {
     let p = walk.plan;
     let mut before = [0i32; 256];
+    // A `while`: it also ends where a total of every frame exceeds the tolerance, and tells where.
     let mut t = 0;
     while (t < p.triples) & some_within(running, tolerance, totals, from, to) {
         let n = if p.triples - t < BLOCK {

@@ -265,8 +265,8 @@ pub fn renew_range(
     ensures beside { (l j : ℕ) → l < p.lanes → (l < from) ⊎ (to ≤ l)
         → in_lane p.lanes work.new l j ≡ in_lane p.lanes work.old l j }
 {
-    let values = lanes::values_at(p);
-    let next = lanes::sums_at(p, i);
+    let values = p.values_at();
+    let next = p.sums_at(i);
     if known {
         walk_all::<true>(triples, counts, p, values, next, from, to, t, end, work);
     } else {

@@ -75,7 +75,7 @@ fn write_narrow(
     }
 }
 
-// The same of auxiliaries, which have no cost.
+// The same of auxiliaries, which have no cost. Apart, since what is read and how it is divided differ, and only the loop is the same.
 fn write_auxiliaries(
     work: &mut [i32],
     sums: usize,
@@ -162,6 +162,7 @@ fn same_blocks(counts: &[u16], v: usize, end: usize) -> usize
     requires { (v < end) × (end ≤ length counts.now) }
     ensures { (v < result) × (result ≤ end) × Same counts.now v v result }
 {
+    // A `while`: where a block ends is wanted besides where the next one begins.
     let mut u = v + 1;
     while u < end {
         let e = block_end(u, end);
@@ -178,12 +179,10 @@ fn same_until(counts: &[u16], v: usize, end: usize) -> usize
     requires { (v < end) × (end ≤ length counts.now) }
     ensures { (v < result) × (result ≤ end) × Same counts.now v v result }
 {
-    let mut u = same_blocks(counts, v, end);
-    while u < end {
+    for u in same_blocks(counts, v, end)..end {
         if counts[u] != counts[v] {
             return u;
         }
-        u += 1;
     }
     end
 }
@@ -245,6 +244,7 @@ fn write_all_bits(counts: &[u16], divisors: &Divisors, p: Plan, i: usize, work: 
     ensures { Stored 3 (bit_parts p i) (bit_value p counts.now divisors.now.any i work.old) 0 (p.lanes * p.bits)
         work.old work.new }
 {
+    // A `while`: it steps from one count to the next.
     let mut v = 0;
     while v < p.bits {
         let end = same_until(counts, v, p.bits);

@@ -50,33 +50,3 @@ impl Plan {
         self.lanes * (4 * self.triples + 3 * self.variables + 3 * self.bits)
     }
 }
-
-// The same as functions, for lane_triples and group until they call the methods.
-
-pub fn values_at(p: Plan) -> usize
-    requires { (p.lanes ≤ 8) × (p.triples ≤ most_triples) }
-    ensures { result ≡ p.lanes * values_at p }
-{
-    p.values_at()
-}
-
-pub fn sums_at(p: Plan, i: usize) -> usize
-    requires { (p.lanes ≤ 8) × (p.triples ≤ most_triples) × (p.variables ≤ most_variables) × (p.bits ≤ p.variables) × (i ≤ 2) }
-    ensures { result ≡ p.lanes * sums_at p i }
-{
-    p.sums_at(i)
-}
-
-pub fn weighed_at(p: Plan) -> usize
-    requires { (p.lanes ≤ 8) × (p.triples ≤ most_triples) × (p.variables ≤ most_variables) × (p.bits ≤ p.variables) }
-    ensures { result ≡ p.lanes * weighed_at p }
-{
-    p.weighed_at()
-}
-
-pub fn size(p: Plan) -> usize
-    requires { (p.lanes ≤ 8) × (p.triples ≤ most_triples) × (p.variables ≤ most_variables) × (p.bits ≤ p.variables) }
-    ensures { result ≡ p.lanes * lane_size p }
-{
-    p.size()
-}
