@@ -1,7 +1,7 @@
 -- The rows of T triples, as one triple or four triples after the other are renewed with the values c. Assumes nothing.
-use Rattle.integers.proofs.Prelude.{◌≡◌, refl, sym, ap, ap₂, subst, ◌∙◌, Bool, true, false, cond, not, ◌&&◌, List, [], ◌∷◌, ℕ, ◌+◌, ◌-◌, ◌*◌, ◌/◌, ◌%◌, ◌^◌, ◌≤◌, ◌<◌}
+use Rattle.integers.proofs.Prelude.{◌≡◌, refl, sym, ap, ap₂, subst, ◌∙◌, Bool, true, false, cond, not, ◌&&◌, List, ℕ, ◌+◌, ◌-◌, ◌*◌, ◌/◌, ◌%◌, ◌^◌, ◌≤◌, ◌<◌}
 use Rattle.integers.proofs.Prelude.{arith, eqb, eqb-false, not-true, dec_lt, ltb-true, ltb-false, lt-ltb, le-ltb, le-leb, ltb, leb, ℤ, pos, negsuc, nat_abs}
-use Rattle.integers.proofs.Prelude.{◌*ℤ◌, length, get_or, sets}
+use Rattle.integers.proofs.Prelude.{◌*ℤ◌, length, sets}
 use native.Mathlib.Nat.{mul-le-mul}
 use Rattle.integers.specs.Sum.{sum_ℕ}
 use Rattle.integers.proofs.Sums.{sum_ℕ_same, sum_ℕ_split, sum_ℕ_bound, sum_ℕ_swap, sum_ℕ_fours}

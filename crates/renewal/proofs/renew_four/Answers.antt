@@ -1,5 +1,5 @@
 -- `renewal::renew_four` meets its contract. Assumes nothing.
-use Rattle.integers.proofs.Prelude.{◌≡◌, ap, ap₂, ◌∙◌, List, [], ◌∷◌, ◌+◌, arith, rules, ℤ}
+use Rattle.integers.proofs.Prelude.{◌≡◌, ap, ◌∙◌, List, ◌+◌, arith, rules, ℤ}
 use Rattle.lists.specs.Tabulated.{tab}
 use Rattle.model.specs.Iteration.{at, sum_at, renewed}
 use Rattle.layout.specs.Transposed.{cell, stored}

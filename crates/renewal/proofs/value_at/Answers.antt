@@ -1,7 +1,7 @@
 -- `renewal::value_at` meets its contract: a variable's value, or the blank's. Assumes nothing.
 use Rattle.integers.proofs.Prelude.{◌≡◌, refl, sym, ap, ◌∙◌, Bool, true, false, not, ◌||◌, ℕ, ◌<◌, arith, rules, eqb-true, eqb-false, eqb, not-false, not-true, length, w16, w32, to_z, of_z}
 use mathlib.Core.Logic.{◌⊎◌, inl, inr}
-use Rattle.integers.proofs.Machine.{Worth, fits, stored, param, within_raw}
+use Rattle.integers.proofs.Machine.{Worth, stored, param, within_raw}
 use Rattle.quotient.specs.Quotient.{unit}
 use Rattle.model.specs.Splitting.{blank, member}
 use Rattle.model.specs.Iteration.{at, value_at}
