@@ -38,7 +38,7 @@ fn answer(
     lines::line(decoded, &held.word[..bits], out)
 }
 
-// What is written for a frame, and whether the program goes on.
+// What is written for a frame, and whether the program goes on, which it also does after a refusal: so no Result.
 #[derive(Drop)]
 pub struct Line {
     pub written: usize,

@@ -136,7 +136,7 @@ fn erasing(pair: Erasure, samples: &[f32], costs: &mut [i16])
     }
 }
 
-// A hard setting is an erasing one whose floor erases nothing.
+// A hard setting is an erasing one whose floor erases nothing. Each asks for the room, which `front` has looked at: a type for it would serve these three alone.
 fn fill(setting: Channel, samples: &[f32], costs: &mut [i16])
     requires setting { in_range setting ≡ true }
     requires samples { some (λ x. not (finite x)) samples.now ≡ false }

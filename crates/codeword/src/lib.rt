@@ -57,7 +57,7 @@ fn parity(x: u8, y: u8) -> u8
     ((usize::from(x) + usize::from(y)) % 2) as u8
 }
 
-// The auxiliaries of the check, from `next` on: each from the two items of the queue that it is made of.
+// The auxiliaries of the check, from `next` on: each from the two items of the queue that it is made of, which may be auxiliaries written before it.
 fn write_auxiliaries(check: &Check, next: usize, point: &mut [u8])
     requires sound { SoundCheck next check.now × (next ≤ most_variables) }
     requires room { next + turns check.now ≤ length point.old }

@@ -103,7 +103,7 @@ fn begin_frames(costs: &[i16], bits: usize, frames: usize, stages: &mut [Stage; 
     }
 }
 
-// The triples and the counts of the code are written, and the frames without a false cost are run.
+// The triples and the counts of the code are written, and the frames without a false cost are run. By slices, as below.
 fn run_system(
     code: &Code,
     settings: Settings,

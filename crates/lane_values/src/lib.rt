@@ -187,7 +187,8 @@ fn same_until(counts: &[u16], v: usize, end: usize) -> usize
     end
 }
 
-// The variables from v to `end`, which are bits and in equally many triples.
+// The variables from v to `end`, which are bits and in equally many triples. The plan, the list of sums and the work list go
+// apart: the loops above want a slice and numbers.
 fn write_bits(
     counts: &[u16],
     divisors: &Divisors,

@@ -77,7 +77,7 @@ fn write_refusal(cause: u32, out: &mut Writer)
     out.field(cause as usize, b'\n');
 }
 
-// The line of a refusal; how many bytes it has.
+// The line of a refusal; how many bytes it has. Of any number: the definition has a line for each.
 pub fn refusal(cause: u32, out: &mut [u8]) -> usize
     requires { 128 ≤ length out.old }
     ensures { Appended 0 (Frames.refusal cause) out.old out.new result }

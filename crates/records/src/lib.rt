@@ -50,7 +50,7 @@ pub fn after_header(code: &[u8]) -> &[u8]
     &code[6..]
 }
 
-// The degree of the check record that `s` begins with.
+// The degree of the check record that `s` begins with. Of any bytes: a stream's check is looked at before it is whole, so no `reader::Check` is there.
 #[tactic(auto, using(model::proofs::Accepted::length_numbers))]
 pub fn degree(s: &[u8]) -> usize
     requires { 3 ≤ length s.now }

@@ -173,6 +173,7 @@ fn with_four(totals: Totals, old: [[i32; 4]; 4], new: [[i32; 4]; 4]) -> Totals
 }
 
 // ---- all
+// These take slices and numbers, and each asks of them what it needs: through a struct of the lists their pointers would be read again in every turn.
 
 // The first triples, whose rows are not transposed, are renewed. Not the loop of the fours: their rows stand otherwise.
 fn renew_first(triples: &[u16], values: &[i16], rows: &mut [i32], count: usize) -> Totals

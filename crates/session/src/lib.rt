@@ -133,7 +133,7 @@ fn check(state: State, came: usize, buffer: &[u8; BUFFER], out: &mut [u8; LINE])
     }
 }
 
-// One more check is kept: the next is due, or the settings once the code is judged.
+// One more check is kept: the next is due, or the settings once the code is judged. `at` is what the next state keeps.
 fn keep(at: usize, left: usize, triples: usize, buffer: &[u8; BUFFER], out: &mut [u8; LINE]) -> Step
     requires { Begun left triples (take at buffer.now) × (at ≤ buffer_size) }
     ensures { Entered buffer.now at result out.new }
@@ -248,7 +248,8 @@ fn frame(
 
 // ---- a turn
 
-// `came` bytes came to the buffer, behind those that are kept: the next state, and what is to be written, at the beginning of `out`.
+// `came` bytes came to the buffer, behind those that are kept: the next state, and what is to be written, at the beginning of `out`. A `match` and no closures: each part
+// has its own condition and promise.
 pub fn advance(
     state: State,
     came: usize,

@@ -29,7 +29,7 @@ pub fn row_degrees(code: &Code, degrees: &mut [u16]) -> usize
     sum
 }
 
-// The bits of a check, from 1, from `at` on; where the next index goes.
+// The bits of a check, from 1, from `at` on; where the next index goes. The rows stand one behind the other, each as long as its check.
 fn row(check: &Check, entries: &mut [u16], at: usize) -> usize
     requires { at + length check.now ≤ length entries.old }
     ensures { Appended at (map suc check.now) entries.old entries.new result }

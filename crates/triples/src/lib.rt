@@ -32,7 +32,7 @@ pub fn item(check: &Check, next: usize, i: usize) -> u16
     }
 }
 
-// Triple t of that check: items 2t and 2t + 1, and the third.
+// Triple t of that check: items 2t and 2t + 1, and the third. By index: what is written stands at a place that is worked out.
 fn put(check: &Check, next: usize, t: usize, third: u16, out: &mut [u16])
     requires auxiliary { next ≤ most_variables }
     requires within { 2 * t + 1 < length (waiting check.now) + turns check.now }
