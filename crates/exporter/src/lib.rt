@@ -140,8 +140,8 @@ fn write_head(columns: &[u16], rows: &[u16], text: &mut Writer)
     write_list(rows, checks, text);
 }
 
-// The bytes of the text of a code, by lists for its sides: a number for each bit, the degrees of the checks, and a number for each place. Not by a struct: `sides` takes
-// them one by one, and two are written while the third is read.
+// The bytes of the text of a code, by lists for its sides: a number for each bit, the degrees of the checks, and a number for each place. Not by a struct:
+// `sides` takes them one by one, and two are written while the third is read.
 fn measure_in(code: &Code, columns: &mut [u16], rows: &[u16], entries: &mut [u16]) -> usize
     requires { Lists code.now columns.old rows.now entries.old }
     ensures { result ≡ length (alist_of code.now) }

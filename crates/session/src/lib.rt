@@ -248,8 +248,8 @@ fn frame(
 
 // ---- a turn
 
-// `came` bytes came to the buffer, behind those that are kept: the next state, and what is to be written, at the beginning of `out`. A `match` and no closures: each part
-// has its own condition and promise.
+// `came` bytes came to the buffer, behind those that are kept: the next state, and what is to be written, at the beginning of `out`.
+// A `match` and no closures: each part has its own condition and promise.
 pub fn advance(
     state: State,
     came: usize,
