@@ -32,7 +32,7 @@ fn first_lane(running: &[bool; 8]) -> usize
     if some_run(running, 0) { 0 } else { 4 }
 }
 
-// and where they end.
+// and where they end. One function with the four as a parameter would be called with 0, 4 and 4, 8: no plainer.
 fn end_of_lanes(running: &[bool; 8]) -> usize
     ensures { result ≡ cond (some_run running.now 4) 8 4 }
 {

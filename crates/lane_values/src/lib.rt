@@ -17,7 +17,7 @@ use quotient::Narrow;
 // So many counts are compared at once.
 const BLOCK: usize = 64;
 
-// "256 × e − A", for a variable in `count` triples
+// "256 × e − A", for a variable in `count` triples. Not the function of `values`: here the range of a narrow divisor is promised too.
 fn divisor(count: usize, ratio: u32) -> i64
     requires { (2 ≤ count) × (count ≤ most_narrow) × (ratio ≤ most_ratio) }
     ensures value { result ≡ divisor (4 * count) ratio }
@@ -96,7 +96,7 @@ fn write_auxiliaries(
     }
 }
 
-// "256 × S + W × L", of the two parts of S.
+// "256 × S + W × L", of the two parts of S. By `as`: with `From` the check does not find that the sum fits.
 fn weighed_whole(low: i32, high: i32, weighed: i32) -> i64
     ensures { result ≡ pos 256 *ℤ (low +ℤ pos (2 ^ 14) *ℤ high) +ℤ weighed }
 {
