@@ -1,7 +1,7 @@
 // Examples of calls of the decoder.
 use crate::cost_calls::costs;
 use crate::fields::Numbers;
-use crate::show::{ends, lent, list, number, placed, refused, text};
+use crate::show::{ends, front, lent, list, number, placed, refused, text};
 use model::{Cause, Conclusion, Decoding, Lists, Settings};
 
 fn setting(x: usize) -> u32 {
@@ -82,12 +82,12 @@ pub fn decoding_long(code: &[u8], given: &[u8], frame: &[u8]) {
         word: &mut word,
     };
     answer(decoder::decode(code, settings(given), &costs[..frame.count], &mut lists));
-    list(b", triples", &triples[..8]);
+    front(b", triples", &triples, 8);
     ends(b", counts", &counts);
     ends(b", S", &sums);
     ends(b", c", &values);
-    list(b", s", &rows[..10]);
-    list(b", word", &word[..4]);
+    front(b", s", &rows, 10);
+    front(b", word", &word, 4);
 }
 
 pub fn each_list(lists: &Lists) {

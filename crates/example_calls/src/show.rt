@@ -61,6 +61,14 @@ pub fn list<T: Copy + Into<i64>>(name: &[u8], entries: &[T]) {
     }
 }
 
+// The first `n` of a list's entries.
+pub fn front<T: Copy + Into<i64>>(name: &[u8], entries: &[T], n: usize) {
+    text(name);
+    for entry in entries.iter().take(n) {
+        signed((*entry).into());
+    }
+}
+
 // Of a list of 65,536 entries, the first four and the last.
 pub fn ends<T: Copy + Into<i64>>(name: &[u8], entries: &[T])
     requires { length entries.now ≡ 65536 }
