@@ -15,7 +15,7 @@ ghost use Rattle.model.specs.Calls.{forbidden, lists_of, run_told};
 ghost use Rattle.model.specs.Lent.{contents_of, SameLists};
 ghost use Rattle.model.specs.DecoderClaims.{Small};
 ghost use Rattle.model.specs.Group as Group;
-ghost use Rattle.model.specs.Group.{group_causes, group_told, group_decoded, no_group_room};
+ghost use Rattle.model.specs.Group.{group_causes, group_decoded, no_group_room};
 ghost use Rattle.model.specs.GroupPromises.{GroupCall};
 ghost use Rattle.group_step.specs.Frames.{iterations, stop_of};
 ghost use Rattle.group_step.specs.declared.Stage.TheVariants.{Idle};
@@ -24,7 +24,7 @@ ghost use Rattle.group.specs.Ends.{plan_of, stage_for, AcceptedGroup, Ran, answe
 
 use group_step::Stage;
 use lanes::Plan;
-use model::{Cause, DecodeAnswer, Decoding, Ending, GroupAnswer, Lists, MOST_FRAMES, Settings};
+use model::{Cause, DecodeAnswer, Decoding, Ending, Lists, MOST_FRAMES, Settings};
 use reader::Code;
 
 // ---- the causes
@@ -247,19 +247,6 @@ fn decode_accepted(
 }
 
 // ---- the entry
-
-// What C is told of a group.
-pub fn answer(decoded: Result<[DecodeAnswer; 8], Cause>) -> GroupAnswer
-    ensures { (l : Calls.Lists) → group_told result l ≡ told decoded l }
-{
-    match decoded {
-        Ok(frames) => GroupAnswer { number: 0, frames },
-        Err(cause) => GroupAnswer {
-            number: cause.number(),
-            frames: [nothing(); 8],
-        },
-    }
-}
 
 // The decoder of a group, in lists with room for all frames (`Lists`) and a list of work; or the first cause, of the code, then 11, 21, 12 and 10. A refused call
 // leaves every list as it was; a frame with a cost of -32,768 has 13, and its parts stay. What the list of work holds after an accepted call is open.

@@ -214,7 +214,7 @@ fn run_all(settings: Settings, costs: &[i16], frames: &mut Frames, work: &mut [i
 }
 
 // Each frame that runs, to its end: its iterations, its stop and its parts of S, c and s are those of a run by itself. What the others have stays.
-// By slices: `Frames`, which everything below takes, is made here, of parts of the lists that the caller lends.
+// By slices: `Frames`, which the functions above take, is made here, of parts of the lists that the caller lends.
 pub fn run(
     settings: Settings,
     triples: &[u16],

@@ -17,7 +17,7 @@ use lanes::{MOST_NARROW, Plan};
 use model::BLANK;
 
 // ---- one triple, in four lanes
-// By places in the one work list: two parts of a list cannot be lent at the same time.
+// By places in the one work list, which `lanes::Plan` lays out.
 
 // Its rows, of which the first stand at i and each of the others `lanes` further.
 fn load_rows(work: &[i32], lanes: usize, i: usize) -> [[i32; 4]; 4]

@@ -123,7 +123,7 @@ fn run_from(
 }
 
 // The run of the system that the lists hold, from the start, where each row is 0.
-// By slices: both callers lend parts of longer lists, and would make a struct for this one call.
+// By slices: the decoder lends parts of longer lists, and would make a struct for this one call.
 pub fn run(
     settings: Settings,
     triples: &[u16],

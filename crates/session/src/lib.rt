@@ -249,7 +249,7 @@ fn frame(
 // ---- a turn
 
 // `came` bytes came to the buffer, behind those that are kept: the next state, and what is to be written, at the beginning of `out`.
-// A `match` and no closures: each part has its own condition and promise.
+// A `match` and no closures: each part has its own condition.
 pub fn advance(
     state: State,
     came: usize,
