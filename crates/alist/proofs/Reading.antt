@@ -19,9 +19,9 @@ pub none_then : {A : Type 0} (t : Bool) (x : A) → None ≡ then_some t x → t
 none_then true x e = absurd (cc)
 none_then false x e = refl
 
-pub map_then : {A B : Type 0} (f : A → B) (t : Bool) (x : A) → option_map f (then_some t x) ≡ then_some t (f x)
-map_then f true x = refl
-map_then f false x = refl
+pub map_then : {A B : Type 0} (f : A → B) (t : Bool) (x : A) {o : Option B} → then_some t (f x) ≡ o → option_map f (then_some t x) ≡ o
+map_then f true x e = e
+map_then f false x e = e
 
 -- no form
 pub refused : {l k : List ℕ} → l ≡ k → (Parts l → ⊥) → None ≡ form_of k

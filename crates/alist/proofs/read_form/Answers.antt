@@ -44,5 +44,5 @@ returns-in_err-rest c =
 pub returns : goal.returns
 returns c =
     rw c.then_some.ensures
-    (map_then sides_of _ _ ∙ read c.in_ok-sizes.ensures.found c.from.ensures c.in_ok-largest.ensures.found c.if-branch-sizes.false c.from-2.ensures
-    c.in_ok-largest-2.ensures.found c.if-branch-sizes-2.false c.again-column_degrees.ensures c.again-row_degrees.ensures c.new-columns.ensures c.in_ok-row_lists.ensures c.new-rows.ensures c.in_ok-rest.ensures c.new-numbers.ensures _ c.is_empty.ensures)
+    (map_then sides_of _ _ (read c.in_ok-sizes.ensures.found c.from.ensures c.in_ok-largest.ensures.found c.if-branch-sizes.false c.from-2.ensures
+    c.in_ok-largest-2.ensures.found c.if-branch-sizes-2.false c.again-column_degrees.ensures c.again-row_degrees.ensures c.new-columns.ensures c.in_ok-row_lists.ensures c.new-rows.ensures c.in_ok-rest.ensures c.new-numbers.ensures _ c.is_empty.ensures))
