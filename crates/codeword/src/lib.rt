@@ -71,13 +71,23 @@ fn write_auxiliaries(check: &Check, next: usize, point: &mut [u8])
     }
 }
 
+// The word at the front of the point. By index: `copy_from_slice` is a `memmove`, a name that the library for C would then need from outside.
+fn copy(word: &[u8], point: &mut [u8])
+    requires { length word.now ≤ length point.old }
+    ensures { point.new ≡ written word.now point.old }
+{
+    for (v, bit) in word.iter().enumerate() {
+        point[v] = *bit;
+    }
+}
+
 // The point of a word of the code.
 fn write_point(code: &Code, word: &[u8], point: &mut [u8])
     requires word { length word.now ≡ code.now.bits }
     requires room { variables code.now ≤ length point.old }
     ensures { point.new ≡ written (point_of code.now word.now) point.old }
 {
-    point[..word.len()].copy_from_slice(word);
+    copy(word, point);
     let mut next = word.len();
     for check in code.checks() {
         write_auxiliaries(&check, next, point);

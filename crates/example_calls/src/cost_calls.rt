@@ -47,9 +47,11 @@ fn cost(x: usize) -> i16 {
     stream::twos_complement(x % 65536)
 }
 
-// Eight costs.
-pub fn costs(given: Numbers) -> [i16; 8] {
-    given.values.map(cost)
+// Eight costs, and nines behind them.
+pub fn costs(values: [usize; 8]) -> [i16; 16] {
+    let mut costs = [9i16; 16];
+    costs[..8].copy_from_slice(&values.map(cost));
+    costs
 }
 
 // Reflects the costs to a list of `m` entries; the list.
@@ -64,7 +66,7 @@ fn reflected(costs: &[i16], word: &[u8], m: usize) -> [i16; 16]
 
 pub fn reflecting(given: &[u8], word: &[u8], rooms: &[u8]) {
     let given = Numbers::read(given, 10);
-    reflected(&costs(given)[..given.count], word, room(rooms));
+    reflected(&costs(given.values)[..given.count], word, room(rooms));
 }
 
 // ---- sums of words, and chains
@@ -86,7 +88,7 @@ pub fn adding(word: &[u8], other: &[u8], rooms: &[u8]) {
 pub fn chaining(given: &[u8], word: &[u8], other: &[u8]) {
     let given = Numbers::read(given, 10);
     let n = given.count;
-    let costs = costs(given);
+    let costs = costs(given.values);
     text(b" first");
     let first = reflected(&costs[..n], word, n);
     text(b"; second");

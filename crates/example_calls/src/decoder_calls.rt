@@ -43,7 +43,7 @@ pub fn decoding(given: &[u8], frame: &[u8], rooms: &[u8], mark: u8) {
 
 pub fn decoding_code(code: &[u8], given: &[u8], frame: &[u8], rooms: &[u8]) {
     let frame = Numbers::read(frame, 10);
-    let costs = costs(frame);
+    let costs = costs(frame.values);
     let [t, e, s, c, r, w, ..] = Numbers::read(rooms, 10).values.map(lent);
     let mut triples = [9u16; 16];
     let mut counts = [9u16; 16];
@@ -66,7 +66,7 @@ pub fn decoding_code(code: &[u8], given: &[u8], frame: &[u8], rooms: &[u8]) {
 // The last of the counts, of S and of c stands at the blank's index.
 pub fn decoding_long(code: &[u8], given: &[u8], frame: &[u8]) {
     let frame = Numbers::read(frame, 10);
-    let costs = costs(frame);
+    let costs = costs(frame.values);
     let mut triples = [9u16; 16];
     let mut counts = [9u16; 65536];
     let mut sums = [9i64; 65536];

@@ -11,46 +11,53 @@ pub struct Numbers {
     ghost few: { count ≤ 8 },
 }
 
-// The number with these digits, modulo 2^32.
-fn natural(digits: &[u8], base: u32) -> usize
-    requires { (2 ≤ base) × (base ≤ 16) }
-{
+// The digit of this base that a byte is, if it is one: 0 to 9, then a to f.
+fn digit(byte: u8, base: u32) -> Option<u32> {
+    let digit = match byte {
+        b'0'..=b'9' => u32::from(byte - b'0'),
+        b'a'..=b'f' => u32::from(byte - b'a') + 10,
+        _ => return None,
+    };
+    if digit < base { Some(digit) } else { None }
+}
+
+// The number with the digits that a text begins with, modulo 2^32, and what stands behind the byte that ends it.
+fn natural(text: &[u8], base: u32) -> (u32, &[u8]) {
     let mut value = 0u32;
-    for byte in digits {
-        let digit = char::from(*byte).to_digit(base).unwrap_or(0);
-        value = value.wrapping_mul(base).wrapping_add(digit);
+    for (i, byte) in text.iter().enumerate() {
+        match digit(*byte, base) {
+            Some(digit) => value = value.wrapping_mul(base).wrapping_add(digit),
+            None => return (value, &text[i + 1..]),
+        }
     }
-    value as usize
+    (value, &[])
 }
 
 // The same behind a minus sign, as a two-byte number in two's complement.
-fn whole(text: &[u8], base: u32) -> usize
-    requires { (2 ≤ base) × (base ≤ 16) }
-{
+fn whole(text: &[u8], base: u32) -> (u32, &[u8]) {
     match text {
-        [b'-', digits @ ..] => (65536 - natural(digits, base) % 65536) % 65536,
+        [b'-', digits @ ..] => {
+            let (value, rest) = natural(digits, base);
+            ((65536 - value % 65536) % 65536, rest)
+        }
         _ => natural(text, base),
     }
 }
 
 impl Numbers {
     // The numbers of a field.
-    pub fn read(field: &[u8], base: u32) -> Numbers
-        requires { (2 ≤ base) × (base ≤ 16) }
-    {
-        let mut values = [0; 8];
-        let mut count = 0;
-        if field.is_empty() {
-            return Numbers { values, count };
-        }
-        for text in field.split(|byte| *byte == b' ') {
-            if count == 8 {
-                break;
+    pub fn read(field: &[u8], base: u32) -> Numbers {
+        let mut values = [0usize; 8];
+        let mut rest = field;
+        for count in 0..8 {
+            if rest.is_empty() {
+                return Numbers { values, count };
             }
-            values[count] = whole(text, base);
-            count += 1;
+            let (value, behind) = whole(rest, base);
+            values[count] = value as usize;
+            rest = behind;
         }
-        Numbers { values, count }
+        Numbers { values, count: 8 }
     }
 }
 

@@ -1,5 +1,5 @@
 // What is printed.
-ghost use Rattle.std.specs.Prelude.{◌≡◌, ◌≤◌, length};
+ghost use Rattle.std.specs.Prelude.{◌≤◌};
 
 use model::Cause;
 
@@ -13,12 +13,12 @@ pub fn number(x: usize) {
 }
 
 // Why a call is refused.
-pub fn refused(cause: Cause) {
+pub(crate) fn refused(cause: Cause) {
     number(cause.number() as usize);
 }
 
 // The number of a call: 0 where it is done.
-pub fn told(outcome: Result<(), Cause>) {
+pub(crate) fn told(outcome: Result<(), Cause>) {
     match outcome {
         Ok(()) => number(0),
         Err(cause) => refused(cause),
@@ -62,18 +62,18 @@ pub fn list<T: Copy + Into<i64>>(name: &[u8], entries: &[T]) {
 }
 
 // The first `n` of a list's entries.
-pub fn front<T: Copy + Into<i64>>(name: &[u8], entries: &[T], n: usize) {
+pub(crate) fn front<T: Copy + Into<i64>>(name: &[u8], entries: &[T], n: usize) {
     text(name);
     for entry in entries.iter().take(n) {
         signed((*entry).into());
     }
 }
 
-// Of a list of 65,536 entries, the first four and the last.
-pub fn ends<T: Copy + Into<i64>>(name: &[u8], entries: &[T])
-    requires { length entries.now ≡ 65536 }
-{
-    list(name, &entries[..4]);
-    text(b", at 65535");
-    signed(entries[65535].into());
+// Of a long list the first four entries, and the one at 65,535.
+pub fn ends<T: Copy + Into<i64>>(name: &[u8], entries: &[T]) {
+    front(name, entries, 4);
+    if let Some(last) = entries.get(65535) {
+        text(b", at 65535");
+        signed((*last).into());
+    }
 }

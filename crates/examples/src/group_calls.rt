@@ -2,7 +2,7 @@
 // 20,000, 20,000 and -8,000, and f a cost of -32,768.
 use example_calls::decoder_calls::{each_list, settings};
 use example_calls::fields::Numbers;
-use example_calls::show::{lent, number, placed, refused, text};
+use example_calls::show::{lent, number, placed, text};
 use model::{Cause, DecodeAnswer, Lists};
 
 const CODE: [u8; 15] = *b"LH\0\x03\0\x01LC\x03\0\0\0\x01\0\x02";
@@ -40,7 +40,7 @@ fn answer(decoded: Result<[DecodeAnswer; 8], Cause>) {
                 told(f, *frame);
             }
         }
-        Err(cause) => refused(cause),
+        Err(cause) => number(cause.number() as usize),
     }
 }
 

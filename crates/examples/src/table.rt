@@ -16,9 +16,14 @@ fn one(line: &[u8], example: Example) {
 
 // Each example of a table.
 pub fn each(table: &[u8], example: Example) {
-    for line in table.split(|byte| *byte == b'\n') {
-        if !line.is_empty() {
-            one(line, example);
-        }
+    if table.is_empty() {
+        return;
+    }
+    let lines = match table {
+        [lines @ .., b'\n'] => lines,
+        _ => table,
+    };
+    for line in lines.split(|byte| *byte == b'\n') {
+        one(line, example);
     }
 }

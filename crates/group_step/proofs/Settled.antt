@@ -1,5 +1,5 @@
 -- What becomes of the frames when one of them may have stopped. Assumes nothing.
-use Rattle.integers.proofs.Prelude.{◌≡◌, refl, sym, ap, subst, ◌∙◌, T, Bool, true, false, cond, ◌&&◌, ◌||◌, not, List, [], ◌∷◌, ℕ, suc, ◌+◌, ◌-◌, ◌<◌, arith, dec_lt, eqb, eqb-true, eqb-false, eq-eqb, ne_eqb, ltb, lt-ltb, le-ltb, ℤ}
+use Rattle.integers.proofs.Prelude.{◌≡◌, refl, sym, ap, subst, ◌∙◌, T, Bool, true, false, cond, ◌&&◌, ◌||◌, List, [], ◌∷◌, ℕ, suc, ◌+◌, ◌-◌, ◌<◌, arith, dec_lt, eqb, eqb-true, eqb-false, eq-eqb, ne_eqb, ltb, lt-ltb, le-ltb, ℤ}
 use Rattle.integers.proofs.Prelude.{add-one, leb, le-leb, leb-true, length, get_or, set, take}
 use lib.Seq.{get_or-set_same, get_or-set_other}
 use Rattle.std.proofs.Math.ListN.{get_or-map}

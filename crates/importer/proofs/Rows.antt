@@ -8,6 +8,7 @@ use Rattle.lists.proofs.Entries.{every_at}
 use Rattle.model.specs.Alist.{pieces, listed}
 use Rattle.numbers.specs.declared.Side.{Side}
 use Rattle.numbers.specs.Walked.{none, Small}
+use Rattle.numbers.specs.Sides.{degrees_in, lists_in}
 use Rattle.numbers.proofs.Walk.{next_at, same_at, small_part}
 use Rattle.importer.specs.Rows.{named_in, Sided, lowered, Indexed, bits_at, checks_of}
 
@@ -23,15 +24,15 @@ listed_at (suc count) size (d ∷ ds) l (suc j) h k =
 
 -- ---- a walk: j rows were passed, and these degrees and lists are left
 pub record Walk (side : Side) (j : ℕ) (degrees lists : List ℕ) : Type 0 where
-  pub degrees_left : degrees ≡ drop j side.degrees
-  pub lists_left : lists ≡ drop (j * side.most) side.lists
+  pub degrees_left : degrees ≡ drop j (degrees_in side)
+  pub lists_left : lists ≡ drop (j * side.most) (lists_in side)
 
 module _ {side : Side} (h : Sided side) where
   abbrev ds : List ℕ
-  ds = side.degrees
+  ds = degrees_in side
 
   abbrev l : List ℕ
-  l = side.lists
+  l = lists_in side
 
   pub length_named : length (named_in side) ≡ side.count
   length_named = sym (length-map (named_in side) length) ∙ ap length h.lengths ∙ length-take-le side.count ds h.degrees.long
@@ -39,7 +40,7 @@ module _ {side : Side} (h : Sided side) where
   pub length_checks : length (checks_of side) ≡ side.count
   length_checks = length-map (named_in side) lowered ∙ length_named
 
-  pub walk_start : {degrees lists : List ℕ} → degrees ≡ side.degrees → lists ≡ side.lists → Walk side 0 degrees lists
+  pub walk_start : {degrees lists : List ℕ} → degrees ≡ degrees_in side → lists ≡ lists_in side → Walk side 0 degrees lists
   walk_start d e =
       let z : 0 * side.most ≡ 0 = omega arith in
       record { degrees_left = d; lists_left = rw z e }

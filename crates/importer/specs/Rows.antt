@@ -5,16 +5,17 @@ use Rattle.model.specs.Code.{Code}
 use Rattle.model.specs.Alist.{pieces, listed}
 use Rattle.numbers.specs.declared.Side.{Side}
 use Rattle.numbers.specs.Walked.{Small}
+use Rattle.numbers.specs.Sides.{degrees_in, lists_in}
 
 -- the indices that the lists of a side name
 abbrev pub named_in : Side → List (List ℕ)
-named_in side = listed (take side.count side.degrees) (pieces side.count side.most side.lists)
+named_in side = listed (take side.count (degrees_in side)) (pieces side.count side.most (lists_in side))
 
 -- each list of a side begins with as many indices as its degree says
 pub record Sided (side : Side) : Type 0 where
-  pub degrees : Small side.count side.degrees
-  pub numbers : Small (side.count * side.most) side.lists
-  pub lengths : map length (named_in side) ≡ take side.count side.degrees
+  pub degrees : Small side.count (degrees_in side)
+  pub numbers : Small (side.count * side.most) (lists_in side)
+  pub lengths : map length (named_in side) ≡ take side.count (degrees_in side)
   pub indices : every (every (ltb 0)) (named_in side) ≡ true
 
 -- the bits of a row: its indices count from 1

@@ -81,8 +81,8 @@ fn judge_rows(rows: &Side, bits: usize) -> Result<Counts, Cause>
     ensures { JudgedChecks bits (checks_of rows.now) result }
 {
     let most = usize::from(rows.most);
-    let mut degrees = rows.degrees.again();
-    let mut lists = rows.lists.again();
+    let mut degrees = Numbers::new(rows.degrees);
+    let mut lists = Numbers::new(rows.lists);
     let mut triples = 0usize;
     let mut bytes = 0usize;
     for _ in 0..rows.count {
@@ -131,7 +131,7 @@ fn judge(columns: &Side, rows: &Side) -> Result<Counts, Cause>
     if MOST_TRIPLES < found.triples {
         return Err(Cause::Triples);
     }
-    if !all_named(&columns.degrees, columns.count) {
+    if !all_named(&Numbers::new(columns.degrees), columns.count) {
         return Err(Cause::Uncovered);
     }
     Ok(Counts {
@@ -148,8 +148,8 @@ fn write_code(rows: &Side, bits: usize, out: &mut Writer)
     ensures { Wrote (records_of (code_of_rows bits rows.now)) out.old out.new }
 {
     let most = usize::from(rows.most);
-    let mut degrees = rows.degrees.again();
-    let mut lists = rows.lists.again();
+    let mut degrees = Numbers::new(rows.degrees);
+    let mut lists = Numbers::new(rows.lists);
     records::write_header(bits, usize::from(rows.count), out);
     for _ in 0..rows.count {
         let degree = degrees.known();

@@ -5,12 +5,13 @@ ghost use Rattle.std.specs.Prelude.{◌≡◌, ◌↔◌, [], ◌∷◌, false, 
 ghost use Rattle.model.specs.Limits.{most_number};
 ghost use Rattle.model.specs.Alist.{separator, further, numbers_of, largest};
 ghost use Rattle.numbers.specs.Walked.{none, Small, Skipped, Ended, Filled};
+ghost use Rattle.numbers.specs.Sides.{numbered};
 
 use model::MOST_NUMBER;
 use std::marker::Model;
 
 // The numbers that are left of a text. Callers see their list, in which 65,536 stands for what is no number of a text.
-#[derive(Drop)]
+#[derive(Clone, Drop)]
 pub struct Numbers<'a> {
     text: &'a [u8],
 }
@@ -24,13 +25,13 @@ impl<'a> Model for Numbers<'a> {
     ghost view = { λ a. numbers_of 0 a.text.now };
 }
 
-// The columns or the rows of a text: how many there are, the largest degree, and the numbers from their degrees and from their lists on.
-#[derive(Drop)]
+// The columns or the rows of a text: how many there are, the largest degree, and the text from their degrees and from their lists on.
+#[derive(Clone, Copy)]
 pub struct Side<'a> {
     pub count: u16,
     pub most: u16,
-    pub degrees: Numbers<'a>,
-    pub lists: Numbers<'a>,
+    pub degrees: &'a [u8],
+    pub lists: &'a [u8],
 }
 
 fn separates(b: u8) -> bool
@@ -112,7 +113,19 @@ fn fill(text: &[u8], values: &mut [u16]) -> usize
     i
 }
 
-impl Side<'_> {
+impl<'a> Side<'a> {
+    // A side of so many columns or rows, whose degrees and lists are next.
+    pub fn new(count: u16, most: u16, degrees: &Numbers<'a>, lists: &Numbers<'a>) -> Side<'a>
+        ensures { numbered result ≡ record { count = count; most = most; degrees = degrees.now; lists = lists.now } }
+    {
+        Side {
+            count,
+            most,
+            degrees: degrees.text,
+            lists: lists.text,
+        }
+    }
+
     // How many numbers its lists have.
     pub fn size(&self) -> usize
         ensures { result ≡ self.now.count * self.now.most }
@@ -158,6 +171,7 @@ impl<'a> Numbers<'a> {
     {
         let text = skip(self.text);
         if text.is_empty() {
+            self.text = text;
             return None;
         }
         let (value, rest) = finish(text);

@@ -4,12 +4,13 @@ use Rattle.model.specs.Limits.{most_number}
 use Rattle.model.specs.Alist.{pieces}
 use Rattle.numbers.specs.declared.Side.{Side}
 use Rattle.numbers.specs.Walked.{Small}
+use Rattle.numbers.specs.Sides.{lists_in}
 
 -- they are there, with what fills them, and each number is one of a text
 pub record Held (side : Side) : Type 0 where
-  pub numbers : Small (side.count * side.most) side.lists
+  pub numbers : Small (side.count * side.most) (lists_in side)
   pub count : side.count ≤ most_number
   pub most : side.most ≤ most_number
 
 abbrev pub lists_of : Side → List (List ℕ)
-lists_of side = pieces side.count side.most side.lists
+lists_of side = pieces side.count side.most (lists_in side)

@@ -7,6 +7,7 @@ ghost use Rattle.lists.specs.Entries.{sum};
 ghost use Rattle.model.specs.Limits.{most_number};
 ghost use Rattle.model.specs.Alist.{largest, agree};
 ghost use Rattle.numbers.specs.Walked.{Small};
+ghost use Rattle.numbers.specs.Sides.{lists_in};
 ghost use Rattle.places.specs.Held.{Held, lists_of};
 ghost use Rattle.places.specs.Counters.{most_counters, Agrees, Tells, in_rows, in_columns, More, Above, Zeros, Room, Inside, Block};
 
@@ -162,12 +163,12 @@ fn band(
     requires window_fits { (top + height ≤ most_number) × (1 ≤ wide) × (height * wide ≤ most_counters) }
     requires counters_zero { (length counters.old ≡ most_counters) × Zeros counters.old }
     ensures tells { Tells result (Agrees (record { top = top; height = height; left = 0; width = columns.now.count }) most rows.now
-        columns.now.most columns.now.lists) }
+        columns.now.most (lists_in columns.now)) }
     ensures zeros { result ≡ true → Zeros counters.new }
 {
     let all = usize::from(columns.count);
     let column_most = usize::from(columns.most);
-    let mut lists = columns.lists.again();
+    let mut lists = Numbers::new(columns.lists);
     for left in (0..all).step_by(wide) {
         let width = wide.min(all - left);
         let window = Window {
@@ -210,13 +211,13 @@ fn window_width(rows: usize, columns: usize) -> usize
 fn windows_agree(columns: &Side, rows: &Side, wide: usize) -> bool
     requires { Held columns.now × Held rows.now × (1 ≤ wide) × (wide ≤ most_counters) }
     ensures { Tells result (Agrees (record { top = 0; height = rows.now.count; left = 0; width = columns.now.count })
-        rows.now.most rows.now.lists columns.now.most columns.now.lists) }
+        rows.now.most (lists_in rows.now) columns.now.most (lists_in columns.now)) }
 {
     let mut counters = [0u16; COUNTERS];
     let high = COUNTERS / wide;
     let count = usize::from(rows.count);
     let most = usize::from(rows.most);
-    let mut lists = rows.lists.again();
+    let mut lists = Numbers::new(rows.lists);
     for top in (0..count).step_by(high) {
         let height = high.min(count - top);
         if !band(&lists, most, columns, top, height, wide, &mut counters) {
@@ -230,11 +231,11 @@ fn windows_agree(columns: &Side, rows: &Side, wide: usize) -> bool
 // The largest index that a side names, and how many bytes its lists take.
 fn measured(side: &Side) -> (u16, usize)
     requires { Held side.now }
-    ensures { result.0 ≡ largest (take (side.now.count * side.now.most) side.now.lists) }
+    ensures { result.0 ≡ largest (take (side.now.count * side.now.most) (lists_in side.now)) }
 {
-    let mut lists = side.lists.again();
+    let mut lists = Numbers::new(side.lists);
     let largest = lists.largest(side.size()).unwrap();
-    (largest, side.lists.bytes().saturating_sub(lists.bytes()))
+    (largest, side.lists.len().saturating_sub(lists.bytes()))
 }
 
 // Whether columns and rows name the same places, each equally often.

@@ -1,4 +1,4 @@
-use Rattle.integers.proofs.Prelude.{◌∷◌, ◌++◌, ap, arith, length, drop}
+use Rattle.integers.proofs.Prelude.{◌∷◌, arith}
 use Rattle.triples.proofs.Left.{check_sound, next_most, auxiliaries_below}
 use Rattle.codeword.proofs.Extending.{Extended, word_copied, all_made, length_now, check_made}
 use Rattle.codeword.proofs.write_point.Goals as goal
@@ -7,7 +7,7 @@ use Rattle.codeword.proofs.write_point.Goals.{In-Some}
 pub loop-check-init : goal.loop-check-init
 loop-check-init c =
     rw (c.into_iter-check-iterator.ensures.into_iter_gives, c.checks-check-items.ensures.value)
-    (word_copied _ c.checks-check-items.ensures.sound _ _ c.requires.room c.requires.word _ (ap (λ l. l ++ drop (length c.args.word.now) c.args.point.now) c.copy_from_slice.ensures.after))
+    (word_copied _ c.checks-check-items.ensures.sound _ _ c.requires.room c.requires.word _ c.copy.ensures)
 
 -- the check at hand is the first of those that are left
 at_hand : (c : In-Some) → Extended c.args.code.now c.args.word.now c.args.point.now (c.in-Some.check ∷ c.next.new.self) c.loop-check.next c.loop-check.point

@@ -1,5 +1,5 @@
 -- The causes in their order, and the sizes of a code that has none.
-use Rattle.integers.proofs.Prelude.{◌≡◌, sym, ap, ◌∙◌, false, ℕ, ◌≤◌, arith, ltb, length}
+use Rattle.integers.proofs.Prelude.{◌≡◌, sym, ap, ◌∙◌, false, List, ℕ, ◌≤◌, arith, ltb, length, take}
 use Rattle.std.proofs.lemmas.Result.{err_from_is_err_and}
 use Rattle.lists.specs.Entries.{every}
 use Rattle.model.specs.Limits.{most_bits, most_checks}
@@ -71,7 +71,7 @@ covered_is c =
     let same = (agreement (named_in cs) (named_in rs)).0 c.requires.same_places in
     ap (λ (n : ℕ). covered (code_of_rows n rs)) (sym (length_named c.requires.sided.0))
     ∙ covered_named (named_in cs) (named_in rs) c.requires.sided.0.indices c.requires.sided.1.indices same
-    ∙ ap (every (ltb 0)) c.requires.sided.0.lengths ∙ sym c.all_named.ensures
+    ∙ ap (every (ltb 0)) c.requires.sided.0.lengths ∙ ap (λ (l : List ℕ). every (ltb 0) (take cs.count l)) (sym c.new.ensures) ∙ sym c.all_named.ensures
 
 pub returns-then-not-all_named : goal.returns-then-not-all_named
 returns-then-not-all_named c =

@@ -8,7 +8,7 @@ use Rattle.importer.proofs.judge_rows.Goals as goal
 use Rattle.importer.proofs.judge_rows.Goals.{After-known-degree}
 
 pub loop-init : goal.loop-init
-loop-init c = (walk_start c.requires.sided c.again-degrees.ensures c.again-lists.ensures, passed_start _ _)
+loop-init c = (walk_start c.requires.sided c.new-degrees.ensures c.new-lists.ensures, passed_start _ _)
 
 pub known-degree-requires : goal.known-degree-requires
 known-degree-requires c = walk_known c.requires.sided c.loop.counter c.loop-test.true c.loop.invariant.0

@@ -32,7 +32,7 @@ write_header-requires-clause-room c = omega (arith, c.requires.room)
 
 pub loop-init : goal.loop-init
 loop-init c =
-    (walk_start c.requires.sided c.again-degrees.ensures c.again-lists.ensures, begun (checks_of c.args.rows.now) (rw c.from.ensures at c.write_header.ensures))
+    (walk_start c.requires.sided c.new-degrees.ensures c.new-lists.ensures, begun (checks_of c.args.rows.now) (rw c.from.ensures at c.write_header.ensures))
 
 pub known-degree-requires : goal.known-degree-requires
 known-degree-requires c = walk_known c.requires.sided c.loop.counter c.loop-test.true c.loop.invariant.0

@@ -2,6 +2,7 @@
 use Rattle.integers.proofs.Prelude.{◌≡◌, refl, sym, ap, true, ◌∙◌, List, ℕ, ◌+◌, ◌*◌, ◌≤◌, arith, min, length, take, drop, length-take-le}
 use lib.Seq.{length_front}
 use native.Mathlib.Nat.{mul-le-mul_left, mul-le-mul_right}
+use Rattle.numbers.specs.Sides.{lists_in}
 use Rattle.numbers.proofs.Walk.{small_part}
 use Rattle.places.specs.declared.Window.{Window}
 use Rattle.places.specs.Counters.{Agrees, Tells}
@@ -38,7 +39,7 @@ module _ (x : After-rows_up-count) where
 
   -- the numbers of all columns, and those of the window's
   abbrev columns : List ℕ
-  columns = x.args.columns.now.lists
+  columns = lists_in x.args.columns.now
 
   stand : x.loop-left.lists ≡ drop (left * most) columns
   stand = rw at_left at x.loop-left.invariant.1

@@ -2,6 +2,7 @@
 use Rattle.integers.proofs.Prelude.{◌≡◌, refl, sym, ap, subst, ◌∙◌, true, List, ℕ, ◌+◌, ◌*◌, ◌/◌, ◌≤◌, arith, min, drop}
 use native.Mathlib.Nat.{mul-le-mul_right, div-mul-le_self, le-div_iff_mul-le}
 use Rattle.numbers.specs.Walked.{Small}
+use Rattle.numbers.specs.Sides.{lists_in}
 use Rattle.numbers.proofs.Walk.{small_part}
 use Rattle.places.specs.Counters.{most_counters, Agrees, Tells}
 use Rattle.places.proofs.Counters.{zeros_at}
@@ -15,7 +16,7 @@ loop-top-init c =
     let e : 0 ≡ 0 * c.from-most.result = omega arith in
     rw none (
       λ r c i j. absurd (omega arith),
-      c.again-lists.ensures ∙ ap (λ (n : ℕ). drop n c.args.rows.now.lists) e,
+      c.new-lists.ensures ∙ ap (λ (n : ℕ). drop n (lists_in c.args.rows.now)) e,
       refl,
       zeros_at most_counters,
     )
@@ -47,7 +48,7 @@ module _ (x : After-min-height) where
 
   -- the numbers of all rows, and those of the band
   abbrev rows : List ℕ
-  rows = x.args.rows.now.lists
+  rows = lists_in x.args.rows.now
 
   stand : x.loop-top.lists ≡ drop (top * most) rows
   stand = rw at_top at x.loop-top.invariant.1
@@ -73,14 +74,14 @@ module _ (b : After-band) where
 
   tells : Tells b.band.result
       (Agrees (record { top = top last; height = height last; left = 0; width = b.args.columns.now.count }) (most last) (drop (top last * most last) (rows last))
-      b.args.columns.now.most b.args.columns.now.lists)
+      b.args.columns.now.most (lists_in b.args.columns.now))
   tells = rw (stand last) at b.band.ensures.tells
 
   one_more : b.band.result ≡ true
-      → Agrees (record { top = 0; height = top last + height last; left = 0; width = b.args.columns.now.count }) (most last) (rows last) b.args.columns.now.most b.args.columns.now.lists
+      → Agrees (record { top = 0; height = top last + height last; left = 0; width = b.args.columns.now.count }) (most last) (rows last) b.args.columns.now.most (lists_in b.args.columns.now)
   one_more fine =
       let so_far = (rw (at_top last) at b.loop-top.invariant.0) in
-      higher (most last) (rows last) b.args.columns.now.most b.args.columns.now.lists (top last) (height last) b.args.columns.now.count so_far (tells.so fine)
+      higher (most last) (rows last) b.args.columns.now.most (lists_in b.args.columns.now) (top last) (height last) b.args.columns.now.count so_far (tells.so fine)
 
 pub returns-then-not-band : goal.returns-then-not-band
 returns-then-not-band c =
@@ -90,7 +91,7 @@ returns-then-not-band c =
     (record {
       so = λ e. let z : ◌≡◌ {A = ℕ} 0 1 = cc in absurd (omega arith);
       not_so = λ _ a. (tells b).not_so c.if-not-band.true
-          (high_part (most x) (rows x) c.args.columns.now.most c.args.columns.now.lists (top x) (height x) (count x) c.args.columns.now.count (sized x).2 a);
+          (high_part (most x) (rows x) c.args.columns.now.most (lists_in c.args.columns.now) (top x) (height x) (count x) c.args.columns.now.count (sized x).2 a);
     })
 
 pub loop-top-preserved : goal.loop-top-preserved
