@@ -205,6 +205,9 @@ impl<'a> Numbers<'a> {
         ensures { self.new ≡ drop count self.old }
     {
         for _ in 0..count {
+            if self.text.is_empty() {
+                return;
+            }
             let _ = self.number();
         }
     }
